@@ -1,0 +1,19 @@
+// The codings of the ADV7194's fields that hold one number and are not plain, setting to code and back.
+mod brightness;
+mod clamp_delay;
+mod hue;
+mod sharpness;
+mod thousandths;
+
+pub use brightness::brightness_code;
+pub use brightness::brightness_setting;
+pub use clamp_delay::clamp_delay_code;
+pub use clamp_delay::clamp_delay_setting;
+pub use hue::hue_code;
+pub use hue::hue_setting;
+pub use sharpness::sharpness_code;
+pub use sharpness::sharpness_setting;
+pub use thousandths::contrast_code;
+pub use thousandths::contrast_setting;
+pub use thousandths::scale_code;
+pub use thousandths::scale_setting;

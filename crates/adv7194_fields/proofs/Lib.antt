@@ -1,0 +1,4 @@
+pub mod Judging
+pub mod Decoding
+pub mod Signed
+pub mod PlainFormats

@@ -1,0 +1,3 @@
+pub mod Powers
+pub mod Nearest
+pub mod Answers

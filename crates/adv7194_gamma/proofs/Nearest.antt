@@ -1,0 +1,79 @@
+-- What the search for a nearest number finds, and that it does not fall from one place to a later one. Assumes nothing.
+use mathlib.Core.Path.{_≡_, sym, _∙_, subst}
+use mathlib.Core.Bool.{Bool, true, false, _&&_, true≢false}
+use mathlib.Core.Logic.{⊎-elim}
+use Prim.Native.Nat.{ℕ, suc, _+_, _-_, _*_, _^_, _≤_, _<_}
+use native.Mathlib.Nat.{mul-le-mul-left, mul-lt-mul-of-pos-right, pow-le-pow-left, pow-lt-pow-left, lt-of-le-of-lt, lt-of-not-le, le-antisymm, one-le-pow}
+use native.Mathlib.Omega.{arith}
+use lib.Arith.{lt-of-le-ne}
+use lib.Dec.{T, leb, leb→le, lit<}
+use borrow.Author.Tests.{ltb-true, ltb-false, lt-ltb}
+use Rattle.rounding.proofs.First.{first-found}
+use Rattle.rounding.proofs.Range.{both-l, both-r}
+use Rattle.adv7194_gamma.specs.Power.{belowHalf, nearestPower, NearestPower, Ratio}
+use Rattle.adv7194_gamma.specs.Curve.{byteAt}
+
+-- a test that both passes and fails
+clash : {X : Type 0} {b : Bool} → b ≡ true → b ≡ false → X
+clash t f = absurd (true≢false (sym t ∙ f))
+
+-- a candidate that passes at a place passes at each earlier one
+earlier : (x z p q j : ℕ) → x ≤ z → belowHalf z p q j ≡ true → belowHalf x p q j ≡ true
+unfolding belowHalf
+earlier x z p q j h t = lt-ltb _ _ (lt-of-le-of-lt (mul-le-mul-left (448 ^ q) (pow-le-pow-left h p)) (ltb-true _ _ t))
+
+-- the last candidate passes
+last : (x p q : ℕ) → x ≤ 224 → 0 < q → belowHalf x p q 224 ≡ true
+unfolding belowHalf
+last x p q h hq =
+    earlier x 224 p q 224 h
+    (lt-ltb _ _ (mul-lt-mul-of-pos-right (pow-lt-pow-left {a = 448} {b = 449} (lit< tt) (λ e. absurd (omega arith))) (one-le-pow p 224 (lit< tt))))
+
+-- nothing below what the search finds passes
+least : (x p q j : ℕ) → j < nearestPower x p q → belowHalf x p q j ≡ false
+unfolding nearestPower
+least x p q j h = first-found (belowHalf x p q) 224 .least j (omega arith) h
+
+module _ (x p q : ℕ) (hx : x ≤ 224) (hq : 0 < q) where
+  passes : belowHalf x p q (nearestPower x p q) ≡ true
+  unfolding nearestPower
+  passes = ⊎-elim (λ e. rw e (last x p q hx hq)) (λ t. t) (first-found (belowHalf x p q) 224 .passes)
+
+  at-most : (j : ℕ) → belowHalf x p q j ≡ true → nearestPower x p q ≤ j
+  at-most j t =
+      let below : nearestPower x p q < suc j = lt-of-not-le (λ (h : suc j ≤ nearestPower x p q). clash t (least x p q j h)) in
+      omega arith
+
+  pub bounded : nearestPower x p q ≤ 224
+  bounded = at-most 224 (last x p q hx hq)
+
+  -- the search ends where the test passes, and goes on where it fails
+  pub ends : (j : ℕ) → j ≤ nearestPower x p q → belowHalf x p q j ≡ true → j ≡ nearestPower x p q
+  ends j h t = le-antisymm h (at-most j t)
+
+  pub goes-on : (j : ℕ) → j ≤ nearestPower x p q → belowHalf x p q j ≡ false → j < nearestPower x p q
+  goes-on j h f = lt-of-le-ne h (λ e. clash (rw e passes) f)
+
+  pub nearest-power : NearestPower x p q (nearestPower x p q)
+  unfolding belowHalf
+  nearest-power =
+      let r = nearestPower x p q in
+      record {
+        under = ltb-true _ _ passes;
+        over = λ h.
+            let e : 2 * (r - 1) + 1 ≡ 2 * r - 1 = omega arith in
+            let k : r - 1 < r = omega arith in
+            subst (λ (n : ℕ). n ^ q * 224 ^ p ≤ 448 ^ q * x ^ p) e (ltb-false _ _ (least x p q (r - 1) k));
+      }
+
+-- the nearest number does not fall
+pub rising : (x z p q : ℕ) → x ≤ z → z ≤ 224 → 0 < q → nearestPower x p q ≤ nearestPower z p q
+rising x z p q h hz hq = at-most x p q (omega arith) hq _ (earlier x z p q _ h (passes z p q hz hq))
+
+-- what a search at a later place asks of the byte found at an earlier one
+pub next : (n m p q b : ℕ) → T (leb 16 n && (leb n m && leb m 240)) → Ratio p q → b ≡ byteAt p q n → (16 ≤ m) × (m ≤ 240) × Ratio p q × (16 ≤ b) × (b ≤ byteAt p q m)
+next n m p q b t r e =
+    let base : 16 ≤ n = leb→le 16 n (both-l (leb 16 n) _ t) in
+    let above : n ≤ m = leb→le n m (both-l (leb n m) _ (both-r (leb 16 n) _ t)) in
+    let high : m ≤ 240 = leb→le m 240 (both-r (leb n m) _ (both-r (leb 16 n) _ t)) in
+    (omega arith, high, r, omega arith, omega (arith, rising (n - 16) (m - 16) p q (omega arith) (omega arith) (r .q-low)))

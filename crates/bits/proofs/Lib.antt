@@ -1,0 +1,5 @@
+pub mod DigitLaws
+pub mod StringLaws
+pub mod ByteLaws
+pub mod FieldLaws
+pub mod MapLaws
