@@ -99,17 +99,17 @@ impl Plain {
     pub fn setting(self, code: u8) -> Decoded
         ensures answer { λ r. ⌜ decoded r ≡ decode (formatOf self) code ⌝ }
     {
-        let n = code as u32;
+        let c = code as u32;
         let range = self.range();
-        if range.codes <= n {
+        if range.codes <= c {
             return Decoded::Unreadable(Refusal::OutOfRange);
         }
-        if n < range.low {
+        if c < range.low {
             return Decoded::Unreadable(Refusal::Reserved);
         }
-        if range.high < n {
+        if range.high < c {
             return Decoded::Unreadable(Refusal::Reserved);
         }
-        Decoded::Setting(n as i32)
+        Decoded::Setting(c as i32)
     }
 }

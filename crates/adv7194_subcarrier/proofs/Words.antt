@@ -6,7 +6,7 @@ use native.Mathlib.Nat.{mul-le-mul-right, lt-of-not-le}
 use native.Mathlib.Omega.{arith}
 use lib.Dec.{T, ltb, leb, ltb→lt, leb→le}
 use Rattle.rounding.specs.Nearest.{Nearest}
-use Rattle.rounding.proofs.Rounding.{nearest-only}
+use Rattle.rounding.proofs.Rounding.{nearestb, nearest-by}
 use Rattle.rounding.proofs.Range.{both-l, both-r}
 use Rattle.adv7194_subcarrier.specs.declared.Standard.{Standard}
 use Rattle.adv7194_subcarrier.specs.declared.Standard.the-variants.{Ntsc, Pal}
@@ -56,19 +56,7 @@ sized st square = sized-by (numerator st) (denominator st square) (tested st squ
 pub in-word : (n d k : ℕ) → Sized n d → Nearest n d k → k < 2 ^ 32
 in-word n d k s r = lt-of-not-le (λ (h : 2 ^ 32 ≤ k). omega (arith, mul-le-mul-right d h, r .over, s .word, s .positive))
 
--- whether w is the whole number nearest to n / d
-abbrev pub isNearest : ℕ → ℕ → ℕ → Bool
-isNearest n d w = ltb (2 * n) (2 * (w * d) + d) && leb (2 * (w * d)) (2 * n + d)
-
-nearest-by : (n d w : ℕ) → T (isNearest n d w) → Nearest n d w
-nearest-by n d w t = record {
-  under = ltb→lt (2 * n) (2 * (w * d) + d) (both-l (ltb (2 * n) (2 * (w * d) + d)) _ t);
-  over = leb→le (2 * (w * d)) (2 * n + d) (both-r (ltb (2 * n) (2 * (w * d) + d)) _ t);
-}
-
--- the word of a standard is the number that passes the test
-pub word-is : (st : Standard) (square : Bool) (w : ℕ) → T (isNearest (numerator st) (denominator st square) w) → wordOf st square ≡ w
+-- the word of a standard is the number that passes the test of nearness
+pub word-is : (st : Standard) (square : Bool) (w : ℕ) → T (nearestb (numerator st) (denominator st square) w) → wordOf st square ≡ w
 unfolding wordOf
-word-is st square w t =
-    nearest-only (numerator st) (denominator st square) w (sized st square .positive)
-    (nearest-by (numerator st) (denominator st square) w t)
+word-is st square w t = nearest-by (numerator st) (denominator st square) w (sized st square .positive) t

@@ -1,0 +1,13 @@
+// Runs the codings' cases that are not proved as a table, and writes a line a case. What it writes is held to the stored output.
+mod curves;
+mod numbers;
+mod plain;
+mod print;
+mod signalling;
+
+fn main() {
+    plain::cases();
+    numbers::cases();
+    curves::cases();
+    signalling::cases();
+}

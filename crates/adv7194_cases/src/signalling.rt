@@ -1,0 +1,214 @@
+// CGMS, WSS and off: each end of a range and one past it, every group of the lowest four WSS bits, damaged registers.
+use crate::print;
+use adv7194_signalling::cgms;
+use adv7194_signalling::cgms::CgmsRead;
+use adv7194_signalling::kind;
+use adv7194_signalling::kind::SignallingKind;
+use adv7194_signalling::registers::Coded;
+use adv7194_signalling::registers::Registers;
+use adv7194_signalling::wss;
+use adv7194_signalling::wss::WssRead;
+
+// The registers of a coding, or its refusal, and the end of the line.
+fn registers(answer: Coded) {
+    match answer {
+        Coded::Registers(r) => {
+            print::byte(r.r19);
+            print::byte(r.r1a);
+            print::byte(r.r1b);
+            print::text(b"\n");
+        }
+        Coded::Refused(why) => print::refused(why),
+    }
+}
+
+// A line with a CGMS setting and its registers.
+fn code_cgms(payload: i32, odd: i32, even: i32, chip_check: i32) {
+    print::text(b"cgms");
+    print::setting(payload);
+    print::setting(odd);
+    print::setting(even);
+    print::setting(chip_check);
+    registers(cgms::cgms_code(payload, odd, even, chip_check));
+}
+
+// A line with a WSS number and its registers.
+fn code_wss(number: i32) {
+    print::text(b"wss");
+    print::setting(number);
+    registers(wss::wss_code(number));
+}
+
+// Three registers.
+fn three(r19: u8, r1a: u8, r1b: u8) -> Registers {
+    print::byte(r19);
+    print::byte(r1a);
+    print::byte(r1b);
+    Registers { r19, r1a, r1b }
+}
+
+// A line with three registers and the CGMS setting that they hold.
+fn read_cgms(r19: u8, r1a: u8, r1b: u8) {
+    print::text(b"read cgms");
+    match cgms::cgms_setting(three(r19, r1a, r1b)) {
+        CgmsRead::Setting(s) => {
+            print::setting(s.payload);
+            print::setting(s.odd);
+            print::setting(s.even);
+            print::setting(s.chip_check);
+            print::text(b"\n");
+        }
+        CgmsRead::Refused(why) => print::refused(why),
+    }
+}
+
+// A line with three registers and the WSS number that they hold.
+fn read_wss(r19: u8, r1a: u8, r1b: u8) {
+    print::text(b"read wss");
+    match wss::wss_setting(three(r19, r1a, r1b)) {
+        WssRead::Setting(n) => {
+            print::setting(n);
+            print::text(b"\n");
+        }
+        WssRead::Refused(why) => print::refused(why),
+    }
+}
+
+// A line with register 19 and what it becomes with signalling off.
+fn off(r19: u8) {
+    print::text(b"off");
+    print::byte(r19);
+    print::byte(kind::off_code(r19));
+    print::text(b"\n");
+}
+
+// A line with register 19 and the kind of signalling in it.
+fn kind_of(r19: u8) {
+    print::text(b"kind");
+    print::byte(r19);
+    match kind::kind(r19) {
+        SignallingKind::Off => print::text(b" off\n"),
+        SignallingKind::Cgms => print::text(b" CGMS\n"),
+        SignallingKind::Wss => print::text(b" WSS\n"),
+        SignallingKind::Refused(why) => print::refused(why),
+    }
+}
+
+// The cases of CGMS settings.
+fn cgms_cases() {
+    code_cgms(0, 1, 1, 0);
+    code_cgms(1, 1, 1, 0);
+    code_cgms(2, 1, 1, 0);
+    code_cgms(3, 1, 1, 0);
+    code_cgms(4660, 1, 1, 0);
+    code_cgms(5461, 1, 1, 0);
+    code_cgms(10922, 1, 1, 0);
+    code_cgms(16383, 1, 1, 0);
+    code_cgms(0, 0, 0, 0);
+    code_cgms(0, 1, 0, 0);
+    code_cgms(0, 0, 1, 0);
+    code_cgms(0, 0, 0, 1);
+    code_cgms(4660, 1, 1, 1);
+    code_cgms(-1, 1, 1, 0);
+    code_cgms(16384, 1, 1, 0);
+    code_cgms(0, -1, 1, 0);
+    code_cgms(0, 2, 1, 0);
+    code_cgms(0, 1, -1, 0);
+    code_cgms(0, 1, 2, 0);
+    code_cgms(0, 1, 1, -1);
+    code_cgms(0, 1, 1, 2);
+    code_cgms(-2147483648, 1, 1, 0);
+    code_cgms(2147483647, 1, 1, 0);
+}
+
+// The cases of WSS numbers.
+fn wss_cases() {
+    code_wss(0);
+    code_wss(1);
+    code_wss(2);
+    code_wss(3);
+    code_wss(4);
+    code_wss(5);
+    code_wss(6);
+    code_wss(7);
+    code_wss(8);
+    code_wss(9);
+    code_wss(10);
+    code_wss(11);
+    code_wss(12);
+    code_wss(13);
+    code_wss(14);
+    code_wss(15);
+    code_wss(4660);
+    code_wss(4657);
+    code_wss(16379);
+    code_wss(16382);
+    code_wss(16383);
+    code_wss(-1);
+    code_wss(16384);
+    code_wss(16385);
+    code_wss(-2147483648);
+    code_wss(2147483647);
+}
+
+// The cases of reading both.
+fn read_cases() {
+    read_cgms(0x61, 0x80, 0x00);
+    read_cgms(0x62, 0xD2, 0x34);
+    read_cgms(0x6B, 0x3F, 0xFF);
+    read_cgms(0x21, 0x80, 0x00);
+    read_cgms(0x71, 0x80, 0x00);
+    read_cgms(0x60, 0x80, 0x00);
+    read_cgms(0x61, 0x00, 0x00);
+    read_cgms(0x61, 0xC0, 0x00);
+    read_cgms(0x69, 0x80, 0x00);
+    read_cgms(0x61, 0x80, 0x01);
+    read_cgms(0xE1, 0x80, 0x00);
+    read_cgms(0x70, 0x80, 0x00);
+    read_wss(0x80, 0x00, 0x01);
+    read_wss(0x80, 0x3F, 0xFE);
+    read_wss(0x80, 0x12, 0x31);
+    read_wss(0x80, 0x00, 0x00);
+    read_wss(0x80, 0x00, 0x03);
+    read_wss(0x80, 0x40, 0x01);
+    read_wss(0x80, 0x80, 0x01);
+    read_wss(0x81, 0x00, 0x01);
+    read_wss(0x90, 0x00, 0x01);
+    read_wss(0x00, 0x00, 0x01);
+}
+
+// The cases of register 19 alone.
+fn kind_cases() {
+    off(0x00);
+    off(0x0F);
+    off(0xF0);
+    off(0xFF);
+    off(0x9A);
+    kind_of(0x00);
+    kind_of(0x10);
+    kind_of(0x20);
+    kind_of(0x30);
+    kind_of(0x40);
+    kind_of(0x50);
+    kind_of(0x60);
+    kind_of(0x70);
+    kind_of(0x80);
+    kind_of(0x90);
+    kind_of(0xA0);
+    kind_of(0xB0);
+    kind_of(0xC0);
+    kind_of(0xD0);
+    kind_of(0xE0);
+    kind_of(0xF0);
+    kind_of(0x0F);
+    kind_of(0x1F);
+    kind_of(0x8F);
+}
+
+// All cases of signalling.
+pub fn cases() {
+    cgms_cases();
+    wss_cases();
+    read_cases();
+    kind_cases();
+}

@@ -1,0 +1,10 @@
+pub mod FlagLaws
+pub mod NumberLaws
+pub mod CheckLaws
+pub mod WordLaws
+pub mod CgmsLaws
+pub mod CgmsReadLaws
+pub mod WssLaws
+pub mod HeldLaws
+pub mod KindLaws
+pub mod Cases

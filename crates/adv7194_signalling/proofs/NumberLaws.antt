@@ -1,0 +1,49 @@
+-- Signed settings: what it says of one that it is within 0 to top. Assumes nothing.
+use mathlib.Core.Path.{_≡_, refl, sym, ap, _∙_}
+use mathlib.Core.Bool.{true, false}
+use Prim.Native.Nat.{ℕ, suc, _%_, _^_, _≤_, _<_}
+use native.Mathlib.Nat.{mod-lt, zero-lt-suc, le-of-suc-le-suc}
+use native.Mathlib.Omega.{arith}
+use lib.Dec.{T, leb}
+use lib.IntN.{ℤ, pos, negsuc, natAbs}
+use lib.Signed.{ltZ, nonNeg, pos-natAbs}
+use mir.Syntax.{w32}
+use mir.Val.{Fits, SFits}
+use borrow.Author.Tests.{ltb-true, leb-true, le-leb}
+use Rattle.adv7194_signalling.specs.Numbers.{within}
+
+-- a negative number is outside
+pub negative-outside : (top : ℕ) (z : ℤ) → ltZ z (pos 0) ≡ true → false ≡ within top z
+negative-outside top (pos n) h = absurd (omega (arith, ltb-true n 0 h))
+negative-outside top (negsuc n) h = refl
+
+-- of one that is not, the number is tested
+pub number-within : (top : ℕ) (z : ℤ) → ltZ z (pos 0) ≡ false → leb (natAbs z) top ≡ within top z
+number-within top (pos n) h = refl
+number-within top (negsuc n) h = let z : _≡_ {A = ℕ} 0 1 = cc in absurd (omega arith)
+
+-- a signed number that is not negative can be cast to an unsigned one
+pub castable : (z : ℤ) → SFits w32 z → ltZ z (pos 0) ≡ false → T (nonNeg z) × Fits w32 (natAbs z)
+castable (pos n) fits h = (tt, record { fits = omega (arith, fits .sfits) })
+castable (negsuc n) fits h = let z : _≡_ {A = ℕ} 0 1 = cc in absurd (omega arith)
+
+-- a number within 0 to top
+pub record Within (top : ℕ) (z : ℤ) : Type 0 where
+  pub sign : T (nonNeg z)
+  pub most : natAbs z ≤ top
+
+pub is-within : (top : ℕ) (z : ℤ) → within top z ≡ true → Within top z
+is-within top (pos n) h = record { sign = tt; most = leb-true n top h }
+is-within top (negsuc n) h = let z : _≡_ {A = ℕ} 0 1 = cc in absurd (omega arith)
+
+-- and it can be cast
+pub within-castable : {top : ℕ} {z : ℤ} → Within top z → top < 2 ^ 32 → T (nonNeg z) × Fits w32 (natAbs z)
+within-castable w l = (w .sign, record { fits = omega (arith, w .most) })
+
+-- and is the only one of its magnitude
+pub within-only : {top : ℕ} {y z : ℤ} → Within top y → Within top z → natAbs y ≡ natAbs z → y ≡ z
+within-only {y = y} {z = z} v w e = sym (pos-natAbs y (v .sign)) ∙ ap pos e ∙ pos-natAbs z (w .sign)
+
+-- a remainder is within its divisor
+pub rest-within : (n top : ℕ) → within top (pos (n % suc top)) ≡ true
+rest-within n top = le-leb (n % suc top) top (le-of-suc-le-suc (mod-lt n (zero-lt-suc top)))

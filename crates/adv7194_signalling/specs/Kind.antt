@@ -1,0 +1,42 @@
+-- Document 01, fields and refusals of field 11: the kind of signalling that register 19 holds. Bits 5 and 6 send CGMS in odd and even fields,
+-- bit 7 sends WSS; both at once are refused 7; bit 4 with bits 5-7 clear is refused 4; off is bits 7-4 zero.
+use mathlib.Core.Bool.{Bool, true, false, _||_}
+use Prim.Native.Nat.{ℕ}
+use lib.Dec.{eqb}
+use Rattle.bits.specs.Fields.{bit, withField}
+use Rattle.refusals.specs.Refusal.{Judged, accepted, refused, numberOf}
+use Rattle.adv7194_signalling.specs.declared.kind.SignallingKind.{SignallingKind}
+use Rattle.adv7194_signalling.specs.declared.kind.SignallingKind.the-variants as kind
+
+-- off: bits 7-4 of 19 zero, the remainder as found
+abbrev pub offOf : ℕ → ℕ
+offOf r19 = withField 4 4 r19 0
+
+-- the kinds of signalling
+pub data Signalling : Type 0 where
+  off : Signalling
+  cgms : Signalling
+  wss : Signalling
+
+-- the kind, by whether bit 7, one of bits 6 and 5, and bit 4 stand
+abbrev pub kindBy : Bool → Bool → Bool → Judged Signalling
+kindBy false false false = accepted off
+kindBy false false true = refused 4
+kindBy false true chip = accepted cgms
+kindBy true false chip = accepted wss
+kindBy true true chip = refused 7
+
+-- whether bit i of a register stands
+abbrev pub stands : ℕ → ℕ → Bool
+stands i r = eqb (bit i r) 1
+
+-- the kind that register 19 holds
+unfoldable pub kindOf : ℕ → Judged Signalling
+kindOf r19 = kindBy (stands 7 r19) (stands 6 r19 || stands 5 r19) (stands 4 r19)
+
+-- what the reader of the kind answers
+abbrev pub kindAs : SignallingKind → Judged Signalling
+kindAs kind.Off = accepted off
+kindAs kind.Cgms = accepted cgms
+kindAs kind.Wss = accepted wss
+kindAs (kind.Refused why) = refused (numberOf why)

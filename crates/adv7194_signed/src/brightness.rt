@@ -1,0 +1,72 @@
+// Field 16, brightness: -75 to 150 tenths of an IRE, cut toward zero to a number of seven bits, two's complement.
+ghost use mathlib.Core.Path.{_≡_};
+ghost use Prim.Native.Nat.{_+_, _-_, _*_, _/_, _≤_};
+ghost use Rattle.adv7194_fields.specs.Answers.{coded, decoded};
+ghost use Rattle.adv7194_fields.specs.Coding.{encode, decode};
+ghost use Rattle.adv7194_fields.specs.Fields.{brightness};
+use adv7194_fields::Coded;
+use adv7194_fields::Decoded;
+use adv7194_fields::range::outside;
+use refusals::Refusal;
+
+const LOWEST: i32 = -75;
+
+const HIGHEST: i32 = 150;
+// A step of the code is a tenth of an IRE times NUMERATOR / DENOMINATOR.
+const NUMERATOR: i32 = 2015631;
+
+const DENOMINATOR: i32 = 10000000;
+// How many codes seven bits have.
+const CODES: u8 = 128;
+
+const HIGHEST_POSITIVE: u8 = 0x1E;
+
+const LOWEST_NEGATIVE: u8 = 0x71;
+
+const HIGHEST_CODE: u8 = 0x7F;
+
+// The code of a negative level, by its magnitude: two's complement of seven bits.
+fn complement(magnitude: u8) -> u8
+    requires { ⌜ magnitude ≤ 64 ⌝ }
+    ensures answer { λ r. ⌜ r ≡ 128 - magnitude ⌝ }
+{
+    CODES - magnitude
+}
+
+// The code of a brightness.
+pub fn brightness_code(tenths: i32) -> Coded
+    ensures answer { λ r. ⌜ coded r ≡ encode brightness tenths ⌝ }
+{
+    if outside(tenths, LOWEST, HIGHEST) {
+        return Coded::Refused(Refusal::OutOfRange);
+    }
+    let level = tenths * NUMERATOR / DENOMINATOR;
+    if level < 0 {
+        return Coded::Code(complement((-level) as u8));
+    }
+    Coded::Code(level as u8)
+}
+
+// The least magnitude that is cut to a level.
+fn least_tenths(level: u32) -> u32
+    requires { ⌜ level ≤ 30 ⌝ }
+    ensures answer { λ r. ⌜ r ≡ (level * 10000000 + 2015630) / 2015631 ⌝ }
+{
+    (level * DENOMINATOR as u32 + (NUMERATOR as u32 - 1)) / NUMERATOR as u32
+}
+
+// The brightness of a code.
+pub fn brightness_setting(code: u8) -> Decoded
+    ensures answer { λ r. ⌜ decoded r ≡ decode brightness code ⌝ }
+{
+    if HIGHEST_CODE < code {
+        return Decoded::Unreadable(Refusal::OutOfRange);
+    }
+    if code <= HIGHEST_POSITIVE {
+        return Decoded::Setting(least_tenths(code as u32) as i32);
+    }
+    if code < LOWEST_NEGATIVE {
+        return Decoded::Unreadable(Refusal::OutOfRange);
+    }
+    Decoded::Setting(-(least_tenths((CODES - code) as u32) as i32))
+}
