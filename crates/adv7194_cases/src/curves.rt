@@ -55,10 +55,13 @@ fn curve_cases() {
 }
 
 // All cases of curves and words.
-pub fn cases() {
+pub(crate) fn cases() {
     curve_cases();
     word(b"NTSC", adv7194_subcarrier::word(Standard::Ntsc, false));
-    word(b"NTSC square", adv7194_subcarrier::word(Standard::Ntsc, true));
+    word(
+        b"NTSC square",
+        adv7194_subcarrier::word(Standard::Ntsc, true),
+    );
     word(b"PAL", adv7194_subcarrier::word(Standard::Pal, false));
     word(b"PAL square", adv7194_subcarrier::word(Standard::Pal, true));
 }

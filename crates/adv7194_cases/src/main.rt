@@ -1,13 +1,12 @@
 // Runs the codings' cases that are not proved as a table, and writes a line a case. What it writes is held to the stored output.
 mod curves;
-mod numbers;
-mod plain;
+mod fields;
+mod lines;
 mod print;
 mod signalling;
 
 fn main() {
-    plain::cases();
-    numbers::cases();
+    fields::cases();
     curves::cases();
     signalling::cases();
 }

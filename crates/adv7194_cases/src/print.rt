@@ -7,7 +7,7 @@ use libc::STDOUT_FILENO;
 use refusals::Refusal;
 
 // Text as it stands.
-pub fn text(words: &[u8]) {
+pub(crate) fn text(words: &[u8]) {
     io::write_all(STDOUT_FILENO, words);
 }
 
@@ -23,7 +23,7 @@ fn magnitude(n: i32) -> u64
 }
 
 // A space, and a signed number in decimal.
-pub fn setting(n: i32) {
+pub(crate) fn setting(n: i32) {
     text(b" ");
     if n < 0 {
         text(b"-");
@@ -34,24 +34,28 @@ pub fn setting(n: i32) {
 // The capital hexadecimal digit of a number below 16.
 fn digit(n: u8) -> u8 {
     let low = n % 16;
-    if low < 10 { b'0' + low } else { b'A' + (low - 10) }
+    if low < 10 {
+        b'0' + low
+    } else {
+        b'A' + (low - 10)
+    }
 }
 
 // A space, and a byte in two hexadecimal digits.
-pub fn byte(b: u8) {
+pub(crate) fn byte(b: u8) {
     let digits = [b' ', digit(b / 16), digit(b)];
     io::write_all(STDOUT_FILENO, &digits);
 }
 
 // A refusal by its number, and the end of the line.
-pub fn refused(why: Refusal) {
+pub(crate) fn refused(why: Refusal) {
     text(b" REFUSED ");
     io::print_decimal(STDOUT_FILENO, why.number() as u64);
     text(b"\n");
 }
 
 // A line with a field's setting and its code.
-pub fn code(name: &[u8], n: i32, answer: Coded) {
+pub(crate) fn code(name: &[u8], n: i32, answer: Coded) {
     text(name);
     setting(n);
     match answer {
@@ -64,7 +68,7 @@ pub fn code(name: &[u8], n: i32, answer: Coded) {
 }
 
 // A line with a field's code and the setting that it is read as.
-pub fn read(name: &[u8], c: u8, answer: Decoded) {
+pub(crate) fn read(name: &[u8], c: u8, answer: Decoded) {
     text(b"read ");
     text(name);
     byte(c);

@@ -1,4 +1,7 @@
 // CGMS, WSS and off: each end of a range and one past it, every group of the lowest four WSS bits, damaged registers.
+use crate::lines::Case;
+use crate::lines::codes;
+use crate::lines::settings;
 use crate::print;
 use adv7194_signalling::cgms;
 use adv7194_signalling::cgms::CgmsRead;
@@ -23,7 +26,7 @@ fn registers(answer: Coded) {
 }
 
 // A line with a CGMS setting and its registers.
-fn code_cgms(payload: i32, odd: i32, even: i32, chip_check: i32) {
+pub(crate) fn code_cgms(payload: i32, odd: i32, even: i32, chip_check: i32) {
     print::text(b"cgms");
     print::setting(payload);
     print::setting(odd);
@@ -33,7 +36,7 @@ fn code_cgms(payload: i32, odd: i32, even: i32, chip_check: i32) {
 }
 
 // A line with a WSS number and its registers.
-fn code_wss(number: i32) {
+pub(crate) fn code_wss(number: i32) {
     print::text(b"wss");
     print::setting(number);
     registers(wss::wss_code(number));
@@ -75,7 +78,7 @@ fn read_wss(r19: u8, r1a: u8, r1b: u8) {
 }
 
 // A line with register 19 and what it becomes with signalling off.
-fn off(r19: u8) {
+pub(crate) fn off(r19: u8) {
     print::text(b"off");
     print::byte(r19);
     print::byte(kind::off_code(r19));
@@ -83,7 +86,7 @@ fn off(r19: u8) {
 }
 
 // A line with register 19 and the kind of signalling in it.
-fn kind_of(r19: u8) {
+pub(crate) fn kind_of(r19: u8) {
     print::text(b"kind");
     print::byte(r19);
     match kind::kind(r19) {
@@ -96,63 +99,63 @@ fn kind_of(r19: u8) {
 
 // The cases of CGMS settings.
 fn cgms_cases() {
-    code_cgms(0, 1, 1, 0);
-    code_cgms(1, 1, 1, 0);
-    code_cgms(2, 1, 1, 0);
-    code_cgms(3, 1, 1, 0);
-    code_cgms(4660, 1, 1, 0);
-    code_cgms(5461, 1, 1, 0);
-    code_cgms(10922, 1, 1, 0);
-    code_cgms(16383, 1, 1, 0);
+    settings(
+        Case::CgmsPayload,
+        b"cgms",
+        &[
+            0,
+            1,
+            2,
+            3,
+            4660,
+            5461,
+            10922,
+            16383,
+            -1,
+            16384,
+            -2147483648,
+            2147483647,
+        ],
+    );
     code_cgms(0, 0, 0, 0);
     code_cgms(0, 1, 0, 0);
     code_cgms(0, 0, 1, 0);
     code_cgms(0, 0, 0, 1);
     code_cgms(4660, 1, 1, 1);
-    code_cgms(-1, 1, 1, 0);
-    code_cgms(16384, 1, 1, 0);
     code_cgms(0, -1, 1, 0);
     code_cgms(0, 2, 1, 0);
     code_cgms(0, 1, -1, 0);
     code_cgms(0, 1, 2, 0);
     code_cgms(0, 1, 1, -1);
     code_cgms(0, 1, 1, 2);
-    code_cgms(-2147483648, 1, 1, 0);
-    code_cgms(2147483647, 1, 1, 0);
 }
 
-// The cases of WSS numbers.
+// The cases of WSS numbers: every group of the lowest four bits, and the ends of the range.
 fn wss_cases() {
-    code_wss(0);
-    code_wss(1);
-    code_wss(2);
-    code_wss(3);
-    code_wss(4);
-    code_wss(5);
-    code_wss(6);
-    code_wss(7);
-    code_wss(8);
-    code_wss(9);
-    code_wss(10);
-    code_wss(11);
-    code_wss(12);
-    code_wss(13);
-    code_wss(14);
-    code_wss(15);
-    code_wss(4660);
-    code_wss(4657);
-    code_wss(16379);
-    code_wss(16382);
-    code_wss(16383);
-    code_wss(-1);
-    code_wss(16384);
-    code_wss(16385);
-    code_wss(-2147483648);
-    code_wss(2147483647);
+    settings(
+        Case::Wss,
+        b"wss",
+        &[0, 1, 2, 3, 4, 5, 6, 7, 8, 9, 10, 11, 12, 13, 14, 15],
+    );
+    settings(
+        Case::Wss,
+        b"wss",
+        &[
+            4657,
+            16379,
+            16382,
+            16383,
+            -1,
+            16384,
+            16385,
+            -2147483648,
+            2147483647,
+        ],
+    );
 }
 
-// The cases of reading both.
-fn read_cases() {
+// The cases of reading CGMS: good registers, then damaged ones.
+fn read_cgms_cases() {
     read_cgms(0x61, 0x80, 0x00);
     read_cgms(0x62, 0xD2, 0x34);
     read_cgms(0x6B, 0x3F, 0xFF);
@@ -165,6 +168,10 @@ fn read_cases() {
     read_cgms(0x61, 0x80, 0x01);
     read_cgms(0xE1, 0x80, 0x00);
     read_cgms(0x70, 0x80, 0x00);
+}
+
+// The cases of reading WSS: good registers, then damaged ones.
+fn read_wss_cases() {
     read_wss(0x80, 0x00, 0x01);
     read_wss(0x80, 0x3F, 0xFE);
     read_wss(0x80, 0x12, 0x31);
@@ -177,38 +184,33 @@ fn read_cases() {
     read_wss(0x00, 0x00, 0x01);
 }
 
-// The cases of register 19 alone.
-fn kind_cases() {
-    off(0x00);
-    off(0x0F);
-    off(0xF0);
-    off(0xFF);
-    off(0x9A);
-    kind_of(0x00);
-    kind_of(0x10);
-    kind_of(0x20);
-    kind_of(0x30);
-    kind_of(0x40);
-    kind_of(0x50);
-    kind_of(0x60);
-    kind_of(0x70);
-    kind_of(0x80);
-    kind_of(0x90);
-    kind_of(0xA0);
-    kind_of(0xB0);
-    kind_of(0xC0);
-    kind_of(0xD0);
-    kind_of(0xE0);
-    kind_of(0xF0);
-    kind_of(0x0F);
-    kind_of(0x1F);
-    kind_of(0x8F);
-}
-
 // All cases of signalling.
-pub fn cases() {
+pub(crate) fn cases() {
     cgms_cases();
     wss_cases();
-    read_cases();
-    kind_cases();
+    read_cgms_cases();
+    read_wss_cases();
+    codes(Case::Off, b"off", &[0x00, 0x0F, 0xF0, 0xFF, 0x9A]);
+    codes(
+        Case::Kind,
+        b"kind",
+        &[0x00, 0x10, 0x20, 0x30, 0x40, 0x50, 0x60, 0x70],
+    );
+    codes(
+        Case::Kind,
+        b"kind",
+        &[
+            0x80,
+            0x90,
+            0xA0,
+            0xB0,
+            0xC0,
+            0xD0,
+            0xE0,
+            0xF0,
+            0x0F,
+            0x1F,
+            0x8F,
+        ],
+    );
 }

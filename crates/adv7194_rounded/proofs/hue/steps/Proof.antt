@@ -40,15 +40,17 @@ wide r = ltZ r (negℤ (pos 128)) || ltZ (pos 127) r
 
 returns : tie.Need-returns
 returns c =
-    let t = c .before .args .tenths in
-    (rounds→ 256 450 t (back w32 (down t)) (lit< tt) (imp→ _ _ (at (λ t. imp (negative t) (rounds 256 450 t (back w32 (down t)))) tt (c .before)) (c .if1 .taken)),
-    not-true _ (T→true _ (at (λ t. not (wide (back w32 (down t)))) tt (c .before))))
+    let t = c .before .args .tenths in (
+      rounds→ 256 450 t (back w32 (down t)) (lit< tt) (imp→ _ _ (at (λ t. imp (negative t) (rounds 256 450 t (back w32 (down t)))) tt (c .before)) (c .if1 .taken)),
+      not-true _ (T→true _ (at (λ t. not (wide (back w32 (down t)))) tt (c .before))),
+    )
 
 returns-2 : tie.Need-returns-2
 returns-2 c =
-    let t = c .before .args .tenths in
-    (rounds→ 256 450 t (back w32 (up t)) (lit< tt) (imp→not _ _ (at (λ t. imp (not (negative t)) (rounds 256 450 t (back w32 (up t)))) tt (c .before)) (c .if1 .left)),
-    not-true _ (T→true _ (at (λ t. not (wide (back w32 (up t)))) tt (c .before))))
+    let t = c .before .args .tenths in (
+      rounds→ 256 450 t (back w32 (up t)) (lit< tt) (imp→not _ _ (at (λ t. imp (not (negative t)) (rounds 256 450 t (back w32 (up t)))) tt (c .before)) (c .if1 .left)),
+      not-true _ (T→true _ (at (λ t. not (wide (back w32 (up t)))) tt (c .before))),
+    )
 
 pub steps-spec : {M : Type 1} → statement M
 steps-spec =
