@@ -46,6 +46,7 @@ codeBy signMagnitude w s = cond (nonNeg s) (natAbs s) (2 ^ (w - 1) + natAbs s)
 codeBy (rounded b n d) w s = natAbs (pos b +ℤ nearestTimes n d s)
 codeBy (truncated n d) w s = twosComplement w (quotZ (s *ℤ pos n) (pos d))
 
+-- the code of a setting in a format
 abbrev pub codeOf : Format → ℤ → ℕ
 codeOf f s = codeBy (f .coding) (f .width) s
 
@@ -80,7 +81,7 @@ hasAt f c m = has f c (pos m) || has f c (negℤ (pos m))
 abbrev pub settingAt : Format → ℕ → ℕ → ℤ
 settingAt f c m = cond (has f c (pos m)) (pos m) (negℤ (pos m))
 
--- codes that no setting has are reserved in this kind; in the others they are numbers outside the range
+-- codes that no setting has are reserved codes (document 01's term) in this kind; in the others they are numbers outside the range
 abbrev pub reserves : Coding → Bool
 reserves plain = true
 reserves (offset b) = false

@@ -5,77 +5,93 @@ use Prim.Native.Nat.{ℕ}
 use lib.IntN.{ℤ, pos, negℤ}
 use Rattle.adv7194_fields.specs.Coding.{Coding, plain, offset, signMagnitude, rounded, truncated, Format}
 
--- formats that several fields share
-abbrev pub yesNo : Format
-yesNo = record { width = 1; low = pos 0; high = pos 1; coding = plain }
-
--- thousandths of 128
-abbrev pub thousandths : ℤ → Format
-thousandths highest = record { width = 8; low = pos 0; high = highest; coding = rounded 0 128 1000 }
-
+-- a plain code of w bits, for settings from 0 to the highest
 abbrev pub plainTo : ℕ → ℤ → Format
 plainTo w highest = record { width = w; low = pos 0; high = highest; coding = plain }
 
--- the formats of the fields that hold one number
+-- settings in thousandths, coded in parts of 128
+abbrev pub thousandths : ℤ → Format
+thousandths highest = record { width = 8; low = pos 0; high = highest; coding = rounded 0 128 1000 }
+
+-- yes/no, a yes being bit 1; and the Y level, 0 Betacam, 1 SMPTE
+abbrev pub yesNo : Format
+yesNo = plainTo 1 (pos 1)
+
+-- the television standard: 0 NTSC, 1 PAL; 2 and 3 are reserved
 abbrev pub standard : Format
 standard = plainTo 2 (pos 1)
 
+-- UV level: 3 is reserved
 abbrev pub uvLevel : Format
 uvLevel = plainTo 2 (pos 2)
 
+-- clamp delay, in clocks
 abbrev pub clampDelay : Format
 clampDelay = record { width = 3; low = negℤ (pos 3); high = pos 3; coding = signMagnitude }
 
+-- subcarrier phase
 abbrev pub phase : Format
 phase = plainTo 8 (pos 255)
 
+-- contrast, in thousandths
 abbrev pub contrast : Format
 contrast = thousandths (pos 1500)
 
+-- U and V scale, in thousandths
 abbrev pub scale : Format
 scale = thousandths (pos 1996)
 
+-- hue, in tenths of a degree: 128 plus the whole number nearest to 256 t / 450
 abbrev pub hue : Format
 hue = record { width = 8; low = negℤ (pos 225); high = pos 224; coding = rounded 128 256 450 }
 
+-- brightness, in tenths of an IRE: cut toward zero, seven-bit two's complement
 abbrev pub brightness : Format
 brightness = record { width = 7; low = negℤ (pos 75); high = pos 150; coding = truncated 2015631 10000000 }
 
+-- sharpness, in steps: the step plus 6
 abbrev pub sharpness : Format
 sharpness = record { width = 4; low = negℤ (pos 6); high = pos 6; coding = offset 6 }
 
+-- DNR border and data gain: 9 to 15 are reserved
 abbrev pub gain : Format
 gain = plainTo 4 (pos 8)
 
+-- DNR threshold
 abbrev pub threshold : Format
 threshold = plainTo 6 (pos 63)
 
+-- DNR input: 0, 5, 6 and 7 are reserved
 abbrev pub dnrInput : Format
 dnrInput = record { width = 3; low = pos 1; high = pos 4; coding = plain }
 
+-- DNR block offset
 abbrev pub blockOffset : Format
 blockOffset = plainTo 4 (pos 15)
 
--- where a field stands: its register, the lowest of its bits there, and the format of its code, whose width says how many bits
+-- a field (document 01's term) that holds one number: its register, the lowest of its bits there, and the format of its code, whose
+-- width says how many bits it has
 pub record Field : Type 0 where
   pub number : ℕ
   pub register : ℕ
   pub place : ℕ
   pub format : Format
 
--- fields that fill whole registers and have codings of their own: signalling, the curves, the subcarrier word
+-- a field that fills whole registers and has a coding of its own: signalling, the curves, the subcarrier word
 pub record Block : Type 0 where
   pub number : ℕ
   pub register : ℕ
   pub registers : ℕ
 
+-- a row of the table
 abbrev row : ℕ → ℕ → ℕ → Format → Field
 row n r p f = record { number = n; register = r; place = p; format = f }
 
+-- a row of the blocks
 abbrev block : ℕ → ℕ → ℕ → Block
 block n r k = record { number = n; register = r; registers = k }
 
--- number, register, lowest bit, format
+-- the table: number, register, lowest bit, format
 unfoldable pub fields : List Field
 fields =
     row 1 0x00 0 standard
@@ -104,6 +120,6 @@ fields =
     ∷ row 25 0x25 4 blockOffset
     ∷ []
 
--- number, first register, how many
+-- the blocks: number, first register, how many registers
 unfoldable pub blocks : List Block
 blocks = block 11 0x19 3 ∷ block 26 0x26 7 ∷ block 27 0x2D 7 ∷ block 28 0x0C 4 ∷ []
