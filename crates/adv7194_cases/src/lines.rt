@@ -1,4 +1,5 @@
 // Lines of cases: what each case prints for a setting and for a code, and the loops over both.
+ghost use Prim.Native.Nat.{_≤_};
 use crate::print;
 use crate::signalling;
 use adv7194_fields::plain::Plain;
@@ -17,9 +18,7 @@ pub(crate) enum Case {
     Hue,
     Brightness,
     Sharpness,
-    CgmsPayload,
     Wss,
-    Off,
     Kind,
 }
 
@@ -34,9 +33,7 @@ impl Case {
             Case::Hue => print::code(name, n, adv7194_rounded::hue_code(n)),
             Case::Brightness => print::code(name, n, adv7194_signed::brightness_code(n)),
             Case::Sharpness => print::code(name, n, adv7194_signed::sharpness_code(n)),
-            Case::CgmsPayload => signalling::code_cgms(n, 1, 1, 0),
             Case::Wss => signalling::code_wss(n),
-            Case::Off => {}
             Case::Kind => {}
         }
     }
@@ -51,35 +48,66 @@ impl Case {
             Case::Hue => print::read(name, c, adv7194_rounded::hue_setting(c)),
             Case::Brightness => print::read(name, c, adv7194_signed::brightness_setting(c)),
             Case::Sharpness => print::read(name, c, adv7194_signed::sharpness_setting(c)),
-            Case::CgmsPayload => {}
             Case::Wss => {}
-            Case::Off => signalling::off(c),
             Case::Kind => signalling::kind_of(c),
         }
     }
 }
 
-// A line for each setting.
-pub(crate) fn settings(case: Case, name: &[u8], numbers: &[i32]) {
-    let mut i = 0;
-    while i < numbers.len() {
-        case.setting_line(name, numbers[i]);
-        i += 1;
+// The number of this magnitude below zero.
+fn below_zero(magnitude: u32) -> i32
+    requires { ⌜ magnitude ≤ 65536 ⌝ }
+{
+    -(magnitude as i32)
+}
+
+// A line for each setting below zero, from the lowest, of this magnitude, up to -1.
+fn negative_settings(case: Case, name: &[u8], lowest: u32)
+    requires { ⌜ lowest ≤ 65536 ⌝ }
+{
+    let mut magnitude = lowest;
+    while 0 < magnitude {
+        case.setting_line(name, below_zero(magnitude));
+        magnitude -= 1;
     }
 }
 
-// A line for each code.
-pub(crate) fn codes(case: Case, name: &[u8], bytes: &[u8]) {
-    let mut i = 0;
-    while i < bytes.len() {
-        case.code_line(name, bytes[i]);
-        i += 1;
+// A line for each setting from 0 to the highest.
+fn positive_settings(case: Case, name: &[u8], highest: u32)
+    requires { ⌜ highest ≤ 65536 ⌝ }
+{
+    let mut n: u32 = 0;
+    while n <= highest {
+        case.setting_line(name, n as i32);
+        n += 1;
     }
 }
 
-// The lines of a field: the settings, two numbers far outside, and the codes.
-pub(crate) fn run(case: Case, name: &[u8], numbers: &[i32], bytes: &[u8]) {
-    settings(case, name, numbers);
-    settings(case, name, &[FAR_BELOW, FAR_ABOVE]);
-    codes(case, name, bytes);
+// A line for each code from 0 to the last.
+pub(crate) fn codes(case: Case, name: &[u8], last: u32)
+    requires { ⌜ last ≤ 255 ⌝ }
+{
+    let mut c: u32 = 0;
+    while c <= last {
+        case.code_line(name, c as u8);
+        c += 1;
+    }
+}
+
+// A line for each setting from minus `lowest` to `highest`, and for two numbers far outside.
+pub(crate) fn settings(case: Case, name: &[u8], lowest: u32, highest: u32)
+    requires { ⌜ (lowest ≤ 65536) × (highest ≤ 65536) ⌝ }
+{
+    negative_settings(case, name, lowest);
+    positive_settings(case, name, highest);
+    case.setting_line(name, FAR_BELOW);
+    case.setting_line(name, FAR_ABOVE);
+}
+
+// The lines of a field: its settings, then its codes.
+pub(crate) fn run(case: Case, name: &[u8], lowest: u32, highest: u32, last: u32)
+    requires { ⌜ (lowest ≤ 65536) × (highest ≤ 65536) × (last ≤ 255) ⌝ }
+{
+    settings(case, name, lowest, highest);
+    codes(case, name, last);
 }

@@ -99,24 +99,18 @@ pub(crate) fn kind_of(r19: u8) {
 
 // The cases of CGMS settings.
 fn cgms_cases() {
-    settings(
-        Case::CgmsPayload,
-        b"cgms",
-        &[
-            0,
-            1,
-            2,
-            3,
-            4660,
-            5461,
-            10922,
-            16383,
-            -1,
-            16384,
-            -2147483648,
-            2147483647,
-        ],
-    );
+    code_cgms(0, 1, 1, 0);
+    code_cgms(1, 1, 1, 0);
+    code_cgms(2, 1, 1, 0);
+    code_cgms(3, 1, 1, 0);
+    code_cgms(4660, 1, 1, 0);
+    code_cgms(5461, 1, 1, 0);
+    code_cgms(10922, 1, 1, 0);
+    code_cgms(16383, 1, 1, 0);
+    code_cgms(-1, 1, 1, 0);
+    code_cgms(16384, 1, 1, 0);
+    code_cgms(-2147483648, 1, 1, 0);
+    code_cgms(2147483647, 1, 1, 0);
     code_cgms(0, 0, 0, 0);
     code_cgms(0, 1, 0, 0);
     code_cgms(0, 0, 1, 0);
@@ -130,28 +124,24 @@ fn cgms_cases() {
     code_cgms(0, 1, 1, 2);
 }
 
-// The cases of WSS numbers: every group of the lowest four bits, and the ends of the range.
+// The cases of WSS numbers: every group of the lowest four bits, and the end of the range.
 fn wss_cases() {
-    settings(
-        Case::Wss,
-        b"wss",
-        &[0, 1, 2, 3, 4, 5, 6, 7, 8, 9, 10, 11, 12, 13, 14, 15],
-    );
-    settings(
-        Case::Wss,
-        b"wss",
-        &[
-            4657,
-            16379,
-            16382,
-            16383,
-            -1,
-            16384,
-            16385,
-            -2147483648,
-            2147483647,
-        ],
-    );
+    settings(Case::Wss, b"wss", 2, 33);
+    code_wss(4657);
+    code_wss(16379);
+    code_wss(16382);
+    code_wss(16383);
+    code_wss(16384);
+    code_wss(16385);
+}
+
+// The cases of register 19 with signalling off.
+fn off_cases() {
+    off(0x00);
+    off(0x0F);
+    off(0xF0);
+    off(0xFF);
+    off(0x9A);
 }
 
 // The cases of reading CGMS: good registers, then damaged ones.
@@ -190,27 +180,6 @@ pub(crate) fn cases() {
     wss_cases();
     read_cgms_cases();
     read_wss_cases();
-    codes(Case::Off, b"off", &[0x00, 0x0F, 0xF0, 0xFF, 0x9A]);
-    codes(
-        Case::Kind,
-        b"kind",
-        &[0x00, 0x10, 0x20, 0x30, 0x40, 0x50, 0x60, 0x70],
-    );
-    codes(
-        Case::Kind,
-        b"kind",
-        &[
-            0x80,
-            0x90,
-            0xA0,
-            0xB0,
-            0xC0,
-            0xD0,
-            0xE0,
-            0xF0,
-            0x0F,
-            0x1F,
-            0x8F,
-        ],
-    );
+    off_cases();
+    codes(Case::Kind, b"kind", 255);
 }

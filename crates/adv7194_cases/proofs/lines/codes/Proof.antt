@@ -1,16 +1,15 @@
--- `adv7194_cases::lines::codes` is safe and ends: the place stays within the slice. Assumes nothing.
-use Prim.Native.Nat.{_≤_, _-_}
+-- `adv7194_cases::lines::codes` is safe and ends: the code rises past the last. Assumes nothing.
+use Prim.Native.Nat.{_≤_, _+_, _-_}
 use native.Mathlib.Omega.{arith}
 use borrow.Author.Needs.{needs}
-use lib.ListN.{length}
 use Rattle.adv7194_cases.proofs.lines.codes.Statement.{statement}
 use Rattle.adv7194_cases.proofs.lines.codes.Tie as tie
 
 abbrev Inv-loop : tie.InvT-loop
-Inv-loop case name bytes i₀ i = i ≤ length bytes
+Inv-loop case name last c₀ c = c ≤ last + 1
 
 abbrev μ-loop : tie.MeasureT-loop
-μ-loop case name bytes i₀ i = length bytes - i
+μ-loop case name last c₀ c = last + 1 - c
 
 pub codes-spec : {M : Type 1} → statement M
 codes-spec =
@@ -18,7 +17,7 @@ codes-spec =
     (tie.spec
     Inv-loop
     μ-loop
-    (λ c. search needs)
+    (λ c. omega arith)
     (λ c. omega arith)
     (λ c κs. search needs)
     (λ c. omega arith)
