@@ -3,3 +3,4 @@ pub mod StringLaws
 pub mod ByteLaws
 pub mod FieldLaws
 pub mod MapLaws
+pub mod SetLaws

@@ -1,0 +1,154 @@
+-- The test of the three rules holds exactly where the rules do, for every transaction and every list of them. Assumes nothing.
+use mathlib.Core.Path.{_≡_, refl, subst⁻¹}
+use mathlib.Core.Logic.{_⊎_, inl, inr, ⊎-elim, _↔_}
+use mathlib.Core.Bool.{Bool, true, false, _&&_, _||_}
+use mathlib.Core.List.{List, [], _∷_}
+use Prim.Native.Nat.{ℕ, _+_, _-_, _≤_, _<_}
+use native.Mathlib.Omega.{arith}
+use lib.Dec.{T, leb, ltb, eqb, leb→le, le→leb, ltb→lt, lt→ltb, eqb→eq}
+use borrow.Author.Tests.{leb-true, leb-false, ltb-false, eqb-false}
+use Rattle.bus.specs.Transactions.{Transaction, size, end, Touches, Every}
+use Rattle.adv7194_bus.specs.Rules.{Rules, apart, ruled, keepsRules, allKeepRules}
+
+-- ---- tests of both and of either
+
+pub both : (a b : Bool) → T a → T b → T (a && b)
+both true b p q = q
+both false b p q = p
+
+pub first : (a b : Bool) → T (a && b) → T a
+first true b p = tt
+first false b p = p
+
+pub second : (a b : Bool) → T (a && b) → T b
+second true b p = p
+second false b p = absurd p
+
+pub either : (a b : Bool) → T (a || b) → T a ⊎ T b
+either true b p = inl tt
+either false b p = inr p
+
+pub left : (a b : Bool) → T a → T (a || b)
+left true b p = tt
+left false b p = absurd p
+
+pub right : (a b : Bool) → T b → T (a || b)
+right true b p = tt
+right false b p = p
+
+-- ---- one transaction
+
+-- what stands apart: the end is at the first of them or before, or the start past the last
+apart-of : (s e a z : ℕ) → T (apart s e a z) → (e ≤ a) ⊎ (z < s)
+apart-of s e a z h = go (either (leb e a) (ltb z s) h)
+  where
+    go : T (leb e a) ⊎ T (ltb z s) → (e ≤ a) ⊎ (z < s)
+    go (inl p) = inl (leb→le e a p)
+    go (inr p) = inr (ltb→lt z s p)
+
+-- a register from a to z that is among those from s on before e
+record Meets (s e a z : ℕ) : Type 0 where
+  at : ℕ
+  from : s ≤ at
+  before : at < e
+  low : a ≤ at
+  high : at ≤ z
+
+-- either they stand apart or they meet
+apart? : (s e a z : ℕ) → s < e → a ≤ z → T (apart s e a z) ⊎ Meets s e a z
+apart? s e a z h k = ends (leb e a) refl (ltb z s) refl (leb a s) refl
+  where
+    ends : (x : Bool) → leb e a ≡ x → (y : Bool) → ltb z s ≡ y → (w : Bool) → leb a s ≡ w → T (apart s e a z) ⊎ Meets s e a z
+    ends true p y q w r = inl (left (leb e a) (ltb z s) (subst⁻¹ T p tt))
+    ends false p true q w r = inl (right (leb e a) (ltb z s) (subst⁻¹ T q tt))
+    ends false p false q true r =
+        inr (record { at = s; from = omega arith; before = h; low = leb-true a s r; high = ltb-false z s q })
+    ends false p false q false r =
+        let b = leb-false a s r in
+        inr (record { at = a; from = omega arith; before = leb-false e a p; low = omega arith; high = k })
+
+module _ (t : Transaction) where
+  abbrev s : ℕ
+  s = t .subaddress
+
+  -- the test's parts
+  abbrev all : Bool
+  all = leb (end t) 0x36
+
+  abbrev read-only : Bool
+  read-only = apart s (end t) 0x34 0x34
+
+  abbrev caption : Bool
+  caption = apart s (end t) 0x11 0x14
+
+  abbrev word : Bool
+  word = apart s (end t) 0x0c 0x0f || (leb s 0x0c && ltb 0x0f (end t))
+
+  -- the word's registers are all touched, or none is
+  word-of : T word → ((end t ≤ 0x0c) ⊎ (0x0f < s)) ⊎ ((s ≤ 0x0c) × (0x0f < end t))
+  word-of h = go (either (apart s (end t) 0x0c 0x0f) (leb s 0x0c && ltb 0x0f (end t)) h)
+    where
+      go : T (apart s (end t) 0x0c 0x0f) ⊎ T (leb s 0x0c && ltb 0x0f (end t)) → ((end t ≤ 0x0c) ⊎ (0x0f < s)) ⊎ ((s ≤ 0x0c) × (0x0f < end t))
+      go (inl p) = inl (apart-of s (end t) 0x0c 0x0f p)
+      go (inr p) =
+          inr (leb→le s 0x0c (first (leb s 0x0c) (ltb 0x0f (end t)) p), ltb→lt 0x0f (end t) (second (leb s 0x0c) (ltb 0x0f (end t)) p))
+
+  -- data that pass the test keep the rules
+  rules-of : T (ruled s (end t)) → Rules t
+  rules-of h =
+      let h₁ = second all (read-only && (caption && word)) h in
+      let h₂ = second read-only (caption && word) h₁ in
+      let inside : end t ≤ 0x36 = leb→le (end t) 0x36 (first all (read-only && (caption && word)) h) in
+      let keeps = apart-of s (end t) 0x34 0x34 (first read-only (caption && word) h₁) in
+      let quiet = apart-of s (end t) 0x11 0x14 (first caption word h₂) in
+      record {
+        inside = λ r m. (omega (arith, m .1), λ e. ⊎-elim (λ a. omega (arith, m .1)) (λ a. omega (arith, m .0)) keeps);
+        whole = λ r m w q v. ⊎-elim (λ b. absurd (⊎-elim (λ a. omega (arith, m .1, w .0)) (λ a. omega (arith, m .0, w .1)) b)) (λ b. (omega (arith, b .0, v .0), omega (arith, b .1, v .1))) (word-of (second caption word h₂));
+        captions = λ r m c. ⊎-elim (λ a. omega (arith, m .1, c .0)) (λ a. omega (arith, m .0, c .1)) quiet;
+      }
+
+  -- data that keep the rules pass the test
+  of-rules : s < end t → Rules t → T (ruled s (end t))
+  of-rules some k =
+      both all (read-only && (caption && word)) (le→leb (end t) 0x36 (omega (arith, k .inside (end t - 1) (omega arith, omega arith) .0)))
+      (both read-only (caption && word) (⊎-elim (λ p. p) (λ m. absurd (k .inside (m .at) (m .from, m .before) .1 (omega (arith, m .low, m .high)))) (apart? s (end t) 0x34 0x34 some (omega arith)))
+      (both caption word (⊎-elim (λ p. p) (λ m. absurd (k .captions (m .at) (m .from, m .before) (m .low, m .high))) (apart? s (end t) 0x11 0x14 some (omega arith)))
+      (⊎-elim (λ p. left (apart s (end t) 0x0c 0x0f) (leb s 0x0c && ltb 0x0f (end t)) p)
+      (λ m. right (apart s (end t) 0x0c 0x0f) (leb s 0x0c && ltb 0x0f (end t))
+      (both (leb s 0x0c) (ltb 0x0f (end t))
+      (le→leb s 0x0c (k .whole (m .at) (m .from, m .before) (m .low, m .high) 0x0c (omega arith, omega arith) .0))
+      (lt→ltb 0x0f (end t) (k .whole (m .at) (m .from, m .before) (m .low, m .high) 0x0f (omega arith, omega arith) .1))))
+      (apart? s (end t) 0x0c 0x0f some (omega arith)))))
+
+  -- the test on subaddress and data count holds exactly where the rules do
+  pub agree : T (keepsRules s (size t)) ↔ Rules t
+  unfolding keepsRules
+  agree = (λ h. ⊎-elim none rules-of (either (eqb (size t) 0) (ruled s (end t)) h), back (eqb (size t) 0) refl)
+    where
+      none : T (eqb (size t) 0) → Rules t
+      none h =
+          let z = eqb→eq (size t) 0 h in
+          record {
+            inside = λ r m. absurd (omega (arith, m .0, m .1));
+            whole = λ r m w q v. absurd (omega (arith, m .0, m .1));
+            captions = λ r m c. omega (arith, m .0, m .1);
+          }
+
+      back : (b : Bool) → eqb (size t) 0 ≡ b → Rules t → T (keepsRules s (size t))
+      back true e k = left (eqb (size t) 0) (ruled s (end t)) (subst⁻¹ T e tt)
+      back false e k =
+          let z = eqb-false (size t) 0 e in
+          right (eqb (size t) 0) (ruled s (end t)) (of-rules (omega arith) k)
+
+-- ---- a list
+
+-- every transaction of a list keeps the rules exactly where the list's test holds
+pub agree-all : (ts : List Transaction) → T (allKeepRules ts) ↔ Every Rules ts
+unfolding allKeepRules
+agree-all [] = (λ h. tt, λ h. tt)
+agree-all (t ∷ ts) =
+    let a = keepsRules (t .subaddress) (size t) in
+    let b = allKeepRules ts in (
+      λ h. (agree t .0 (first a b h), agree-all ts .0 (second a b h)),
+      λ h. both a b (agree t .1 (h .0)) (agree-all ts .1 (h .1)),
+    )

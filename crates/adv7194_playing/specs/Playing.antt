@@ -1,0 +1,55 @@
+-- Document 01, "Refusals": playing takes the address used and the chip's own, checks 1, 2 for either, then 9, and answers the image and whether
+-- every byte was acknowledged. A refusal writes nothing.
+use mathlib.Core.Bool.{Bool, cond, _&&_}
+use mathlib.Core.List.{List}
+use Prim.Native.Nat.{ℕ, _%_}
+use lib.Dec.{leb, eqb}
+use lib.ListN.{length}
+use Rattle.refusals.specs.Refusal.{Judged, accepted, refused, numberOf}
+use Rattle.bus.specs.Transactions.{Transaction}
+use Rattle.bus.specs.Chip.{fresh}
+use Rattle.bus.specs.Run.{run, allAcknowledged, listEvents}
+use Rattle.unpacking.specs.Unpacking.{unpack}
+use Rattle.adv7194_bus.specs.Kind.{registerCount, adv7194}
+use Rattle.adv7194_bus.specs.Rules.{allKeepRules}
+use Rattle.adv7194_playing.specs.declared.Played.{Played}
+use Rattle.adv7194_playing.specs.declared.Played.the-variants.{Done, Refused}
+
+-- a bus address is right where it is even and not above 254
+abbrev pub addressRight : ℕ → Bool
+addressRight a = leb a 254 && eqb (a % 2) 0
+
+-- transactions that break a bus rule are refused by 9
+abbrev pub judgedByRules : Judged (List Transaction) → Judged (List Transaction)
+judgedByRules (accepted ts) = cond (allKeepRules ts) (accepted ts) (refused 9)
+judgedByRules (refused n) = refused n
+
+-- the transactions to play, or the refusal: 1 for the image, 2 for either address, then 9 for the packing and for the bus rules
+unfoldable pub judged : List ℕ → ℕ → ℕ → List ℕ → Judged (List Transaction)
+judged image used own plan =
+    cond (eqb (length image) registerCount)
+    (cond (addressRight used && addressRight own) (judgedByRules (unpack plan)) (refused 2))
+    (refused 1)
+
+-- whether every byte is acknowledged: those of the list's events, sent at the address used to a fresh chip of its own address with the image
+abbrev pub acknowledgedBy : List ℕ → ℕ → ℕ → Judged (List Transaction) → Judged Bool
+acknowledgedBy image used own (accepted ts) = accepted (allAcknowledged (adv7194 own) (fresh image) (listEvents used ts))
+acknowledgedBy image used own (refused n) = refused n
+
+-- the registers of that chip after the same events; the image itself after a refusal
+abbrev pub registersAfter : List ℕ → ℕ → ℕ → Judged (List Transaction) → List ℕ
+registersAfter image used own (accepted ts) = run (adv7194 own) (fresh image) (listEvents used ts) .registers
+registersAfter image used own (refused n) = image
+
+-- what playing answers
+abbrev pub playOf : List ℕ → ℕ → ℕ → List ℕ → Judged Bool
+playOf image used own plan = acknowledgedBy image used own (judged image used own plan)
+
+-- the image that playing leaves
+abbrev pub playedImage : List ℕ → ℕ → ℕ → List ℕ → List ℕ
+playedImage image used own plan = registersAfter image used own (judged image used own plan)
+
+-- the answer as document 01 has it
+abbrev pub answerOf : Played → Judged Bool
+answerOf (Done b) = accepted b
+answerOf (Refused r) = refused (numberOf r)

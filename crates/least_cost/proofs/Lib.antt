@@ -1,0 +1,10 @@
+pub mod WeightLaws
+pub mod LowerBound
+pub mod Best
+pub mod Attained
+pub mod Gaps
+pub mod Greedy
+pub mod Rounds
+pub mod Unique
+pub mod Cheapest
+pub mod Ends

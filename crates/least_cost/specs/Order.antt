@@ -1,0 +1,20 @@
+-- Document 01, "The bus and its three rules": a list goes by its bus bytes and then by its transactions, and is ascending.
+use mathlib.Core.Path.{_≡_}
+use mathlib.Core.Logic.{_⊎_}
+use mathlib.Core.List.{List, [], _∷_}
+use Prim.Native.Nat.{ℕ, _-_, _≤_, _<_}
+use lib.ListN.{length, getD}
+use Rattle.bus.specs.Transactions.{Transaction, end, Touches, busBytes}
+
+-- a list costs no more than another: fewer bus bytes, or as many and no more transactions
+unfoldable pub NoDearer : List Transaction → List Transaction → Type 0
+NoDearer a b = (busBytes a < busBytes b) ⊎ ((busBytes a ≡ busBytes b) × (length a ≤ length b))
+
+-- each transaction starts at or past i, and no earlier than the last one's end
+abbrev pub Ascending : ℕ → List Transaction → Type 0
+Ascending i [] = Unit {0}
+Ascending i (t ∷ ts) = (i ≤ t .subaddress) × Ascending (end t) ts
+
+-- the transaction's data are the wanted bytes of the registers that it touches
+abbrev pub Holds : (ℕ → ℕ) → Transaction → Type 0
+Holds want t = (x : ℕ) → Touches t x → getD (t .bytes) (x - t .subaddress) 0 ≡ want x

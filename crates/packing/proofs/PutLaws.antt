@@ -1,0 +1,161 @@
+-- What was put: one string after another, into a part of a plan, and the last byte. Assumes nothing.
+use mathlib.Core.Path.{_≡_, refl, sym, ap, ap₂, _∙_, subst}
+use mathlib.Core.Bool.{Bool, false}
+use mathlib.Core.List.{List, [], _++_, append-assoc, append-nil}
+use Prim.Native.Nat.{ℕ, _+_, _-_, _*_, _/_, _%_, _^_, _≤_, _<_}
+use native.Mathlib.Nat.{mod-lt}
+use native.Mathlib.Numerals.{add-one}
+use native.Mathlib.Omega.{arith}
+use lib.Arith.{digits-lt}
+use lib.ListN.{length, take, drop, set, getD, replicate, length-append, length-drop, drop-of-length-le}
+use lib.Pow.{pow-pos, pow-add, pow-mono, shr-lt}
+use lib.Seq.{drop-set-lt, drop-drop, take-all, take-append-add, drop-append-add, length-take-le, take-suc}
+use borrow.Rule.Slice.PartMut.{putMid}
+use Rattle.bits.specs.Strings.{msbFirst, byteBits, bytesOf}
+use Rattle.bits.proofs.StringLaws.{msb-length, msb-cat, msb-cut}
+use Rattle.bits.proofs.ByteLaws.{byteBits-append, byteBits-length, stored, bytesOf-length}
+use Rattle.bus.specs.Transactions.{Transaction}
+use Rattle.packing.proofs.FillLaws.{msb-zero, take-bytes, filled-bytes}
+use Rattle.packing.specs.declared.Pending.{Pending}
+use Rattle.packing.specs.Packing.{listBits, packedBits, packed}
+use Rattle.packing.specs.Written.{Sound, Put, written}
+
+-- ---- one string after another
+
+-- a plan that begins: its first number is pending
+pub begun : (plan : List ℕ) (n : ℕ) → n < 64 → Sound (record { at = 0; count = 6; bits = n }) × (written plan (record { at = 0; count = 6; bits = n }) ≡ msbFirst 6 n)
+unfolding byteBits
+begun plan n h = (record { few = omega arith; low = h }, refl)
+
+-- nothing was put
+pub put-none : (plan : List ℕ) (p : Pending) → Sound p → Put plan plan p [] p
+put-none plan p h = record { sound = h; wrote = sym (append-nil (written plan p)); past = refl; more = omega arith }
+
+-- what is the same from k on is the same from further on
+drop-further : (a b : List ℕ) (k n : ℕ) → k ≤ n → drop k a ≡ drop k b → drop n a ≡ drop n b
+drop-further a b k n h e =
+    let on : k + (n - k) ≡ n = omega arith in
+    ap (λ (m : ℕ). drop m a) (sym on) ∙ sym (drop-drop (n - k) k a) ∙ ap (drop (n - k)) e ∙ drop-drop (n - k) k b ∙ ap (λ (m : ℕ). drop m b) on
+
+-- two strings, one after the other
+pub put-then : {a b c : List ℕ} {p q r : Pending} {xs ys : List Bool} → Put a b p xs q → Put b c q ys r → Put a c p (xs ++ ys) r
+put-then {a} {b} {c} {p} {q} {r} {xs} {ys} h k =
+    record {
+      sound = k .sound;
+      wrote = k .wrote ∙ ap (λ (l : List Bool). l ++ ys) (h .wrote) ∙ append-assoc (written a p) xs ys;
+      past = k .past ∙ drop-further b a (q .at) (r .at) (omega (arith, h .sound .few, k .more)) (h .past);
+      more = omega (arith, h .more, k .more, length-append xs ys);
+    }
+
+-- ---- into a part of a plan
+
+-- what was put into the part of a plan from p's full bytes on, encodable-facts of the whole plan
+pub put-part : (plan last : List ℕ) (p r : Pending) (bs : List Bool) → p .at ≤ length plan
+    → Put (take (length plan - p .at) (drop (p .at) plan)) last (record { at = 0; count = p .count; bits = p .bits }) bs r
+    → Put plan (putMid (p .at) (length plan - p .at) plan last) p bs (record { at = p .at + r .at; count = r .count; bits = r .bits })
+unfolding byteBits
+put-part plan last p r bs h k =
+    let whole : take (length plan - p .at) (drop (p .at) plan) ≡ drop (p .at) plan = take-all (length plan - p .at) (drop (p .at) plan) (simp length-drop (omega arith)) in
+    let none : drop (length plan - p .at) (drop (p .at) plan) ≡ [] = drop-of-length-le (drop (p .at) plan) {i = length plan - p .at} (simp length-drop (omega arith)) in
+    let all : putMid (p .at) (length plan - p .at) plan last ≡ take (p .at) plan ++ last = simp (none, append-nil) in
+    let front : length (take (p .at) plan) ≡ p .at = length-take-le (p .at) plan h in
+    let taken : take (p .at + r .at) (take (p .at) plan ++ last) ≡ take (p .at) plan ++ take (r .at) last =
+    ap (λ (n : ℕ). take (n + r .at) (take (p .at) plan ++ last)) (sym front) ∙ take-append-add (take (p .at) plan) last (r .at) in
+    let left : drop (p .at + r .at) (take (p .at) plan ++ last) ≡ drop (r .at) last =
+    ap (λ (n : ℕ). drop (n + r .at) (take (p .at) plan ++ last)) (sym front) ∙ drop-append-add (take (p .at) plan) last (r .at) in
+    let full = byteBits (take (p .at) plan) in
+    let pend = msbFirst (p .count) (p .bits) in
+    rw all
+    (record {
+      sound = record { few = k .sound .few; low = k .sound .low };
+      wrote = ap (λ (l : List ℕ). byteBits l ++ msbFirst (r .count) (r .bits)) taken
+          ∙ ap (λ (l : List Bool). l ++ msbFirst (r .count) (r .bits)) (byteBits-append (take (p .at) plan) (take (r .at) last))
+          ∙ append-assoc full (byteBits (take (r .at) last)) (msbFirst (r .count) (r .bits))
+          ∙ ap (λ (l : List Bool). full ++ l) (k .wrote)
+          ∙ sym (append-assoc full pend bs);
+      past = left ∙ k .past ∙ ap (drop (r .at)) whole ∙ drop-drop (r .at) (p .at) plan;
+      more = omega (arith, k .more);
+    })
+
+-- ---- one number
+
+-- pending bits and w bits more are a number of that many bits
+pub joined-lt : (n w : ℕ) {a v : ℕ} → a < 2 ^ n → v < 2 ^ w → a * 2 ^ w + v < 2 ^ (n + w)
+joined-lt n w {a} {v} ha hv = subst (λ (x : ℕ). a * 2 ^ w + v < x) (sym (pow-add 2 n w)) (digits-lt ha hv)
+
+-- and fit two bytes
+pub joined-fits : (p : Pending) (w v : ℕ) → Sound p → w ≤ 8 → v < 2 ^ w → p .bits * 2 ^ w + v < 2 ^ 16
+joined-fits p w v s hw hv = omega (arith, joined-lt (p .count) w (s .low) hv, pow-mono {i = p .count + w} {j = 16} (omega (arith, s .few)))
+
+-- fewer than eight bits are pending
+pub put-pending : (plan : List ℕ) (p : Pending) (w v : ℕ) → Sound p → v < 2 ^ w → p .count + w < 8
+    → Put plan plan p (msbFirst w v) (record { at = p .at; count = p .count + w; bits = p .bits * 2 ^ w + v })
+put-pending plan p w v s hv few =
+    record {
+      sound = record { few = few; low = joined-lt (p .count) w (s .low) hv };
+      wrote = ap (λ (l : List Bool). byteBits (take (p .at) plan) ++ l) (msb-cat (p .count) w (p .bits) v hv)
+          ∙ sym (append-assoc (byteBits (take (p .at) plan)) (msbFirst (p .count) (p .bits)) (msbFirst w v));
+      past = refl;
+      more = omega (arith, msb-length w v);
+    }
+
+-- the byte that is full is one
+pub full-lt : (p : Pending) (w v : ℕ) → Sound p → v < 2 ^ w → 8 ≤ p .count + w → (p .bits * 2 ^ w + v) / 2 ^ (p .count + w - 8) < 2 ^ 8
+full-lt p w v s hv h =
+    let r = p .count + w - 8 in
+    let e : p .count + w ≡ 8 + r = omega arith in
+    shr-lt 8 r (subst (λ (k : ℕ). p .bits * 2 ^ w + v < 2 ^ k) e (joined-lt (p .count) w (s .low) hv))
+
+-- a byte is full
+pub put-full : (plan : List ℕ) (p : Pending) (w v : ℕ) → Sound p → w ≤ 8 → v < 2 ^ w → 8 ≤ p .count + w → p .at < length plan
+    → Put plan (set plan (p .at) ((p .bits * 2 ^ w + v) / 2 ^ (p .count + w - 8))) p (msbFirst w v)
+    (record { at = p .at + 1; count = p .count + w - 8; bits = (p .bits * 2 ^ w + v) % 2 ^ (p .count + w - 8) })
+put-full plan p w v s hw hv h room =
+    let r = p .count + w - 8 in
+    let e : p .count + w ≡ 8 + r = omega arith in
+    let x = p .bits * 2 ^ w + v in
+    let full = byteBits (take (p .at) plan) in
+    record {
+      sound = record { few = omega (arith, s .few); low = mod-lt x (pow-pos r) };
+      wrote = ap (λ (l : List Bool). l ++ msbFirst r (x % 2 ^ r)) (stored plan (p .at) (x / 2 ^ r) room)
+          ∙ append-assoc full (msbFirst 8 (x / 2 ^ r)) (msbFirst r (x % 2 ^ r))
+          ∙ ap (λ (l : List Bool). full ++ l) (sym (msb-cut (p .count) w 8 r (p .bits) v e hv))
+          ∙ sym (append-assoc full (msbFirst (p .count) (p .bits)) (msbFirst w v));
+      past = drop-set-lt (p .at + 1) plan (p .at) (x / 2 ^ r) (omega arith);
+      more = omega (arith, msb-length w v);
+    }
+
+-- ---- bytes
+
+-- one byte more of a list
+pub byteBits-more : (l : List ℕ) (i : ℕ) → i < length l → byteBits (take (i + 1) l) ≡ byteBits (take i l) ++ msbFirst 8 (getD l i 0)
+unfolding byteBits
+byteBits-more l i h = rw (add-one i, take-suc l i 0, byteBits-append, append-nil)
+
+-- ---- the last byte
+
+-- zero bits up to a full byte were put: the bytes written are those of the bits before
+pub put-fill : (before after : List ℕ) (p r : Pending) (w : ℕ) → ((i : ℕ) → getD after i 0 < 2 ^ 8) → Sound p → w ≡ (8 - p .count) % 8
+    → Put before after p (msbFirst w 0) r → take (r .at) after ≡ bytesOf (written before p)
+unfolding msbFirst
+put-fill before after p r w h s e k =
+    let none : r .count ≡ 0 = omega (arith, s .few, k .sound .few, k .more, msb-length w 0) in
+    let bits : byteBits (take (r .at) after) ≡ written before p ++ replicate w false =
+    sym (append-nil (byteBits (take (r .at) after))) ∙ ap (λ (n : ℕ). byteBits (take (r .at) after) ++ msbFirst n (r .bits)) (sym none)
+    ∙ k .wrote ∙ ap (λ (l : List Bool). written before p ++ l) (msb-zero w) in
+    filled-bytes (take (r .at) after) (written before p) w (take-bytes (r .at) after h) (omega arith) bits
+
+-- ---- the whole plan
+
+-- a plan that was begun with its transaction count, into which its transactions were put and that was finished: what a planner leaves in the lent plan
+pub finished : (before mid after : List ℕ) (ts : List Transaction) (r : Pending) (n : ℕ) → length ts < 64 → r .at ≤ length mid
+    → Put before mid (record { at = 0; count = 6; bits = length ts }) (listBits ts) r
+    → n ≡ length (bytesOf (written mid r)) → after ≡ bytesOf (written mid r) ++ drop n mid
+    → (n ≡ length (packed ts)) × (after ≡ packed ts ++ drop n before)
+unfolding packed packedBits
+finished before mid after ts r n few room k e f =
+    let bits : written mid r ≡ packedBits ts = k .wrote ∙ ap (λ (l : List Bool). l ++ listBits ts) (begun before (length ts) few .1) in
+    let size : length (written mid r) ≡ r .at * 8 + r .count =
+    omega (arith, length-append (byteBits (take (r .at) mid)) (msbFirst (r .count) (r .bits)), byteBits-length (take (r .at) mid), length-take-le (r .at) mid room, msb-length (r .count) (r .bits)) in
+    let past : drop n mid ≡ drop n before = drop-further mid before (r .at) n (omega (arith, bytesOf-length (written mid r))) (k .past) in
+    (e ∙ ap (λ (l : List Bool). length (bytesOf l)) bits, f ∙ ap₂ (λ (l : List Bool) (d : List ℕ). bytesOf l ++ d) bits past)

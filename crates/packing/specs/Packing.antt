@@ -1,0 +1,40 @@
+-- Document 01, "Packing": fields most significant bit first, no gaps: 6 bits of transaction count; for each transaction 6 bits of subaddress,
+-- 6 bits of data count (never 0), then the data. Zero bits fill the last byte. Starts ascend, and no transaction overlaps another.
+use mathlib.Core.Bool.{Bool, true, _&&_}
+use mathlib.Core.List.{List, [], _∷_, _++_}
+use Prim.Native.Nat.{ℕ}
+use lib.Dec.{leb, ltb}
+use lib.ListN.{length}
+use lib.Pow.{areBytes}
+use Rattle.bits.specs.Strings.{msbFirst, byteBits, bytesOf}
+use Rattle.bus.specs.Transactions.{Transaction, size, end}
+
+-- a transaction's bits: subaddress, data count, data
+unfoldable pub transactionBits : Transaction → List Bool
+transactionBits t = msbFirst 6 (t .subaddress) ++ (msbFirst 6 (size t) ++ byteBits (t .bytes))
+
+-- the bits of transactions, one after the other
+unfoldable pub listBits : List Transaction → List Bool
+listBits [] = []
+listBits (t ∷ ts) = transactionBits t ++ listBits ts
+
+-- the bits of a plan: the transaction count, then the transactions
+unfoldable pub packedBits : List Transaction → List Bool
+packedBits ts = msbFirst 6 (length ts) ++ listBits ts
+
+-- the packed plan
+unfoldable pub packed : List Transaction → List ℕ
+packed ts = bytesOf (packedBits ts)
+
+-- the packing can hold the transaction: a 6-bit subaddress, a 6-bit data count that is not 0, and bytes for data
+abbrev pub encodable : Transaction → Bool
+encodable t = ltb (t .subaddress) 64 && (ltb 0 (size t) && (ltb (size t) 64 && areBytes (t .bytes)))
+
+-- each transaction is encodable and starts at the first free register or past it; its end is then the first free register
+unfoldable pub ascending : ℕ → List Transaction → Bool
+ascending free [] = true
+ascending free (t ∷ ts) = leb free (t .subaddress) && (encodable t && ascending (end t) ts)
+
+-- the list can be packed: at most 63 transactions, their starts ascending without overlap
+unfoldable pub wellFormed : List Transaction → Bool
+wellFormed ts = ltb (length ts) 64 && ascending 0 ts

@@ -1,0 +1,7 @@
+pub mod Tests
+pub mod FrontLaws
+pub mod Reader
+pub mod Exact
+pub mod LeftLaws
+pub mod Walk
+pub mod Cases

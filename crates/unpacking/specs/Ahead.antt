@@ -1,0 +1,22 @@
+-- Document 01, "Packing": transactions stand one after the other, with no gaps, and zero bits fill the last byte. What is still to come at a place
+-- of an accepted plan, for whoever walks through it.
+use mathlib.Core.Path.{_≡_}
+use mathlib.Core.Bool.{false}
+use mathlib.Core.List.{List, _++_}
+use Prim.Native.Nat.{ℕ, _^_, _<_}
+use lib.Dec.{T}
+use lib.ListN.{getD, replicate}
+use Rattle.bits.specs.Strings.{byteBits}
+use Rattle.bus.specs.Transactions.{Transaction}
+use Rattle.packing.specs.declared.Pending.{Pending}
+use Rattle.packing.specs.Packing.{listBits, ascending}
+use Rattle.unpacking.specs.Left.{left, Within}
+
+-- from this place on come these data of the transaction that was begun, these transactions, and zero bits
+pub record Ahead (plan : List ℕ) (place : Pending) (ds : List ℕ) (ts : List Transaction) : Type 0 where
+  pub within : Within plan place
+  pub fill : ℕ
+  pub bits : left plan place ≡ byteBits ds ++ (listBits ts ++ replicate fill false)
+  pub bytes : (i : ℕ) → getD ds i 0 < 2 ^ 8
+  pub free : ℕ
+  pub order : T (ascending free ts)

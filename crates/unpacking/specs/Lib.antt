@@ -1,0 +1,3 @@
+pub mod Unpacking
+pub mod Left
+pub mod Ahead
