@@ -11,7 +11,7 @@ use Rattle.bits.specs.Maps.{has}
 use Rattle.bus.specs.Chip.{Kind}
 use Rattle.bus.specs.Lent.{keptBy, kindOf}
 use Rattle.bus.proofs.StepLaws.{past-map}
-use Rattle.adv7194_bus.proofs.RuleLaws.{first, second}
+use Rattle.bits.proofs.FlagLaws.{first, second}
 use Rattle.adv7194_bus.specs.Kind.{registerCount, readOnly, adv7194}
 
 -- the map as the code has it

@@ -7,34 +7,9 @@ use Prim.Native.Nat.{ℕ, _+_, _-_, _≤_, _<_}
 use native.Mathlib.Omega.{arith}
 use lib.Dec.{T, leb, ltb, eqb, leb→le, le→leb, ltb→lt, lt→ltb, eqb→eq}
 use borrow.Author.Tests.{leb-true, leb-false, ltb-false, eqb-false}
+use Rattle.bits.proofs.FlagLaws.{both, first, second, either, left, right}
 use Rattle.bus.specs.Transactions.{Transaction, size, end, Touches, Every}
 use Rattle.adv7194_bus.specs.Rules.{Rules, apart, ruled, keepsRules, allKeepRules}
-
--- ---- tests of both and of either
-
-pub both : (a b : Bool) → T a → T b → T (a && b)
-both true b p q = q
-both false b p q = p
-
-pub first : (a b : Bool) → T (a && b) → T a
-first true b p = tt
-first false b p = p
-
-pub second : (a b : Bool) → T (a && b) → T b
-second true b p = p
-second false b p = absurd p
-
-pub either : (a b : Bool) → T (a || b) → T a ⊎ T b
-either true b p = inl tt
-either false b p = inr p
-
-pub left : (a b : Bool) → T a → T (a || b)
-left true b p = tt
-left false b p = absurd p
-
-pub right : (a b : Bool) → T b → T (a || b)
-right true b p = tt
-right false b p = p
 
 -- ---- one transaction
 

@@ -16,7 +16,8 @@ use Rattle.refusals.specs.Refusal.{Judged, accepted, refused}
 use Rattle.packing.specs.Packing.{listBits, packedBits, packed, encodable, ascending, wellFormed}
 use Rattle.packing.proofs.FillLaws.{filled-bytes}
 use Rattle.unpacking.specs.Unpacking.{Unpacks, packs, packs-none, number, candidate, same, unpack, counted}
-use Rattle.unpacking.proofs.Tests.{both, first, second, same-test, holds, same-eq, same-refl, encodable-facts}
+use Rattle.bits.proofs.FlagLaws.{both, first, second, same-test, holds}
+use Rattle.unpacking.proofs.Tests.{same-eq, same-refl, encodable-facts}
 use Rattle.unpacking.proofs.FrontLaws.{number-front, rest-front, number-lt, number-bits}
 use Rattle.unpacking.proofs.Reader.{valid, sound, complete, named-length}
 

@@ -17,7 +17,7 @@ use Rattle.bits.proofs.ByteLaws.{byteBits-append, byteBits-length}
 use Rattle.packing.specs.declared.Pending.{Pending}
 use Rattle.packing.proofs.PutLaws.{joined-lt}
 use Rattle.unpacking.specs.Left.{left, Within, Further, Took}
-use Rattle.unpacking.proofs.Tests.{same-test, first, fails}
+use Rattle.bits.proofs.FlagLaws.{same-test, first, fails}
 use Rattle.unpacking.proofs.FrontLaws.{number-front, rest-front}
 use Rattle.unpacking.proofs.Reader.{filling}
 

@@ -17,7 +17,8 @@ use Rattle.packing.specs.Packing.{transactionBits, listBits, encodable, ascendi
 use Rattle.packing.proofs.FillLaws.{msb-zero}
 use Rattle.packing.proofs.PackedLaws.{transactionBits-length}
 use Rattle.unpacking.specs.Unpacking.{number, named}
-use Rattle.unpacking.proofs.Tests.{both, first, second, fails, same-test, Encodable, encodable-facts, encodable-from}
+use Rattle.bits.proofs.FlagLaws.{both, first, second, fails, same-test}
+use Rattle.unpacking.proofs.Tests.{Encodable, encodable-facts, encodable-from}
 use Rattle.unpacking.proofs.FrontLaws.{number-lt, number-bits, subaddress-front, count-front, data-front, bytes-front, past-front, whole-bytes}
 
 -- ---- the reader

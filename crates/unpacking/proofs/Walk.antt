@@ -20,7 +20,8 @@ use Rattle.unpacking.specs.declared.Header.{Header}
 use Rattle.unpacking.specs.Unpacking.{unpack, counted, number}
 use Rattle.unpacking.specs.Ahead.{Ahead}
 use Rattle.unpacking.specs.Left.{left, Further, Took, TookHeader}
-use Rattle.unpacking.proofs.Tests.{first, second, Encodable, encodable-facts}
+use Rattle.bits.proofs.FlagLaws.{first, second}
+use Rattle.unpacking.proofs.Tests.{Encodable, encodable-facts}
 use Rattle.unpacking.proofs.FrontLaws.{number-front, rest-front, subaddress-front, count-front, data-front}
 use Rattle.unpacking.proofs.Exact.{unpacks-packed, packed-bits, few-transactions, in-order}
 use Rattle.unpacking.proofs.LeftLaws.{left-start}
