@@ -11,14 +11,16 @@ pub const DROPPED: u64 = 0x10_0000_0000_0000;
 // The register that is only read.
 const READ_ONLY: u32 = 0x34;
 
-// The subcarrier word's registers.
+// The first of the subcarrier word's registers.
 const WORD_FIRST: u32 = 0x0c;
 
+// The last of them.
 const WORD_LAST: u32 = 0x0f;
 
-// The caption registers.
+// The first of the caption registers.
 const CAPTION_FIRST: u32 = 0x11;
 
+// The last of them.
 const CAPTION_LAST: u32 = 0x14;
 
 // Whether data from a register up to an end are for none of the registers first to last.

@@ -1,6 +1,6 @@
 -- Events one after the other: the chip after them, and whether every byte was acknowledged. Assumes nothing.
-use mathlib.Core.Path.{_≡_, refl, sym, ap, ap₂, _∙_, subst}
-use mathlib.Core.Bool.{Bool, true, _&&_, and-true, and-assoc}
+use mathlib.Core.Path.{_≡_, refl, sym, ap, ap₂, _∙_}
+use mathlib.Core.Bool.{Bool, _&&_, and-true, and-assoc}
 use mathlib.Core.List.{List, [], _∷_, _++_}
 use Prim.Native.Nat.{ℕ}
 use lib.ListN.{length}
@@ -10,7 +10,8 @@ use Rattle.bus.specs.declared.chip.Stepped.{Stepped}
 use Rattle.bus.specs.Transactions.{Transaction}
 use Rattle.bus.specs.Chip.{Kind, Chip, Outcome, step}
 use Rattle.bus.specs.Run.{run, passes, allAcknowledged, dataEvents, transactionEvents, listEvents}
-use Rattle.bus.specs.Lent.{chipAt, kindOf, steppedOf, stepOf}
+use Rattle.bus.specs.Lent.{steppedOf, stepOf}
+use Rattle.bus.proofs.Play.{run-append}
 use Rattle.adv7194_bus.specs.Kind.{registerCount, adv7194}
 use Rattle.adv7194_bus.proofs.KindLaws.{dropped, kind-map}
 use Rattle.adv7194_playing.specs.declared.Sent.{Sent}
@@ -18,11 +19,7 @@ use Rattle.adv7194_playing.specs.Progress.{Ended, ended, after, held}
 
 -- ---- one after the other
 
-run-append : (κ : Kind) (c : Chip) (es fs : List Event) → run κ (run κ c es) fs ≡ run κ c (es ++ fs)
-unfolding run
-run-append κ c [] fs = refl
-run-append κ c (e ∷ es) fs = run-append κ (step κ c e .chip) es fs
-
+-- every byte of both is acknowledged where every byte of each is
 acknowledged-append : (κ : Kind) (c : Chip) (es fs : List Event)
     → (allAcknowledged κ c es && allAcknowledged κ (run κ c es) fs) ≡ allAcknowledged κ c (es ++ fs)
 unfolding run allAcknowledged
@@ -36,7 +33,7 @@ acknowledged-append κ c (e ∷ es) fs =
 pub after-append : (own : ℕ) (e : Ended) (es fs : List Event) → after own (after own e es) fs ≡ after own e (es ++ fs)
 after-append own e es fs =
     let κ = adv7194 own in
-    ap₂ ended (run-append κ (e .chip) es fs)
+    ap₂ ended (sym (run-append κ (e .chip) es fs))
     (and-assoc (e .acknowledged) (allAcknowledged κ (e .chip) es) (allAcknowledged κ (run κ (e .chip) es) fs)
     ∙ ap (λ (b : Bool). e .acknowledged && b) (acknowledged-append κ (e .chip) es fs))
 

@@ -32,11 +32,13 @@ refused-list (refused m) n e = cc
 module _ (image : List ℕ) (used own : ℕ) (plan : List ℕ) where
   -- ---- the judgement
 
+  -- the image's length
   pub wrong-length : (length image ≡ registerCount → ⊥) → judged image used own plan ≡ refused 1
   unfolding judged
   wrong-length h = rw (ne-eqb (length image) registerCount h)
 
   module _ (h : length image ≡ registerCount) where
+    -- the address used, and the chip's own
     pub wrong-used : addressRight used ≡ false → judged image used own plan ≡ refused 2
     unfolding judged
     wrong-used e = rw (eq-eqb (length image) registerCount h, e)
@@ -46,10 +48,12 @@ module _ (image : List ℕ) (used own : ℕ) (plan : List ℕ) where
     wrong-own e f = rw (eq-eqb (length image) registerCount h, e, f)
 
     module _ (e : addressRight used ≡ true) (f : addressRight own ≡ true) where
+      -- the plan is left to judge
       right-so-far : judged image used own plan ≡ judgedByRules (unpack plan)
       unfolding judged
       right-so-far = rw (eq-eqb (length image) registerCount h, e, f)
 
+      -- its packing, and then its rules
       pub wrong-packing : (n : ℕ) → unpack plan ≡ refused n → judged image used own plan ≡ refused n
       wrong-packing n p = right-so-far ∙ ap judgedByRules p
 
@@ -71,9 +75,11 @@ module _ (image : List ℕ) (used own : ℕ) (plan : List ℕ) where
 
   -- ---- what is answered, and what is left
 
+  -- a refusal, which leaves the image
   pub refuse : (n : ℕ) → judged image used own plan ≡ refused n → (refused n ≡ playOf image used own plan) × (image ≡ playedImage image used own plan)
   refuse n e = (sym (ap (acknowledgedBy image used own) e), sym (ap (registersAfter image used own) e))
 
+  -- a plan that is played
   pub play : (ts : List Transaction) (a : Bool) (after : List ℕ) → judged image used own plan ≡ accepted ts
       → a ≡ allAcknowledged (adv7194 own) (fresh image) (listEvents used ts) → after ≡ run (adv7194 own) (fresh image) (listEvents used ts) .registers
       → (accepted a ≡ playOf image used own plan) × (after ≡ playedImage image used own plan)

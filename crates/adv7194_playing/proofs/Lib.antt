@@ -1,4 +1,5 @@
 pub mod EventLaws
 pub mod PlanLaws
 pub mod JudgedLaws
+pub mod Rows
 pub mod Elsewhere

@@ -2,7 +2,7 @@
 use mathlib.Core.Path.{_≡_, refl, sym, ap, ap₂, _∙_, subst, subst⁻¹}
 use mathlib.Core.Bool.{Bool, false}
 use mathlib.Core.List.{List, [], _∷_, _++_, append-assoc}
-use Prim.Native.Nat.{ℕ, zero, suc, _*_, _^_, _≤_, _<_}
+use Prim.Native.Nat.{ℕ, suc, _+_, _-_, _*_, _^_, _≤_, _<_}
 use native.Mathlib.Omega.{arith}
 use lib.ListN.{length, take, drop, getD, replicate, length-append}
 use lib.Seq.{take-append-le}
@@ -13,14 +13,29 @@ use Rattle.refusals.specs.Refusal.{Judged, accepted, refused}
 use Rattle.bus.specs.Transactions.{Transaction, size}
 use Rattle.packing.specs.declared.Pending.{Pending}
 use Rattle.packing.specs.Packing.{listBits}
-use Rattle.unpacking.specs.Unpacking.{number, unpack, counted}
-use Rattle.unpacking.specs.declared.Header.{Header}
-use Rattle.unpacking.specs.Left.{left, Further, TookHeader}
-use Rattle.unpacking.proofs.FrontLaws.{number-front, rest-front}
-use Rattle.unpacking.proofs.Exact.{unpacks-packed, packed-bits}
 use Rattle.unpacking.specs.Ahead.{Ahead}
+use Rattle.unpacking.specs.Unpacking.{number, unpack, counted}
+use Rattle.unpacking.specs.declared.Taken.{Taken}
+use Rattle.unpacking.specs.declared.Header.{Header}
+use Rattle.unpacking.specs.Left.{left, Further, Took, TookHeader}
+use Rattle.unpacking.proofs.FrontLaws.{number-front, rest-front, number-lt}
+use Rattle.unpacking.proofs.Exact.{unpacks-packed, packed-bits}
 use Rattle.unpacking.proofs.Walk.{list-of, ahead-header, ahead-encodable, ahead-data-long, ahead-skip}
 use Rattle.adv7194_playing.specs.Progress.{headed, listed, Accepted}
+
+-- ---- turns of a loop
+
+-- the next turn's number is a byte where their count is
+pub turn-fits : {i n : ℕ} → i < n → n < 2 ^ 8 → i + 1 < 2 ^ 8
+turn-fits h k = omega arith
+
+-- fewer turns are left
+pub turn-less : {i n : ℕ} → i < n → n - (i + 1) < n - i
+turn-less h = omega arith
+
+-- a number of six bits is one of 64
+pub wide : {n : ℕ} → n < 64 → n < 2 ^ 64
+wide h = omega arith
 
 -- ---- data
 
@@ -107,6 +122,12 @@ accepted-long plan e =
     let rest = listBits ts ++ replicate (p .fill) false in
     let bits : byteBits plan ≡ msbFirst 6 (length ts) ++ rest = ap byteBits (u .1) ∙ p .bits in
     omega (arith, byteBits-length plan, ap length bits, length-append (msbFirst 6 (length ts)) rest, msb-length 6 (length ts))
+
+-- its transaction count is a byte
+pub few-counted : (plan : List ℕ) (r : Taken) → Took plan (record { at = 0; count = 0; bits = 0 }) 6 r → r .value < 2 ^ 8
+few-counted plan r t =
+    let bs = left plan (record { at = 0; count = 0; bits = 0 }) in
+    omega (arith, t .value, number-lt 6 bs)
 
 -- a list with no transaction left
 pub none-left : (ts : List Transaction) → length ts ≡ 0 → ts ≡ []

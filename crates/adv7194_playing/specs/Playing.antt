@@ -1,19 +1,36 @@
 -- Document 01, "Refusals": playing takes the address used and the chip's own, checks 1, 2 for either, then 9, and answers the image and whether
 -- every byte was acknowledged. A refusal writes nothing.
+use mathlib.Core.Path.{_≡_}
+use mathlib.Core.Logic.{_⊎_}
 use mathlib.Core.Bool.{Bool, cond, _&&_}
 use mathlib.Core.List.{List}
-use Prim.Native.Nat.{ℕ, _%_}
+use Prim.Native.Nat.{ℕ, _%_, _<_}
 use lib.Dec.{leb, eqb}
 use lib.ListN.{length}
 use Rattle.refusals.specs.Refusal.{Judged, accepted, refused, numberOf}
-use Rattle.bus.specs.Transactions.{Transaction}
+use Rattle.bus.specs.Transactions.{Transaction, Every}
 use Rattle.bus.specs.Chip.{fresh}
 use Rattle.bus.specs.Run.{run, allAcknowledged, listEvents}
 use Rattle.unpacking.specs.Unpacking.{unpack}
 use Rattle.adv7194_bus.specs.Kind.{registerCount, adv7194}
-use Rattle.adv7194_bus.specs.Rules.{allKeepRules}
+use Rattle.adv7194_bus.specs.Rules.{Rules, allKeepRules}
 use Rattle.adv7194_playing.specs.declared.Played.{Played}
 use Rattle.adv7194_playing.specs.declared.Played.the-variants.{Done, Refused}
+
+-- a bus address is at fault: it is odd or above 254
+abbrev pub AddressFault : ℕ → Type 0
+AddressFault a = (a % 2 ≡ 1) ⊎ (254 < a)
+
+-- what playing judges, by the rows of document 01's table, in the order in which they are checked: the transactions to play, or the refusal
+pub data Judges (image : List ℕ) (used own : ℕ) (plan : List ℕ) : Judged (List Transaction) → Type 0 where
+  image-fault : (length image ≡ registerCount → ⊥) → Judges image used own plan (refused 1)
+  address-fault : length image ≡ registerCount → AddressFault used ⊎ AddressFault own → Judges image used own plan (refused 2)
+  packing-fault : length image ≡ registerCount → (AddressFault used ⊎ AddressFault own → ⊥)
+      → ((ts : List Transaction) → unpack plan ≡ accepted ts → ⊥) → Judges image used own plan (refused 9)
+  rules-fault : {ts : List Transaction} → length image ≡ registerCount → (AddressFault used ⊎ AddressFault own → ⊥)
+      → unpack plan ≡ accepted ts → (Every Rules ts → ⊥) → Judges image used own plan (refused 9)
+  no-fault : {ts : List Transaction} → length image ≡ registerCount → (AddressFault used ⊎ AddressFault own → ⊥)
+      → unpack plan ≡ accepted ts → Every Rules ts → Judges image used own plan (accepted ts)
 
 -- a bus address is right where it is even and not above 254
 abbrev pub addressRight : ℕ → Bool
@@ -24,7 +41,8 @@ abbrev pub judgedByRules : Judged (List Transaction) → Judged (List Transactio
 judgedByRules (accepted ts) = cond (allKeepRules ts) (accepted ts) (refused 9)
 judgedByRules (refused n) = refused n
 
--- the transactions to play, or the refusal: 1 for the image, 2 for either address, then 9 for the packing and for the bus rules
+-- the judgement by tests: 1 for the image, 2 for either address, then 9 for the packing and for the bus rules. It is what `Judges` says
+-- (theorem `judges` of proofs/Rows.antt)
 unfoldable pub judged : List ℕ → ℕ → ℕ → List ℕ → Judged (List Transaction)
 judged image used own plan =
     cond (eqb (length image) registerCount)

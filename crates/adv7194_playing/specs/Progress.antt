@@ -1,4 +1,5 @@
--- Playing as the code goes on: what the chip is after some events, and whether every byte so far was acknowledged.
+-- Document 01, "The bus and its three rules": transaction after transaction, each finding the chip as the last one left it. What the code holds
+-- between two events: the chip, and whether every byte so far was acknowledged.
 use mathlib.Core.Path.{_≡_}
 use mathlib.Core.Bool.{Bool, _&&_}
 use mathlib.Core.List.{List, []}

@@ -3,8 +3,8 @@ use mathlib.Core.Path.{_≡_, sym, ap, _∙_}
 use mathlib.Core.Bool.{true, false}
 use Prim.Native.Nat.{_≤_}
 use native.Mathlib.Omega.{arith}
+use lib.Dec.{lit<}
 use lib.ListN.{length}
-use borrow.Author.Needs.{needs}
 use borrow.Author.Tests.{not-true, not-false}
 use denote.Ref.{now}
 use Rattle.refusals.specs.Refusal.{numberOf}
@@ -83,6 +83,9 @@ returns-5 c =
 bytes : (e : tie.Else3) → (start e .args .used ≤ 254) × (start e .args .own ≤ 254)
 bytes e = (right-address (start e .args .used) (used-right e) .0, right-address (start e .args .own) (own-right e) .0)
 
+same-length : tie.Need-same-length
+same-length c = c .before .before .play-all .kept .1 .1 .1 .0
+
 returns-6 : tie.Need-returns-6
 returns-6 c =
     let p = c .before .before in
@@ -100,20 +103,20 @@ pub play-spec : {M : Type 1} → statement M
 play-spec =
     tie.close
     (tie.spec
-    (λ c. search needs)
+    (λ c. record { fits = lit< tt })
     returns
-    (λ c κs. search needs)
+    (λ c κs. tt)
     returns-2
-    (λ c κs. search needs)
+    (λ c κs. tt)
     returns-3
-    (λ c κs. search needs)
-    (λ c. search needs)
-    (λ c. search needs)
+    (λ c κs. tt)
+    (λ c. c .match .keys1)
+    (λ c. c .match .keys2)
     (λ c κs. well c)
     returns-4
     (λ c. omega (arith, bytes (c .before .before .before .before .before) .0))
     (λ c. omega (arith, bytes (c .before .before .before .before .before) .1))
     (λ c κs. (well (c .before .before .before), long (c .before .before .before .before .before .before)))
     returns-5
-    (λ c. search needs)
+    same-length
     returns-6)

@@ -5,23 +5,20 @@ use mathlib.Core.List.{List, [], _∷_}
 use Prim.Native.Nat.{ℕ, _+_, _-_}
 use native.Mathlib.Omega.{arith}
 use lib.ListN.{length}
-use borrow.Author.Needs.{needs}
 use denote.Ref.{now}
 use Rattle.bus.specs.declared.chip.State.{State}
 use Rattle.bus.specs.Transactions.{Transaction}
 use Rattle.bus.specs.Chip.{fresh}
 use Rattle.bus.specs.Run.{transactionEvents, listEvents}
 use Rattle.packing.specs.declared.Pending.{Pending}
-use Rattle.unpacking.specs.Unpacking.{unpack}
-use Rattle.unpacking.specs.Left.{left}
-use Rattle.unpacking.proofs.FrontLaws.{number-lt}
 use Rattle.unpacking.specs.Ahead.{Ahead}
+use Rattle.unpacking.specs.Unpacking.{unpack}
 use Rattle.unpacking.proofs.Walk.{ahead-start, ahead-long}
 use Rattle.adv7194_bus.specs.Kind.{registerCount}
 use Rattle.adv7194_playing.specs.declared.Sent.{Sent}
 use Rattle.adv7194_playing.specs.Progress.{Ended, ended, after, held, listed}
 use Rattle.adv7194_playing.proofs.EventLaws.{after-none, after-transaction}
-use Rattle.adv7194_playing.proofs.PlanLaws.{Next, next-of, Begun, begun, passed, none-left}
+use Rattle.adv7194_playing.proofs.PlanLaws.{Next, next-of, Begun, begun, passed, none-left, few-counted, turn-fits, turn-less}
 use Rattle.adv7194_playing.proofs.play_all.Statement.{statement}
 use Rattle.adv7194_playing.proofs.play_all.Tie as tie
 
@@ -88,11 +85,15 @@ play-transaction-requires c κs =
     let b = header (c .before) in
     (b .ahead .within, b .long, c .before .before .before .loop .inv .kept)
 
+-- the turn that ends here
+abbrev inside : tie.After-next2 Inv-loop μ-loop → tie.In-loop Inv-loop μ-loop
+inside c = c .before .before .before .before .before .before .before
+
 add-i : tie.Need-add-i Inv-loop μ-loop
 add-i c =
-    let i = c .before .before .before .before .before .before .before in
-    let o = i .before .before .before .before in
-    omega (arith, i .loop-test .taken, o .opened .ensures .value, number-lt 6 (left (plan-at (i .before)) (record { at = 0; count = 0; bits = 0 })))
+    let h = inside c .before in
+    let o = h .before .before .before in
+    record { fits = turn-fits (inside c .loop-test .taken) (few-counted (plan-at h) (o .opened .result) (o .opened .ensures)) }
 
 loop-again : tie.Need-loop-again Inv-loop μ-loop
 loop-again c =
@@ -103,15 +104,14 @@ loop-again c =
     let n = turn i in
     let a = start (i .before) .args in
     let e = held (l .all) (l .registers) in
+    let played = p .play-transaction .ensures .0 ∙ ap (λ (t : Transaction). after (a .own) e (transactionEvents (a .used) t)) (header h .transaction) in
     record {
       ts = n .others;
       ahead = passed (plan-at (i .before)) (h .take-header .result) (n .first) (n .others) (p .play-transaction .result .place) (header h) (p .play-transaction .ensures .1);
       turns = omega (arith, l .inv .turns, ap length (n .is));
       kept = p .play-transaction .kept .1 .1 .1 .1 .1 .0 ∙ l .inv .kept;
       goes = l .inv .goes ∙ ap (λ (ts : List Transaction). after (a .own) e (listEvents (a .used) ts)) (n .is)
-          ∙ sym (after-transaction (a .own) (a .used) e (n .first) (n .others))
-          ∙ ap (λ (x : Ended). after (a .own) x (listEvents (a .used) (n .others)))
-          (sym (p .play-transaction .ensures .0 ∙ ap (λ (t : Transaction). after (a .own) e (transactionEvents (a .used) t)) (header h .transaction)));
+          ∙ sym (after-transaction (a .own) (a .used) e (n .first) (n .others)) ∙ ap (λ (x : Ended). after (a .own) x (listEvents (a .used) (n .others))) (sym played);
     }
 
 -- nothing is left to play
@@ -136,12 +136,12 @@ play-all-spec =
     Inv-loop
     μ-loop
     (λ c κs. c .before .before .pre .0)
-    (λ c κs. search needs)
+    (λ c κs. tt)
     loop-holds
     take-header-requires
     play-transaction-requires
     add-i
-    (λ c. omega arith)
+    (λ c. turn-less (inside c .loop-test .taken))
     loop-again
     (λ c. c .before .loop .inv .kept ∙ sym (start (c .before) .pre .1))
     returns)

@@ -7,7 +7,6 @@ use native.Mathlib.Nat.{sub-zero}
 use native.Mathlib.Omega.{arith}
 use lib.ListN.{length, drop, length-drop}
 use lib.Seq.{drop-drop}
-use borrow.Author.Needs.{needs}
 use denote.Ref.{now}
 use Rattle.bits.specs.Strings.{firstBytes}
 use Rattle.bus.specs.declared.chip.Event.the-variants.{FromMaster}
@@ -19,7 +18,7 @@ use Rattle.adv7194_bus.specs.Kind.{registerCount}
 use Rattle.adv7194_playing.specs.declared.Sent.{Sent}
 use Rattle.adv7194_playing.specs.Progress.{Ended, after, held}
 use Rattle.adv7194_playing.proofs.EventLaws.{after-byte}
-use Rattle.adv7194_playing.proofs.PlanLaws.{first-byte}
+use Rattle.adv7194_playing.proofs.PlanLaws.{first-byte, turn-fits, turn-less}
 use Rattle.adv7194_playing.proofs.play_data.Statement.{statement}
 use Rattle.adv7194_playing.proofs.play_data.Tie as tie
 
@@ -68,6 +67,10 @@ take-requires c κs =
 send-requires : tie.Need-send-requires Inv-loop μ-loop
 send-requires c κs = c .before .before .before .loop .inv .kept
 
+-- the turn that ends here
+abbrev inside : tie.After-next Inv-loop μ-loop → tie.In-loop Inv-loop μ-loop
+inside c = c .before .before .before .before .before .before
+
 loop-again : tie.Need-loop-again Inv-loop μ-loop
 loop-again c =
     let s = c .before .before .before in
@@ -91,11 +94,16 @@ loop-again c =
       within = next .within;
       rest = next .rest ∙ ap (drop 8) (l .inv .rest) ∙ drop-drop 8 (l .i * 8) (left plan (start h .args .place)) ∙ ap (λ (k : ℕ). drop k (left plan (start h .args .place))) at;
       long = omega (arith, t .before .loop-test .taken, l .inv .long, ap length (next .rest), length-drop 8 bs);
-      kept = search needs;
+      kept = s .send .kept .1 .1 .1 .0 ∙ l .inv .kept;
       goes = l .inv .goes ∙ ap (λ (b : List ℕ). after own e (dataEvents b)) bytes
           ∙ sym (after-byte own e v (firstBytes n (left plan (t .take .result .next))))
           ∙ ap (λ (x : Ended). after own x (dataEvents (firstBytes n (left plan (t .take .result .next))))) (sym (s .send .ensures));
     }
+
+same-length : tie.Need-same-length Inv-loop μ-loop
+same-length c =
+    let h = c .before .before .before .before .before in
+    c .before .before .send2 .kept .1 .1 .1 .0 ∙ h .loop .inv .kept ∙ sym (start h .pre .2)
 
 returns : tie.Need-returns Inv-loop μ-loop
 unfolding dataEvents firstBytes
@@ -119,9 +127,9 @@ play-data-spec =
     loop-holds
     take-requires
     send-requires
-    (λ c. omega arith)
-    (λ c. omega arith)
+    (λ c. record { fits = turn-fits (inside c .loop-test .taken) (start (inside c .before) .fits .count .fits) })
+    (λ c. turn-less (inside c .loop-test .taken))
     loop-again
     (λ c κs. c .before .before .loop .inv .kept)
-    (λ c. search needs)
+    same-length
     returns)

@@ -2,19 +2,18 @@
 use mathlib.Core.Path.{_≡_, refl, sym, ap, ap₂, _∙_}
 use mathlib.Core.Bool.{Bool, _&&_}
 use mathlib.Core.List.{List, [], _∷_}
-use Prim.Native.Nat.{ℕ, _+_, _-_, _<_}
+use Prim.Native.Nat.{ℕ, _+_, _-_, _^_, _<_}
 use native.Mathlib.Omega.{arith}
 use lib.ListN.{length}
-use borrow.Author.Needs.{needs}
 use borrow.Author.Tests.{not-true, not-false}
 use Rattle.bus.specs.Transactions.{Transaction}
 use Rattle.packing.specs.declared.Pending.{Pending}
-use Rattle.unpacking.specs.Unpacking.{unpack}
 use Rattle.unpacking.specs.Ahead.{Ahead}
+use Rattle.unpacking.specs.Unpacking.{unpack}
 use Rattle.unpacking.proofs.Walk.{ahead-start, ahead-long}
 use Rattle.adv7194_bus.specs.Rules.{keepsRules, allKeepRules}
 use Rattle.adv7194_playing.specs.Progress.{listed}
-use Rattle.adv7194_playing.proofs.PlanLaws.{Next, next-of, Begun, begun, passed, none-left}
+use Rattle.adv7194_playing.proofs.PlanLaws.{Next, next-of, Begun, begun, passed, none-left, few-counted, wide, turn-fits, turn-less}
 use Rattle.adv7194_playing.proofs.rules_kept.Statement.{statement}
 use Rattle.adv7194_playing.proofs.rules_kept.Tie as tie
 
@@ -52,6 +51,12 @@ take-header-requires c κs =
     let n = turn c in
     (n .ahead .within, ahead-long (plan-at (c .before)) (c .before .loop .next) (n .first) (n .others) (n .ahead))
 
+-- there are fewer than 64 transactions
+few : (c : tie.In-loop Inv-loop μ-loop) → c .before .before .before .opened .result .value < 2 ^ 8
+few c =
+    let o = c .before .before .before in
+    few-counted (plan-at (c .before)) (o .opened .result) (o .opened .ensures)
+
 -- its header
 header : (c : tie.After-take-header Inv-loop μ-loop)
     → Begun (plan-at (c .before .before)) (c .take-header .result) (turn (c .before) .first) (turn (c .before) .others)
@@ -71,6 +76,10 @@ tested c e =
 
 returns : tie.Need-returns Inv-loop μ-loop
 returns c = sym (tested (c .before) (not-true _ (c .if1 .taken)))
+
+-- the turn that ends here
+abbrev inside : tie.After-skip Inv-loop μ-loop → tie.In-loop Inv-loop μ-loop
+inside c = c .before .before .before .before .before
 
 loop-again : tie.Need-loop-again Inv-loop μ-loop
 loop-again c =
@@ -100,11 +109,11 @@ rules-kept-spec =
     (λ c κs. c .before .pre)
     loop-holds
     take-header-requires
-    (λ c κs. search needs)
+    (λ c κs. tt)
     returns
-    (λ c. search needs)
+    (λ c. record { fits = wide (header (c .before .before .before) .small) })
     (λ c κs. let b = header (c .before .before .before) in (b .ahead .within, b .some, b .long))
-    (λ c. omega arith)
-    (λ c. omega arith)
+    (λ c. record { fits = turn-fits (inside c .loop-test .taken) (few (inside c)) })
+    (λ c. turn-less (inside c .loop-test .taken))
     loop-again
     returns-2)

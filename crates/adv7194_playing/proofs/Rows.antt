@@ -1,0 +1,77 @@
+-- The judgement by tests is the one that the rows of document 01's table give. Assumes nothing.
+use mathlib.Core.Path.{_≡_, refl, ap, subst, subst⁻¹, _∙_}
+use mathlib.Core.Logic.{_⊎_, inl, inr, ⊎-elim}
+use mathlib.Core.Bool.{Bool, true, false, _&&_}
+use mathlib.Core.List.{List}
+use Prim.Native.Nat.{ℕ, _%_, _<_}
+use native.Mathlib.Omega.{arith}
+use lib.Dec.{T, leb, eqb}
+use lib.ListN.{length}
+use borrow.Author.Tests.{leb-false, eqb-true, eqb-false}
+use Rattle.refusals.specs.Refusal.{Judged, accepted, refused}
+use Rattle.bus.specs.Transactions.{Transaction}
+use Rattle.unpacking.specs.Unpacking.{Unpacks, packs, packs-none, unpack}
+use Rattle.unpacking.proofs.Exact.{judges as unpacking-judges}
+use Rattle.adv7194_bus.specs.Kind.{registerCount}
+use Rattle.adv7194_bus.specs.Rules.{allKeepRules}
+use Rattle.adv7194_bus.proofs.RuleLaws.{agree-all}
+use Rattle.adv7194_playing.specs.Playing.{AddressFault, Judges, image-fault, address-fault, packing-fault, rules-fault, no-fault, addressRight, judged}
+use Rattle.adv7194_playing.proofs.JudgedLaws.{right-address, wrong-length, wrong-used, wrong-own, wrong-packing, by-rules}
+
+-- ---- an address
+
+-- a right address is at no fault, and another is
+no-address-fault : (a : ℕ) → addressRight a ≡ true → AddressFault a → ⊥
+no-address-fault a e f = let r = right-address a e in ⊎-elim (λ p. omega (arith, r .1)) (λ p. omega (arith, r .0)) f
+
+an-address-fault : (a : ℕ) → addressRight a ≡ false → AddressFault a
+an-address-fault a e = go (leb a 254) refl (eqb (a % 2) 0) refl e
+  where
+    go : (x : Bool) → leb a 254 ≡ x → (y : Bool) → eqb (a % 2) 0 ≡ y → (x && y) ≡ false → AddressFault a
+    go true p true q f = let z : _≡_ {A = ℕ} 0 1 = cc in absurd (omega arith)
+    go true p false q f = let odd = eqb-false (a % 2) 0 q in inl (omega arith)
+    go false p y q f = inr (leb-false a 254 p)
+
+-- ---- the rows
+
+-- a packing is refused by 9 and nothing else
+nine : (plan : List ℕ) (n : ℕ) → Unpacks plan (refused n) → _≡_ {A = Judged (List Transaction)} (refused n) (refused 9)
+nine plan n (packs-none f) = refl
+
+module _ (image : List ℕ) (used own : ℕ) (plan : List ℕ) where
+  -- the judgement by tests is one that the rows give
+  abbrev Right : Type 0
+  Right = Judges image used own plan (judged image used own plan)
+
+  -- it is, once the tests have given what a row gives
+  given : {j : Judged (List Transaction)} → judged image used own plan ≡ j → Judges image used own plan j → Right
+  given e r = subst⁻¹ (Judges image used own plan) e r
+
+  module _ (h : length image ≡ registerCount) (e : addressRight used ≡ true) (f : addressRight own ≡ true) where
+    -- neither address is at fault
+    right : AddressFault used ⊎ AddressFault own → ⊥
+    right = ⊎-elim (no-address-fault used e) (no-address-fault own f)
+
+    -- the plan's list decides, then its packing, then the addresses, then the image's length
+    by-list : (ts : List Transaction) → unpack plan ≡ accepted ts → (b : Bool) → allKeepRules ts ≡ b → Right
+    by-list ts p true q = given (by-rules image used own plan h e f ts true p q) (no-fault h right p (agree-all ts .0 (subst⁻¹ T q tt)))
+    by-list ts p false q = given (by-rules image used own plan h e f ts false p q) (rules-fault h right p (λ k. subst T q (agree-all ts .1 k)))
+
+    by-packing : (j : Judged (List Transaction)) → unpack plan ≡ j → Right
+    by-packing (accepted ts) p = by-list ts p (allKeepRules ts) refl
+    by-packing (refused n) p =
+        given (wrong-packing image used own plan h e f n p ∙ nine plan n (subst (Unpacks plan) p (unpacking-judges plan)))
+        (packing-fault h right (λ ts q. let z : _≡_ {A = ℕ} 0 1 = cc in omega arith))
+
+  by-addresses : length image ≡ registerCount → (x : Bool) → addressRight used ≡ x → (y : Bool) → addressRight own ≡ y → Right
+  by-addresses h true e true f = by-packing h e f (unpack plan) refl
+  by-addresses h true e false f = given (wrong-own image used own plan h e f) (address-fault h (inr (an-address-fault own f)))
+  by-addresses h false e y f = given (wrong-used image used own plan h e) (address-fault h (inl (an-address-fault used e)))
+
+  by-length : (b : Bool) → eqb (length image) registerCount ≡ b → Right
+  by-length true e = by-addresses (eqb-true (length image) registerCount e) (addressRight used) refl (addressRight own) refl
+  by-length false e = let h = eqb-false (length image) registerCount e in given (wrong-length image used own plan h) (image-fault h)
+
+  -- the judgement by tests is the one that the rows give
+  pub judges : Judges image used own plan (judged image used own plan)
+  judges = by-length (eqb (length image) registerCount) refl
