@@ -1,0 +1,4 @@
+pub mod Writes
+pub mod Wanted
+pub mod Masks
+pub mod Demand

@@ -1,0 +1,130 @@
+-- The first fault, met field by field. Assumes nothing.
+use mathlib.Core.Path.{_≡_, refl, sym, ap, ap₂, _∙_, subst}
+use mathlib.Core.Bool.{Bool, true, false, cond, not, _&&_, _||_}
+use mathlib.Core.List.{List, [], _∷_, _++_}
+use Prim.Native.Nat.{ℕ}
+use lib.Dec.{T, eqb, eqb→eq}
+use Rattle.refusals.specs.Refusal.{Judged, accepted, refused}
+use Rattle.adv7194_settings.specs.declared.settings.Settings.{Settings}
+use Rattle.adv7194_settings.specs.Order.{Verdict, good, refusedAt, Place, firstOf, placesAt, placesOf, rowsAt}
+use Rattle.adv7194_settings.specs.Rows.{before, together, codingAt, refusedWith, rowHolds}
+use Rattle.adv7194_settings.specs.Codes.{codesIn, codeAt}
+use Rattle.adv7194_settings.specs.Answers.{after, faultOf, faultWhere, codeIn, faultIn}
+use Rattle.adv7194_settings.specs.Groups.{inTurn}
+use Rattle.adv7194_settings.proofs.Codings.{Sound, coding-sound}
+
+abbrev Found : Type 0
+Found = Verdict (Unit {0})
+
+-- ---- verdicts in turn
+
+pub after-good : (v : Found) → after v (good tt) ≡ v
+after-good (good tt) = refl
+after-good (refusedAt n f) = refl
+
+pub after-assoc : {A : Type 0} (u v : Found) (w : Verdict A) → after (after u v) w ≡ after u (after v w)
+after-assoc (good a) v w = refl
+after-assoc (refusedAt n f) v w = refl
+
+-- a place before others
+pub chosen : {A : Type 0} (b : Bool) (n f : ℕ) (v : Verdict A) → cond b (refusedAt n f) v ≡ after (faultWhere b n f) v
+chosen true n f v = refl
+chosen false n f v = refl
+
+-- the places of one list before those of another
+pub first-append : {A : Type 0} (holds : ℕ → ℕ → Bool) (ps qs : List Place) (a : A) → firstOf holds (ps ++ qs) a ≡ after (firstOf holds ps (tt {0})) (firstOf holds qs a)
+unfolding firstOf
+first-append holds [] qs a = refl
+first-append holds (p ∷ ps) qs a =
+    chosen (holds (p .row) (p .field)) (p .row) (p .field) (firstOf holds (ps ++ qs) a)
+    ∙ ap (after (faultWhere (holds (p .row) (p .field)) (p .row) (p .field))) (first-append holds ps qs a)
+    ∙ sym (after-assoc (faultWhere (holds (p .row) (p .field)) (p .row) (p .field)) (firstOf holds ps (tt {0})) (firstOf holds qs a))
+    ∙ ap (λ (v : Found). after v (firstOf holds qs a)) (sym (chosen (holds (p .row) (p .field)) (p .row) (p .field) (firstOf holds ps (tt {0}))))
+
+-- ---- rows 3 and 4
+
+-- rows 3 and 4 at a field, and what comes after them
+pub coding-rows : (f : ℕ) (j : Judged (List ℕ)) (v : Found) → Sound j
+    → cond (refusedWith 3 j) (refusedAt 3 f) (cond (refusedWith 4 j) (refusedAt 4 f) v) ≡ after (faultOf f j) v
+coding-rows f (accepted cs) v h = refl
+coding-rows f (refused n) v h = by (eqb n 3) (eqb n 4) refl refl (h .sound)
+  where
+    by : (a b : Bool) → eqb n 3 ≡ a → eqb n 4 ≡ b → T (a || b) → cond a (refusedAt 3 f) (cond b (refusedAt 4 f) v) ≡ refusedAt n f
+    by true b p q t = ap (λ (k : ℕ). refusedAt k f) (sym (eqb→eq n 3 (subst T (sym p) tt)))
+    by false true p q t = ap (λ (k : ℕ). refusedAt k f) (sym (eqb→eq n 4 (subst T (sym q) tt)))
+    by false false p q t = absurd t
+
+-- ---- fields that hold one number
+
+-- a field's number and the coding of the number that it holds
+pub record Number : Type 0 where
+  pub field : ℕ
+  pub code : Judged ℕ
+
+-- a field that no other one is set against
+abbrev pub alone : ℕ → Bool
+alone f = not (eqb f 3) && (not (eqb f 4) && not (eqb f 11))
+
+-- the fields have these codings
+abbrev pub Coded : Settings → List Number → Type 0
+Coded s [] = Unit {0}
+Coded s (n ∷ ns) = (T (alone (n .field)) × (codingAt s (n .field) ≡ together (n .code ∷ []))) × Coded s ns
+
+-- the faults of some fields, after an earlier one
+abbrev pub noting : Found → List Number → Found
+noting v [] = v
+noting v (n ∷ ns) = noting (after v (faultOf (n .field) (n .code))) ns
+
+-- their field numbers
+abbrev pub numbersOf : List Number → List ℕ
+numbersOf [] = []
+numbersOf (n ∷ ns) = n .field ∷ numbersOf ns
+
+pub one-fault : (f : ℕ) (j : Judged ℕ) → faultOf f (together (j ∷ [])) ≡ faultOf f j
+unfolding together
+one-fault f (accepted c) = refl
+one-fault f (refused n) = refl
+
+-- the rows of such a field
+pub alone-fault : (s : Settings) (f : ℕ) → T (alone f) → firstOf (rowHolds s) (placesAt (rowsAt f) f) (tt {0}) ≡ faultOf f (codingAt s f)
+unfolding firstOf placesAt rowHolds
+alone-fault s f h = by (eqb f 3) (eqb f 4) (eqb f 11) refl refl refl h
+  where
+    by : (a b d : Bool) → eqb f 3 ≡ a → eqb f 4 ≡ b → eqb f 11 ≡ d → T (not a && (not b && not d))
+        → firstOf (rowHolds s) (placesAt (rowsAt f) f) (tt {0}) ≡ faultOf f (codingAt s f)
+    by false false false p q r t = rw (r, p, q) (coding-rows f (codingAt s f) (good tt) (coding-sound s f) ∙ after-good (faultOf f (codingAt s f)))
+    by true b d p q r t = absurd t
+    by false true d p q r t = absurd t
+    by false false true p q r t = absurd t
+
+-- the first fault of some fields is what is noted of them in turn
+pub noted-faults : (s : Settings) (ns : List Number) (v : Found) → Coded s ns → noting v ns ≡ after v (faultIn s (numbersOf ns))
+unfolding faultIn firstOf placesOf
+noted-faults s [] v h = sym (after-good v)
+noted-faults s (n ∷ ns) v h =
+    noted-faults s ns (after v (faultOf (n .field) (n .code))) (h .1)
+    ∙ after-assoc v (faultOf (n .field) (n .code)) (faultIn s (numbersOf ns))
+    ∙ ap (λ (w : Found). after v (after w (faultIn s (numbersOf ns))))
+    (sym (alone-fault s (n .field) (h .0 .0) ∙ ap (faultOf (n .field)) (h .0 .1) ∙ one-fault (n .field) (n .code)))
+    ∙ ap (after v) (sym (first-append (rowHolds s) (placesAt (rowsAt (n .field)) (n .field)) (placesOf (numbersOf ns)) (tt {0})))
+
+-- the code of such a field
+pub number-code : (s : Settings) (f : ℕ) (j : Judged ℕ) → codingAt s f ≡ together (j ∷ []) → codeAt s f ≡ codeIn j
+unfolding codeAt together
+number-code s f (accepted c) e = rw e
+number-code s f (refused n) e = rw e
+
+-- ---- faults noted in turn
+
+-- one more
+pub in-turn : {u v w : Found} {i j : Judged ℕ} (f : ℕ) → w ≡ after u (faultOf f i) → u ≡ v → i ≡ j → w ≡ after v (faultOf f j)
+in-turn f e p q = e ∙ ap₂ (λ (x : Found) (k : Judged ℕ). after x (faultOf f k)) p q
+
+-- one more, where a row holds
+pub in-turn-where : {u v w : Found} {a b : Bool} (n f : ℕ) → w ≡ after u (faultWhere a n f) → u ≡ v → a ≡ b → w ≡ after v (faultWhere b n f)
+in-turn-where n f e p q = e ∙ ap₂ (λ (x : Found) (t : Bool). after x (faultWhere t n f)) p q
+
+-- faults in turn after an earlier one
+pub turn-after : (v : Found) (ws : List Found) → inTurn v ws ≡ after v (inTurn (good tt) ws)
+turn-after v [] = sym (after-good v)
+turn-after v (w ∷ ws) = turn-after (after v w) ws ∙ after-assoc v w (inTurn (good tt) ws) ∙ ap (after v) (sym (turn-after w ws))

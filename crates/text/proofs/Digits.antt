@@ -1,0 +1,71 @@
+-- Laws of decimal text: one more digit at the end, enough steps, never empty, no more digits than the number's power of ten, and read back.
+use mathlib.Core.Path.{_≡_, refl, sym, ap, _∙_}
+use mathlib.Core.List.{List, [], _∷_, _++_, append-assoc}
+use Prim.Native.Nat.{ℕ, zero, suc, _+_, _-_, _*_, _/_, _%_, _^_, _<_, _≤_}
+use native.Mathlib.Nat.{not-suc-le-zero}
+use native.Mathlib.Omega.{arith}
+use lib.Dec.{eqb}
+use lib.ListN.{length, take, drop, set, length-drop, length-set}
+use lib.Seq.{take-all, drop-cons, drop-set-lt, getD-set-same}
+use borrow.Author.Tests.{ne-eqb}
+use Rattle.text.specs.Text.{digit, leading, decimal}
+use Rattle.text.specs.Spelled.{Spelled}
+
+-- 0 has no leading digits
+pub leading-zero : (steps : ℕ) → leading steps 0 ≡ []
+unfolding leading
+leading-zero zero = refl
+leading-zero (suc steps) = refl
+
+-- a positive number's last digit
+pub leading-last : (steps n : ℕ) → 0 < n → leading (suc steps) n ≡ leading steps (n / 10) ++ (digit (n % 10) ∷ [])
+unfolding leading
+leading-last steps n h = rw (ne-eqb n 0 (λ e. omega arith))
+
+-- one step more changes nothing, where fewer are enough for the tens
+enough-more : (steps n : ℕ) → ((m : ℕ) → m ≤ steps → leading (suc steps) m ≡ leading steps m) → n ≤ suc steps → leading (suc (suc steps)) n ≡ leading (suc steps) n
+enough-more steps zero ih h = leading-zero (suc (suc steps)) ∙ sym (leading-zero (suc steps))
+enough-more steps (suc n) ih h =
+    leading-last (suc steps) (suc n) (omega arith)
+    ∙ ap (λ (t : List ℕ). t ++ (digit (suc n % 10) ∷ [])) (ih (suc n / 10) (omega arith))
+    ∙ sym (leading-last steps (suc n) (omega arith))
+
+-- n steps are enough
+enough : (steps n : ℕ) → n ≤ steps → leading (suc steps) n ≡ leading steps n
+enough zero n h = let e : n ≡ 0 = omega arith in rw e (leading-zero 1 ∙ sym (leading-zero 0))
+enough (suc steps) n h = enough-more steps n (enough steps) h
+
+-- with steps enough, the leading digits are those of the tens and then the last
+pub leading-step : (steps n : ℕ) → 0 < n → n ≤ steps → leading steps n ≡ leading steps (n / 10) ++ (digit (n % 10) ∷ [])
+leading-step steps n p h = sym (enough steps n h) ∙ leading-last steps n p
+
+-- what is left after a digit is shorter by one
+pub shorter : (k n : ℕ) → 0 < n → n < 10 ^ k → (0 < k) × (n / 10 < 10 ^ (k - 1))
+shorter zero n p h = omega arith
+shorter (suc k) n p h = let e : suc k - 1 ≡ k = omega arith in (omega arith, rw e (omega arith))
+
+-- the byte before what is written, set to a digit
+pub one-before : (bytes : List ℕ) (first d : ℕ) → 0 < first → first ≤ length bytes → drop (first - 1) (set bytes (first - 1) d) ≡ d ∷ drop first bytes
+one-before bytes first d p h =
+    let k = first - 1 in
+    let e : suc k ≡ first = omega arith in
+    drop-cons (set bytes k d) k 0 (rw (length-set bytes k d) (omega arith))
+    ∙ ap (λ (x : ℕ). x ∷ drop (suc k) (set bytes k d)) (getD-set-same bytes k d 0 (omega arith))
+    ∙ ap (λ (r : List ℕ). d ∷ r) (drop-set-lt (suc k) bytes k d (omega arith))
+    ∙ ap (λ (m : ℕ). d ∷ drop m bytes) e
+
+module _ {n : ℕ} {bytes : List ℕ} {first : ℕ} (s : Spelled n bytes first) where
+  -- how many digits were spelled
+  pub spelled-length : length (decimal n) ≡ 21 - first
+  spelled-length = ap length (sym (s .text)) ∙ length-drop first bytes ∙ ap (λ (k : ℕ). k - first) (s .long)
+
+  -- the part of the bytes that holds them
+  pub spelled-part : take (21 - first) (drop first bytes) ≡ decimal n
+  spelled-part = ap (λ (t : List ℕ). take (21 - first) t) (s .text) ∙ take-all (21 - first) (decimal n) (omega (arith, spelled-length))
+
+  -- the part that holds a byte before them
+  pub signed-part : (d : ℕ) → take (21 - (first - 1)) (drop (first - 1) (set bytes (first - 1) d)) ≡ d ∷ decimal n
+  signed-part d =
+      let b = one-before bytes first d (s .free) (omega (arith, s .some, s .long)) in
+      ap (λ (t : List ℕ). take (21 - (first - 1)) t) (b ∙ ap (λ (t : List ℕ). d ∷ t) (s .text))
+      ∙ take-all (21 - (first - 1)) (d ∷ decimal n) (omega (arith, spelled-length, s .free, s .some))

@@ -1,0 +1,78 @@
+-- `signed` meets its contract: the part appended is the digits of the magnitude, with the sign before them where the number is negative.
+use mathlib.Core.Path.{sym, ap, _∙_, subst}
+use mathlib.Core.Bool.{true, false}
+use mathlib.Core.List.{_∷_}
+use Prim.Native.Nat.{ℕ}
+use native.Mathlib.Omega.{arith}
+use lib.Dec.{T}
+use lib.IntN.{ℤ, natAbs}
+use lib.ListN.{length-set}
+use lib.Signed.{nonNeg}
+use mir.Syntax.{w64}
+use mir.Val.{SFits, Fits}
+use Rattle.text.specs.Line.{placeAfter, appended}
+use Rattle.text.specs.Text.{decimal}
+use Rattle.text.proofs.Digits.{signed-part}
+use Rattle.text.proofs.Signs.{wide, opposite, negative, positive, read-is, minus-is, negated-is, tested, signed-negative, signed-positive}
+use borrow.Author.Needs.{needs}
+use Rattle.text.proofs.number.signed.Statement.{statement}
+use Rattle.text.proofs.number.signed.Tie as tie
+
+cast-spell : tie.Need-cast-spell
+cast-spell c =
+    let z = c .before .before .args .n in
+    let h = c .before .before .fits .n in
+    subst (SFits w64) (sym (read-is z h)) (wide z h)
+
+sub-spell : tie.Need-sub-spell
+sub-spell c =
+    let z = c .before .before .args .n in
+    let h = c .before .before .fits .n in
+    subst (SFits w64) (sym (minus-is z h)) (opposite z h)
+
+cast-spell-2 : tie.Need-cast-spell-2
+cast-spell-2 c =
+    let z = c .before .before .args .n in
+    let h = c .before .before .fits .n in
+    let s = negative z h (tested z h true (c .if1 .taken)) in
+    subst (λ (x : ℤ). T (nonNeg x) × Fits w64 (natAbs x)) (sym (negated-is z h)) (s .0, s .1)
+
+part-append-end : tie.Need-part-append-end
+part-append-end c = simp length-set (omega (arith, c .before .before .before .before .spell .ensures .long))
+
+returns : tie.Need-returns
+returns c =
+    let p = c .before .before in
+    let s = p .before .before .before .before .before .before in
+    let t = s .before in
+    let start = t .before .before in
+    let a = start .args in
+    let h = start .fits .n in
+    let test = tested (a .n) h true (t .if1 .taken) in
+    let e =
+    signed-part (s .spell .ensures) 45
+    ∙ ap (λ (k : ℕ). 45 ∷ decimal k) (ap natAbs (negated-is (a .n) h) ∙ negative (a .n) h test .2)
+    ∙ signed-negative (a .n) test in
+    (p .append .ensures .0 ∙ ap (placeAfter (a .line .now) (a .at)) e, p .append .ensures .1 ∙ ap (appended (a .line .now) (a .at)) e)
+
+cast-decimal : tie.Need-cast-decimal
+cast-decimal c =
+    let start = c .before .before .before in
+    let z = start .args .n in
+    let h = start .fits .n in
+    subst (λ (x : ℤ). T (nonNeg x) × Fits w64 (natAbs x)) (sym (read-is z h)) (positive z h (tested z h false (c .before .if1 .left)))
+
+returns-2 : tie.Need-returns-2
+returns-2 c =
+    let p = c .before .before in
+    let t = p .before .before in
+    let start = t .before .before in
+    let a = start .args in
+    let h = start .fits .n in
+    let e = ap (λ (x : ℤ). decimal (natAbs x)) (read-is (a .n) h) ∙ signed-positive (a .n) (tested (a .n) h false (t .if1 .left)) in
+    (p .decimal .ensures .0 ∙ ap (placeAfter (a .line .now) (a .at)) e, p .decimal .ensures .1 ∙ ap (appended (a .line .now) (a .at)) e)
+
+pub signed-spec : {M : Type 1} → statement M
+signed-spec =
+    tie.close
+    (tie.spec cast-spell sub-spell cast-spell-2 (λ c κs. search needs) (λ c. search needs) (λ c. search needs) (λ c. search needs) (λ c. search needs) part-append-end (λ c κs. search needs) (λ c. search needs) returns cast-decimal (λ c κs. search needs) (λ c. search needs) returns-2)
