@@ -97,20 +97,19 @@ pub(crate) fn kind_of(r19: u8) {
     }
 }
 
+// Payloads, sent in both fields.
+fn payloads(list: &[i32]) {
+    let mut i = 0;
+    while i < list.len() {
+        code_cgms(list[i], 1, 1, 0);
+        i += 1;
+    }
+}
+
 // The cases of CGMS settings.
 fn cgms_cases() {
-    code_cgms(0, 1, 1, 0);
-    code_cgms(1, 1, 1, 0);
-    code_cgms(2, 1, 1, 0);
-    code_cgms(3, 1, 1, 0);
-    code_cgms(4660, 1, 1, 0);
-    code_cgms(5461, 1, 1, 0);
-    code_cgms(10922, 1, 1, 0);
-    code_cgms(16383, 1, 1, 0);
-    code_cgms(-1, 1, 1, 0);
-    code_cgms(16384, 1, 1, 0);
-    code_cgms(-2147483648, 1, 1, 0);
-    code_cgms(2147483647, 1, 1, 0);
+    payloads(&[0, 1, 2, 3, 4660, 5461]);
+    payloads(&[10922, 16383, -1, 16384, -2147483648, 2147483647]);
     code_cgms(0, 0, 0, 0);
     code_cgms(0, 1, 0, 0);
     code_cgms(0, 0, 1, 0);
@@ -144,42 +143,35 @@ fn off_cases() {
     off(0x9A);
 }
 
-// The cases of reading CGMS: good registers, then damaged ones.
-fn read_cgms_cases() {
-    read_cgms(0x61, 0x80, 0x00);
-    read_cgms(0x62, 0xD2, 0x34);
-    read_cgms(0x6B, 0x3F, 0xFF);
-    read_cgms(0x21, 0x80, 0x00);
-    read_cgms(0x71, 0x80, 0x00);
-    read_cgms(0x60, 0x80, 0x00);
-    read_cgms(0x61, 0x00, 0x00);
-    read_cgms(0x61, 0xC0, 0x00);
-    read_cgms(0x69, 0x80, 0x00);
-    read_cgms(0x61, 0x80, 0x01);
-    read_cgms(0xE1, 0x80, 0x00);
-    read_cgms(0x70, 0x80, 0x00);
+// The cases of reading CGMS: three registers each.
+fn read_cgms_cases(list: &[u8]) {
+    let mut i = 0;
+    while 3 <= list.len() - i {
+        read_cgms(list[i], list[i + 1], list[i + 2]);
+        i += 3;
+    }
 }
 
-// The cases of reading WSS: good registers, then damaged ones.
-fn read_wss_cases() {
-    read_wss(0x80, 0x00, 0x01);
-    read_wss(0x80, 0x3F, 0xFE);
-    read_wss(0x80, 0x12, 0x31);
-    read_wss(0x80, 0x00, 0x00);
-    read_wss(0x80, 0x00, 0x03);
-    read_wss(0x80, 0x40, 0x01);
-    read_wss(0x80, 0x80, 0x01);
-    read_wss(0x81, 0x00, 0x01);
-    read_wss(0x90, 0x00, 0x01);
-    read_wss(0x00, 0x00, 0x01);
+// The cases of reading WSS: three registers each.
+fn read_wss_cases(list: &[u8]) {
+    let mut i = 0;
+    while 3 <= list.len() - i {
+        read_wss(list[i], list[i + 1], list[i + 2]);
+        i += 3;
+    }
 }
 
 // All cases of signalling.
 pub(crate) fn cases() {
     cgms_cases();
     wss_cases();
-    read_cgms_cases();
-    read_wss_cases();
+    // Good registers, then damaged ones.
+    read_cgms_cases(
+        b"\x61\x80\x00\x62\xD2\x34\x6B\x3F\xFF\x21\x80\x00\x71\x80\x00\x60\x80\x00\x61\x00\x00\x61\xC0\x00\x69\x80\x00\x61\x80\x01\xE1\x80\x00\x70\x80\x00",
+    );
+    read_wss_cases(
+        b"\x80\x00\x01\x80\x3F\xFE\x80\x12\x31\x80\x00\x00\x80\x00\x03\x80\x40\x01\x80\x80\x01\x81\x00\x01\x90\x00\x01\x00\x00\x01",
+    );
     off_cases();
     codes(Case::Kind, b"kind", 255);
 }
