@@ -18,24 +18,24 @@ down c = hue-small (128 - c .before .before .args .code) _ (omega arith) (c .lea
 up : (c : tie.After-least-multiple2) → c .least-multiple2 .result ≤ 225
 up c = hue-small (c .before .before .args .code - 128) _ (omega arith) (c .least-multiple2 .ensures)
 
+returns : tie.Need-returns
+returns c =
+    ap accepted (negated (c .least-multiple .result) (omega (arith, down c)))
+    ∙ decode-found hue (c .before .before .args .code) _ (hue-down (c .before .before .args .code) _ (omega arith) (c .least-multiple .ensures))
+
+returns-2 : tie.Need-returns-2
+returns-2 c =
+    ap accepted (as-signed (c .least-multiple2 .result) (omega (arith, up c)))
+    ∙ decode-found hue (c .before .before .args .code) _ (hue-up (c .before .before .args .code) _ (omega arith) (omega arith) (c .least-multiple2 .ensures))
+
 cast-t11 : tie.Need-cast-t11
 cast-t11 c = record { sfits = omega (arith, down c) }
 
 sub-t12 : tie.Need-sub-t12
 sub-t12 c = negated-fits (c .least-multiple .result) (omega (arith, down c))
 
-returns : tie.Need-returns
-returns c =
-    ap accepted (negated (c .least-multiple .result) (omega (arith, down c)))
-    ∙ decode-found hue (c .before .before .args .code) _ (hue-down (c .before .before .args .code) _ (omega arith) (c .least-multiple .ensures))
-
 cast-t17 : tie.Need-cast-t17
 cast-t17 c = record { sfits = omega (arith, up c) }
-
-returns-2 : tie.Need-returns-2
-returns-2 c =
-    ap accepted (as-signed (c .least-multiple2 .result) (omega (arith, up c)))
-    ∙ decode-found hue (c .before .before .args .code) _ (hue-up (c .before .before .args .code) _ (omega arith) (omega arith) (c .least-multiple2 .ensures))
 
 pub hue-setting-spec : {M : Type 1} → statement M
 hue-setting-spec =

@@ -35,6 +35,18 @@ signed s = pos 4 +ℤ back w32 (opposite s)
 returns : tie.Need-returns
 returns c = outside-refused clampDelay _ (sym (judged (c .before)) ∙ c .if1 .taken) refl
 
+returns-2 : tie.Need-returns-2
+unfolding codeBy
+returns-2 c =
+    inside-coded clampDelay _ _ (sym (judged (c .before .before)) ∙ c .before .if1 .left)
+    (eqb→eq _ _ (imp→ _ _ (at (λ s. imp (negative s) (eqb (natAbs (back w32 (signed s))) (codeOf clampDelay s))) tt (c .before)) (c .if2 .taken)))
+
+returns-3 : tie.Need-returns-3
+unfolding codeBy
+returns-3 c =
+    inside-coded clampDelay _ _ (sym (judged (c .before .before)) ∙ c .before .if1 .left)
+    (eqb→eq _ _ (imp→not _ _ (at (λ s. imp (not (negative s)) (eqb (natAbs (back w32 s)) (codeOf clampDelay s))) tt (c .before)) (c .if2 .left)))
+
 sub-t5 : tie.Need-sub-t5
 sub-t5 c = fits→ w32 _ (at (λ s. sfitsb w32 (opposite s)) tt (c .before))
 
@@ -47,23 +59,11 @@ cast-t7 c = (
   record { fits = ltb→lt _ _ (at (λ s. ltb (natAbs (back w32 (signed s))) 256) tt (c .before)) },
 )
 
-returns-2 : tie.Need-returns-2
-unfolding codeBy
-returns-2 c =
-    inside-coded clampDelay _ _ (sym (judged (c .before .before)) ∙ c .before .if1 .left)
-    (eqb→eq _ _ (imp→ _ _ (at (λ s. imp (negative s) (eqb (natAbs (back w32 (signed s))) (codeOf clampDelay s))) tt (c .before)) (c .if2 .taken)))
-
 cast-t8 : tie.Need-cast-t8
 cast-t8 c = (
   imp→not _ _ (at (λ s. imp (not (negative s)) (nonNeg (back w32 s))) tt (c .before)) (c .if2 .left),
   record { fits = ltb→lt _ _ (at (λ s. ltb (natAbs (back w32 s)) 256) tt (c .before)) },
 )
-
-returns-3 : tie.Need-returns-3
-unfolding codeBy
-returns-3 c =
-    inside-coded clampDelay _ _ (sym (judged (c .before .before)) ∙ c .before .if1 .left)
-    (eqb→eq _ _ (imp→not _ _ (at (λ s. imp (not (negative s)) (eqb (natAbs (back w32 s)) (codeOf clampDelay s))) tt (c .before)) (c .if2 .left)))
 
 pub clamp-delay-code-spec : {M : Type 1} → statement M
 clamp-delay-code-spec = tie.close (tie.spec (λ c κs. search needs) returns sub-t5 add-t6 cast-t7 returns-2 cast-t8 returns-3)
