@@ -1,5 +1,6 @@
 // The ADV7194 as a chip on the bus: how many registers it has, which of them drop a byte, and the three rules for what is written to them.
 ghost use mathlib.Core.Path.{_≡_};
+ghost use Rattle.adv7194_bus.specs.Address.{addressRight};
 ghost use Rattle.adv7194_bus.specs.Rules.{keepsRules, apart as apartOf};
 
 // How many registers the chip has: 00 to 35.
@@ -22,6 +23,16 @@ const CAPTION_FIRST: u32 = 0x11;
 
 // The last of them.
 const CAPTION_LAST: u32 = 0x14;
+
+// The highest bus address that a chip writes at.
+const HIGHEST_ADDRESS: u32 = 254;
+
+// Whether a number is a bus address that a chip can have: even and at most 254.
+pub fn address_right(address: u32) -> bool
+    ensures answer { λ r. ⌜ r ≡ addressRight address ⌝ }
+{
+    address <= HIGHEST_ADDRESS && address % 2 == 0
+}
 
 // Whether data from a register up to an end are for none of the registers first to last.
 fn apart(start: u32, end: u32, first: u32, last: u32) -> bool

@@ -13,7 +13,8 @@ use Rattle.bus.proofs.Play.{list-elsewhere}
 use Rattle.bus.proofs.Acknowledged.{unacknowledged-elsewhere}
 use Rattle.adv7194_bus.specs.Kind.{adv7194}
 use Rattle.adv7194_playing.specs.Playing.{judged, acknowledgedBy, registersAfter, playOf, playedImage}
-use Rattle.adv7194_playing.proofs.JudgedLaws.{right-address, both-right}
+use Rattle.adv7194_bus.proofs.AddressLaws.{right-address}
+use Rattle.adv7194_playing.proofs.JudgedLaws.{both-right}
 
 -- no byte, none unacknowledged
 nothing-sent : (κ : Kind) (c : Chip) (used : ℕ) → allAcknowledged κ c (listEvents used []) ≡ true

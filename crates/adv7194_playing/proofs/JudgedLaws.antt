@@ -13,16 +13,9 @@ use Rattle.bus.specs.Chip.{fresh}
 use Rattle.bus.specs.Run.{run, allAcknowledged, listEvents}
 use Rattle.unpacking.specs.Unpacking.{unpack, counted}
 use Rattle.adv7194_bus.specs.Kind.{registerCount, adv7194}
+use Rattle.adv7194_bus.specs.Address.{addressRight}
 use Rattle.adv7194_bus.specs.Rules.{allKeepRules}
-use Rattle.adv7194_playing.specs.Playing.{addressRight, judgedByRules, judged, acknowledgedBy, registersAfter, playOf, playedImage}
-
--- a right address is not above 254, and it is even
-pub right-address : (a : ℕ) → addressRight a ≡ true → (a ≤ 254) × (a % 2 ≡ 0)
-right-address a e = split (leb a 254) refl e
-  where
-    split : (b : Bool) → leb a 254 ≡ b → (b && eqb (a % 2) 0) ≡ true → (a ≤ 254) × (a % 2 ≡ 0)
-    split true p q = (leb-true a 254 p, eqb-true (a % 2) 0 q)
-    split false p q = let z : _≡_ {A = ℕ} 0 1 = cc in absurd (omega arith)
+use Rattle.adv7194_playing.specs.Playing.{judgedByRules, judged, acknowledgedBy, registersAfter, playOf, playedImage}
 
 -- a count that was refused is a list that was
 pub refused-list : (j : Judged (List Transaction)) (n : ℕ) → counted j ≡ refused n → j ≡ refused n

@@ -13,24 +13,12 @@ use Rattle.bus.specs.Transactions.{Transaction}
 use Rattle.unpacking.specs.Unpacking.{Unpacks, packs, packs-none, unpack}
 use Rattle.unpacking.proofs.Exact.{judges as unpacking-judges}
 use Rattle.adv7194_bus.specs.Kind.{registerCount}
+use Rattle.adv7194_bus.specs.Address.{AddressFault, addressRight}
 use Rattle.adv7194_bus.specs.Rules.{allKeepRules}
+use Rattle.adv7194_bus.proofs.AddressLaws.{no-address-fault, an-address-fault}
 use Rattle.adv7194_bus.proofs.RuleLaws.{agree-all}
-use Rattle.adv7194_playing.specs.Playing.{AddressFault, Judges, image-fault, address-fault, packing-fault, rules-fault, no-fault, addressRight, judged}
-use Rattle.adv7194_playing.proofs.JudgedLaws.{right-address, wrong-length, wrong-used, wrong-own, wrong-packing, by-rules}
-
--- ---- an address
-
--- a right address is at no fault, and another is
-no-address-fault : (a : ℕ) → addressRight a ≡ true → AddressFault a → ⊥
-no-address-fault a e f = let r = right-address a e in ⊎-elim (λ p. omega (arith, r .1)) (λ p. omega (arith, r .0)) f
-
-an-address-fault : (a : ℕ) → addressRight a ≡ false → AddressFault a
-an-address-fault a e = go (leb a 254) refl (eqb (a % 2) 0) refl e
-  where
-    go : (x : Bool) → leb a 254 ≡ x → (y : Bool) → eqb (a % 2) 0 ≡ y → (x && y) ≡ false → AddressFault a
-    go true p true q f = let z : _≡_ {A = ℕ} 0 1 = cc in absurd (omega arith)
-    go true p false q f = let odd = eqb-false (a % 2) 0 q in inl (omega arith)
-    go false p y q f = inr (leb-false a 254 p)
+use Rattle.adv7194_playing.specs.Playing.{Judges, image-fault, address-fault, packing-fault, rules-fault, no-fault, judged}
+use Rattle.adv7194_playing.proofs.JudgedLaws.{wrong-length, wrong-used, wrong-own, wrong-packing, by-rules}
 
 -- ---- the rows
 

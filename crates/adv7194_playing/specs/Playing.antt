@@ -4,8 +4,8 @@ use mathlib.Core.Path.{_≡_}
 use mathlib.Core.Logic.{_⊎_}
 use mathlib.Core.Bool.{Bool, cond, _&&_}
 use mathlib.Core.List.{List}
-use Prim.Native.Nat.{ℕ, _%_, _<_}
-use lib.Dec.{leb, eqb}
+use Prim.Native.Nat.{ℕ}
+use lib.Dec.{eqb}
 use lib.ListN.{length}
 use Rattle.refusals.specs.Refusal.{Judged, accepted, refused, numberOf}
 use Rattle.bus.specs.Transactions.{Transaction, Every}
@@ -13,13 +13,10 @@ use Rattle.bus.specs.Chip.{fresh}
 use Rattle.bus.specs.Run.{run, allAcknowledged, listEvents}
 use Rattle.unpacking.specs.Unpacking.{unpack}
 use Rattle.adv7194_bus.specs.Kind.{registerCount, adv7194}
+use Rattle.adv7194_bus.specs.Address.{AddressFault, addressRight}
 use Rattle.adv7194_bus.specs.Rules.{Rules, allKeepRules}
 use Rattle.adv7194_playing.specs.declared.Played.{Played}
 use Rattle.adv7194_playing.specs.declared.Played.the-variants.{Done, Refused}
-
--- a bus address is at fault: it is odd or above 254
-abbrev pub AddressFault : ℕ → Type 0
-AddressFault a = (a % 2 ≡ 1) ⊎ (254 < a)
 
 -- what playing judges, by the rows of document 01's table, in the order in which they are checked: the transactions to play, or the refusal
 pub data Judges (image : List ℕ) (used own : ℕ) (plan : List ℕ) : Judged (List Transaction) → Type 0 where
@@ -31,10 +28,6 @@ pub data Judges (image : List ℕ) (used own : ℕ) (plan : List ℕ) : Judged (
       → unpack plan ≡ accepted ts → (Every Rules ts → ⊥) → Judges image used own plan (refused 9)
   no-fault : {ts : List Transaction} → length image ≡ registerCount → (AddressFault used ⊎ AddressFault own → ⊥)
       → unpack plan ≡ accepted ts → Every Rules ts → Judges image used own plan (accepted ts)
-
--- a bus address is right where it is even and not above 254
-abbrev pub addressRight : ℕ → Bool
-addressRight a = leb a 254 && eqb (a % 2) 0
 
 -- transactions that break a bus rule are refused by 9
 abbrev pub judgedByRules : Judged (List Transaction) → Judged (List Transaction)

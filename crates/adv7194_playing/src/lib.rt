@@ -11,10 +11,11 @@ ghost use Rattle.unpacking.specs.Unpacking.{unpack};
 ghost use Rattle.unpacking.specs.Left.{left, Within, Further, Took};
 ghost use Rattle.adv7194_bus.specs.Kind.{registerCount};
 ghost use Rattle.adv7194_bus.specs.Rules.{allKeepRules};
-ghost use Rattle.adv7194_playing.specs.Playing.{addressRight, playOf, playedImage, answerOf};
+ghost use Rattle.adv7194_playing.specs.Playing.{playOf, playedImage, answerOf};
 ghost use Rattle.adv7194_playing.specs.Progress.{after, ended, held, headed, listed, Accepted};
 use adv7194_bus::DROPPED;
 use adv7194_bus::REGISTERS;
+use adv7194_bus::address_right;
 use bus::chip::Acknowledge;
 use bus::chip::Event;
 use bus::chip::State;
@@ -25,9 +26,6 @@ use refusals::Refusal;
 use unpacking::Checked;
 use unpacking::Header;
 use unpacking::Taken;
-
-// The highest bus address that a chip writes at.
-const HIGHEST_ADDRESS: u32 = 254;
 
 // What playing answers: whether every byte was acknowledged, or a refusal.
 pub enum Played {
@@ -187,13 +185,6 @@ fn rules_kept(plan: &[u8]) -> bool
         i += 1;
     }
     true
-}
-
-// Whether a number is a bus address that a chip can have: even and at most 254.
-fn address_right(address: u32) -> bool
-    ensures answer { λ r. ⌜ r ≡ addressRight address ⌝ }
-{
-    address <= HIGHEST_ADDRESS && address % 2 == 0
 }
 
 // Plays a packed plan, sent at the address used, against a fresh chip of its own address that holds the image.

@@ -1,7 +1,7 @@
 -- `address_right` meets its contract. Assumes nothing.
 use borrow.Author.Tests.{le-leb, lt-leb}
-use Rattle.adv7194_playing.proofs.address_right.Statement.{statement}
-use Rattle.adv7194_playing.proofs.address_right.Tie as tie
+use Rattle.adv7194_bus.proofs.address_right.Statement.{statement}
+use Rattle.adv7194_bus.proofs.address_right.Tie as tie
 
 returns : tie.Need-returns
 returns c = rw (le-leb _ _ (c .if1 .taken))
