@@ -1,0 +1,70 @@
+-- A transaction of the plan keeps the three rules, has data, and is one that the packing can hold. Assumes nothing.
+use mathlib.Core.Path.{_≡_, refl, sym, _∙_}
+use mathlib.Core.Logic.{_⊎_, inl, inr, ⊎-elim}
+use mathlib.Core.Bool.{Bool, true, false, false≢true}
+use Prim.Native.Nat.{ℕ, suc, _+_, _-_, _^_, _≤_, _<_}
+use native.Mathlib.Omega.{arith}
+use lib.Dec.{ltb}
+use lib.ListN.{getD, List·getD-eq-default}
+use borrow.Author.Tests.{ltb-true, ltb-false}
+use Rattle.bus.specs.Transactions.{Transaction, size, end, Touches}
+use Rattle.bus.proofs.Acknowledged.{Fits}
+use Rattle.unpacking.proofs.Tests.{Encodable}
+use Rattle.adv7194_bus.specs.Kind.{adv7194}
+use Rattle.adv7194_bus.specs.Rules.{Rules}
+use Rattle.least_cost.proofs.Attained.{Right, later}
+use Rattle.adv7194_least.specs.Plan.{writable, taskFor}
+use Rattle.adv7194_least.proofs.Registers.{among?, Writable, writable-facts}
+use Rattle.adv7194_least.proofs.TaskLaws.{need-word, cut-inside, needed-writable}
+
+module _ (must : ℕ → Bool) (fits : (x : ℕ) → must x ≡ true → writable x ≡ true) (want : ℕ → ℕ) where
+  -- its registers may be written
+  right-writable : (t : Transaction) → Right (taskFor must) want t → (x : ℕ) → Touches t x → Writable x
+  unfolding taskFor
+  right-writable t h x u = writable-facts x (split (later (t .subaddress) x (u .0)))
+    where
+      split : (x ≡ t .subaddress) ⊎ (suc (t .subaddress) ≤ x) → writable x ≡ true
+      split (inl e) = rw e (needed-writable must fits (t .subaddress) (h .first))
+      split (inr a) = h .takes x a (u .1)
+
+  -- where it has one register of the word, it starts at or before the first of them
+  before-word : (t : Transaction) → Right (taskFor must) want t → (x : ℕ) → Touches t x → (0x0c ≤ x) × (x ≤ 0x0f) → t .subaddress ≤ 0x0c
+  unfolding taskFor
+  before-word t h x u w =
+      ⊎-elim
+      (λ a. absurd (false≢true (sym (cut-inside must (t .subaddress) (a .0) (a .1) (sym (need-word must (t .subaddress) (omega arith) (a .1)) ∙ h .first)) ∙ h .opens)))
+      (λ a. ⊎-elim (λ b. omega arith) (λ b. absurd (omega arith)) a) (among? 0x0d 0x0f (t .subaddress))
+
+  -- and ends past the last of them
+  past-word : (t : Transaction) → Right (taskFor must) want t → (x : ℕ) → Touches t x → (0x0c ≤ x) × (x ≤ 0x0f) → 0x0f < end t
+  unfolding taskFor
+  past-word t h x u w =
+      ⊎-elim
+      (λ a. absurd (false≢true (sym (cut-inside must (end t) (a .0) (a .1) (sym (need-word must (end t - 1) (omega arith) (omega arith)) ∙ h .last)) ∙ h .ends)))
+      (λ a. ⊎-elim (λ b. absurd (omega arith)) (λ b. b) a) (among? 0x0d 0x0f (end t))
+
+  -- it keeps the rules
+  pub right-rules : (t : Transaction) → Right (taskFor must) want t → Rules t
+  right-rules t h = record {
+    inside = λ x u. let q = right-writable t h x u in (q .inside, q .kept);
+    whole = λ x u w q v. (omega (arith, before-word t h x u w), omega (arith, past-word t h x u w));
+    captions = λ x u c. ⊎-elim {C = ⊥} (λ z. omega arith) (λ z. omega arith) (right-writable t h x u .quiet);
+  }
+
+  -- the chip has registers for its data
+  pub right-fits : (own : ℕ) (t : Transaction) → Right (taskFor must) want t → Fits (adv7194 own) t
+  right-fits own t h = record { some = h .some; ends = omega (arith, h .some, right-writable t h (end t - 1) (omega (arith, h .some)) .inside) }
+
+  -- the packing can hold it, where the wanted numbers are bytes
+  pub right-encodable : ((x : ℕ) → want x < 2 ^ 8) → (t : Transaction) → Right (taskFor must) want t → Encodable t
+  right-encodable b t h =
+      let e = right-fits 0 t h .ends in
+      let s = h .some in
+      record { subaddress = omega arith; some = s; count = omega arith; bytes = λ i. byte i (ltb i (size t)) refl }
+    where
+      byte : (i : ℕ) (a : Bool) → ltb i (size t) ≡ a → getD (t .bytes) i 0 < 2 ^ 8
+      byte i true e =
+          let d = ltb-true i (size t) e in
+          let q : t .subaddress + i - t .subaddress ≡ i = omega arith in
+          rw (← (rw q at (h .holds (t .subaddress + i) (omega arith)))) at (b (t .subaddress + i))
+      byte i false e = let d = ltb-false i (size t) e in rw (List·getD-eq-default (t .bytes) 0 d) (omega arith)

@@ -1,0 +1,14 @@
+pub mod Registers
+pub mod TaskLaws
+pub mod Differing
+pub mod Keeping
+pub mod Reached
+pub mod Costs
+pub mod PlayedPlan
+pub mod Bridges
+pub mod Room
+pub mod Nothing
+pub mod WantedBytes
+pub mod SettingsBytes
+pub mod WantedChange
+pub mod PlanCases

@@ -1,0 +1,4 @@
+pub mod Change
+pub mod Plan
+pub mod Reaching
+pub mod Demands
