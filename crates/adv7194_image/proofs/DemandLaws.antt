@@ -20,6 +20,7 @@ use Rattle.adv7194_image.specs.Wanted.{write, numberCodes, numberWrites,
 use Rattle.adv7194_image.specs.Masks.{numberMask, blockMask, fieldMask, zeroMask}
 use Rattle.adv7194_image.specs.Demand.{fixedMask, Demanded}
 use Rattle.adv7194_image.proofs.WriteLaws.{AllFit, fit-append, puts-length, puts-bit}
+use Rattle.adv7194_image.proofs.ApartLaws.{allApart, puts-held}
 use Rattle.adv7194_subcarrier.specs.declared.Standard.{Standard}
 use Rattle.adv7194_subcarrier.specs.declared.Standard.the-variants.{Ntsc, Pal}
 
@@ -176,17 +177,25 @@ unfolding writesWith numberWrites fields byteWrites bitAfter zeroMask
 zeroed c Off found = tt
 zeroed c (Sent g) found = tt
 
+-- no two writes set the same bit
+unshared : (c : Codes) (g : Signal) → T (allApart (writesWith c g))
+unfolding writesWith numberWrites fields byteWrites
+unshared c Off = tt
+unshared c (Sent g) = tt
+
 -- ---- demand 2
 
 -- the wanted image of codes that fit is as demand 2 wants it
 pub demanded : (image : List ℕ) (c : Codes) → length image ≡ 54 → CodesFit c → Demanded image c (wantedOf image c)
 unfolding wantedOf writes writesWith
 demanded image c size f =
+    let fit = subst (λ (n : ℕ). AllFit n (writes c)) (sym size) (writes-fit c f) in
     let every : (r i : ℕ) → i < 8 → bit i (getD (puts image (writes c)) r 0) ≡ bitAfter (bit i (getD image r 0)) (writes c) r i =
-    λ r i hi. puts-bit image (writes c) r i hi (subst (λ (n : ℕ). AllFit n (writes c)) (sym size) (writes-fit c f)) in
+    λ r i hi. puts-bit image (writes c) r i hi fit in
     record {
       size = puts-length image (writes c);
       bits = every;
+      fields = puts-held image (writes c) (unshared c (c .signal)) fit;
       zero = λ r i hr hi z.
           every r i hi
           ∙ eqb→eq _ 0 (imp→ _ _ (at-bit (zeroBit c (c .signal) (bit i (getD image r 0))) (zeroed c (c .signal) (bit i (getD image r 0))) r i hr hi) (eq-eqb (bit i (zeroMask r)) 1 z));

@@ -10,7 +10,7 @@ use Rattle.bits.specs.Fields.{bit}
 use Rattle.adv7194_settings.specs.declared.codes.Signal.{Signal}
 use Rattle.adv7194_settings.specs.declared.codes.Signal.the-variants.{Off, Sent}
 use Rattle.adv7194_settings.specs.declared.codes.Codes.{Codes}
-use Rattle.adv7194_image.specs.Writes.{bitAfter}
+use Rattle.adv7194_image.specs.Writes.{bitAfter, AllHeld}
 use Rattle.adv7194_image.specs.Wanted.{writes}
 use Rattle.adv7194_image.specs.Masks.{fieldMask, zeroMask}
 
@@ -24,6 +24,8 @@ pub record Demanded (image : List ℕ) (c : Codes) (out : List ℕ) : Type 0 whe
   pub size : length out ≡ length image
   -- a bit that a code sets is the code's, any other is as found
   pub bits : (r i : ℕ) → i < 8 → bit i (getD out r 0) ≡ bitAfter (bit i (getD image r 0)) (writes c) r i
+  -- each field is as its coding makes it
+  pub fields : AllHeld out (writes c)
   -- must-be-zero bits are zero
   pub zero : (r i : ℕ) → r < 54 → i < 8 → bit i (zeroMask r) ≡ 1 → bit i (getD out r 0) ≡ 0
   -- every other bit is as found
