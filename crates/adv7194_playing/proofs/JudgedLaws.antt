@@ -7,20 +7,15 @@ use native.Mathlib.Omega.{arith}
 use lib.Dec.{leb, eqb}
 use lib.ListN.{length}
 use borrow.Author.Tests.{leb-true, eqb-true, eq-eqb, ne-eqb}
-use Rattle.refusals.specs.Refusal.{Judged, accepted, refused}
+use Rattle.refusals.specs.Refusal.{accepted, refused}
 use Rattle.bus.specs.Transactions.{Transaction}
 use Rattle.bus.specs.Chip.{fresh}
 use Rattle.bus.specs.Run.{run, allAcknowledged, listEvents}
-use Rattle.unpacking.specs.Unpacking.{unpack, counted}
+use Rattle.unpacking.specs.Unpacking.{unpack}
 use Rattle.adv7194_bus.specs.Kind.{registerCount, adv7194}
 use Rattle.adv7194_bus.specs.Address.{addressRight}
 use Rattle.adv7194_bus.specs.Rules.{allKeepRules}
 use Rattle.adv7194_playing.specs.Playing.{judgedByRules, judged, acknowledgedBy, registersAfter, playOf, playedImage}
-
--- a count that was refused is a list that was
-pub refused-list : (j : Judged (List Transaction)) (n : ℕ) → counted j ≡ refused n → j ≡ refused n
-refused-list (accepted ts) n e = let z : _≡_ {A = ℕ} 0 1 = cc in absurd (omega arith)
-refused-list (refused m) n e = cc
 
 module _ (image : List ℕ) (used own : ℕ) (plan : List ℕ) where
   -- ---- the judgement

@@ -1,5 +1,4 @@
 pub mod EventLaws
-pub mod PlanLaws
 pub mod JudgedLaws
 pub mod Rows
 pub mod Elsewhere

@@ -1,19 +1,12 @@
 -- Document 01, "The bus and its three rules": transaction after transaction, each finding the chip as the last one left it. What the code holds
 -- between two events: the chip, and whether every byte so far was acknowledged.
-use mathlib.Core.Path.{_≡_}
 use mathlib.Core.Bool.{Bool, _&&_}
-use mathlib.Core.List.{List, []}
+use mathlib.Core.List.{List}
 use Prim.Native.Nat.{ℕ}
-use Rattle.bits.specs.Strings.{firstBytes}
-use Rattle.refusals.specs.Refusal.{Judged, accepted, refused}
 use Rattle.bus.specs.declared.chip.Event.{Event}
-use Rattle.bus.specs.Transactions.{Transaction}
 use Rattle.bus.specs.Chip.{Chip}
 use Rattle.bus.specs.Run.{run, allAcknowledged}
 use Rattle.bus.specs.Lent.{chipAt}
-use Rattle.unpacking.specs.declared.Header.{Header}
-use Rattle.unpacking.specs.Unpacking.{unpack}
-use Rattle.unpacking.specs.Left.{left}
 use Rattle.adv7194_bus.specs.Kind.{adv7194}
 use Rattle.adv7194_playing.specs.declared.Sent.{Sent}
 
@@ -33,16 +26,3 @@ after own e es = ended (run (adv7194 own) (e .chip) es) (e .acknowledged && allA
 -- as the code holds it, with the registers lent
 abbrev pub held : Sent → List ℕ → Ended
 held s registers = ended (chipAt (s .state .phase) (s .state .pointer) registers) (s .acknowledged)
-
--- the transaction of a header in a plan: as many data as it says, from the place after it on
-abbrev pub headed : List ℕ → Header → Transaction
-headed plan h = record { subaddress = h .subaddress; bytes = firstBytes (h .count) (left plan (h .next)) }
-
--- the transactions of a plan that was accepted
-abbrev pub listed : Judged (List Transaction) → List Transaction
-listed (accepted ts) = ts
-listed (refused n) = []
-
--- the plan is well-formed
-abbrev pub Accepted : List ℕ → Type 0
-Accepted plan = unpack plan ≡ accepted (listed (unpack plan))

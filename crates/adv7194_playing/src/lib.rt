@@ -8,11 +8,12 @@ ghost use Rattle.bits.specs.Strings.{firstBytes};
 ghost use Rattle.bus.specs.Chip.{fresh};
 ghost use Rattle.bus.specs.Run.{passes as passesOf, dataEvents, transactionEvents, listEvents};
 ghost use Rattle.unpacking.specs.Unpacking.{unpack};
-ghost use Rattle.unpacking.specs.Left.{left, Within, Further, Took};
+ghost use Rattle.unpacking.specs.Left.{left, Within, Further};
+ghost use Rattle.unpacking.specs.Ahead.{headed, listed, Accepted};
 ghost use Rattle.adv7194_bus.specs.Kind.{registerCount};
 ghost use Rattle.adv7194_bus.specs.Rules.{allKeepRules};
 ghost use Rattle.adv7194_playing.specs.Playing.{playOf, playedImage, answerOf};
-ghost use Rattle.adv7194_playing.specs.Progress.{after, ended, held, headed, listed, Accepted};
+ghost use Rattle.adv7194_playing.specs.Progress.{after, ended, held};
 use adv7194_bus::DROPPED;
 use adv7194_bus::REGISTERS;
 use adv7194_bus::address_right;
@@ -20,12 +21,11 @@ use bus::chip::Acknowledge;
 use bus::chip::Event;
 use bus::chip::State;
 use packing::BYTE_BITS;
-use packing::FIELD_BITS;
 use packing::Pending;
 use refusals::Refusal;
 use unpacking::Checked;
 use unpacking::Header;
-use unpacking::Taken;
+use unpacking::opened;
 
 // What playing answers: whether every byte was acknowledged, or a refusal.
 pub enum Played {
@@ -129,14 +129,6 @@ fn play_transaction(
     );
     let bytes = header.next;
     play_data(plan, bytes, header.count, pointed, own, registers)
-}
-
-// A plan's transaction count, and the place of its first transaction.
-fn opened(plan: &[u8]) -> Taken
-    requires { ⌜ Accepted (now plan) ⌝ }
-    ensures answer { λ r. ⌜ Took (now (plan .entry)) (record { at = 0; count = 0; bits = 0 }) 6 r ⌝ }
-{
-    unpacking::take(plan, unpacking::start(), FIELD_BITS)
 }
 
 // Plays every transaction of a well-formed plan from a fresh chip on, and answers whether every byte was acknowledged.

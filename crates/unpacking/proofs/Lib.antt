@@ -4,4 +4,5 @@ pub mod Reader
 pub mod Exact
 pub mod LeftLaws
 pub mod Walk
+pub mod PlanLaws
 pub mod Cases

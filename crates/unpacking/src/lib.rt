@@ -5,6 +5,7 @@ ghost use lib.Dec.{leb};
 ghost use lib.ListN.{length};
 ghost use Rattle.unpacking.specs.Unpacking.{unpack, counted};
 ghost use Rattle.unpacking.specs.Left.{left, Within, Further, Took, TookHeader, answerOf};
+ghost use Rattle.unpacking.specs.Ahead.{Accepted};
 use packing::BYTE_BITS;
 use packing::FIELD_BITS;
 use packing::Pending;
@@ -158,4 +159,12 @@ pub fn check(plan: &[u8]) -> Checked
         return Checked::WellFormed(transactions);
     }
     Checked::Refused(Refusal::PlanBytes)
+}
+
+// A well-formed plan's transaction count, and the place of its first transaction.
+pub fn opened(plan: &[u8]) -> Taken
+    requires { ⌜ Accepted (now plan) ⌝ }
+    ensures answer { λ r. ⌜ Took (now (plan .entry)) (record { at = 0; count = 0; bits = 0 }) 6 r ⌝ }
+{
+    take(plan, start(), FIELD_BITS)
 }

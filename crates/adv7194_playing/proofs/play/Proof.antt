@@ -9,13 +9,13 @@ use borrow.Author.Tests.{not-true, not-false}
 use denote.Ref.{now}
 use Rattle.refusals.specs.Refusal.{numberOf}
 use Rattle.unpacking.specs.Unpacking.{unpack}
+use Rattle.unpacking.specs.Ahead.{listed, Accepted}
 use Rattle.unpacking.specs.Left.{answerOf}
+use Rattle.unpacking.proofs.PlanLaws.{accepted-plan, refused-list}
 use Rattle.adv7194_bus.specs.Kind.{registerCount}
 use Rattle.adv7194_bus.specs.Address.{addressRight}
 use Rattle.adv7194_bus.proofs.AddressLaws.{right-address}
-use Rattle.adv7194_playing.specs.Progress.{listed, Accepted}
-use Rattle.adv7194_playing.proofs.PlanLaws.{accepted-plan}
-use Rattle.adv7194_playing.proofs.JudgedLaws.{refused-list, wrong-length, wrong-used, wrong-own, wrong-packing, by-rules, refuse, play}
+use Rattle.adv7194_playing.proofs.JudgedLaws.{wrong-length, wrong-used, wrong-own, wrong-packing, by-rules, refuse, play}
 use Rattle.adv7194_playing.proofs.play.Statement.{statement}
 use Rattle.adv7194_playing.proofs.play.Tie as tie
 

@@ -11,14 +11,14 @@ use Rattle.bus.specs.Transactions.{Transaction}
 use Rattle.bus.specs.Chip.{fresh}
 use Rattle.bus.specs.Run.{transactionEvents, listEvents}
 use Rattle.packing.specs.declared.Pending.{Pending}
-use Rattle.unpacking.specs.Ahead.{Ahead}
+use Rattle.unpacking.specs.Ahead.{Ahead, listed}
 use Rattle.unpacking.specs.Unpacking.{unpack}
 use Rattle.unpacking.proofs.Walk.{ahead-start, ahead-long}
+use Rattle.unpacking.proofs.PlanLaws.{Next, next-of, Begun, begun, passed, none-left, few-counted, turn-fits, turn-less}
 use Rattle.adv7194_bus.specs.Kind.{registerCount}
 use Rattle.adv7194_playing.specs.declared.Sent.{Sent}
-use Rattle.adv7194_playing.specs.Progress.{Ended, ended, after, held, listed}
+use Rattle.adv7194_playing.specs.Progress.{Ended, ended, after, held}
 use Rattle.adv7194_playing.proofs.EventLaws.{after-none, after-transaction}
-use Rattle.adv7194_playing.proofs.PlanLaws.{Next, next-of, Begun, begun, passed, none-left, few-counted, turn-fits, turn-less}
 use Rattle.adv7194_playing.proofs.play_all.Statement.{statement}
 use Rattle.adv7194_playing.proofs.play_all.Tie as tie
 

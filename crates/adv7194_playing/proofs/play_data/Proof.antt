@@ -14,11 +14,11 @@ use Rattle.bus.specs.Run.{dataEvents}
 use Rattle.packing.specs.declared.Pending.{Pending}
 use Rattle.unpacking.specs.Unpacking.{number}
 use Rattle.unpacking.specs.Left.{left, Within}
+use Rattle.unpacking.proofs.PlanLaws.{first-byte, turn-fits, turn-less}
 use Rattle.adv7194_bus.specs.Kind.{registerCount}
 use Rattle.adv7194_playing.specs.declared.Sent.{Sent}
 use Rattle.adv7194_playing.specs.Progress.{Ended, after, held}
 use Rattle.adv7194_playing.proofs.EventLaws.{after-byte}
-use Rattle.adv7194_playing.proofs.PlanLaws.{first-byte, turn-fits, turn-less}
 use Rattle.adv7194_playing.proofs.play_data.Statement.{statement}
 use Rattle.adv7194_playing.proofs.play_data.Tie as tie
 

@@ -2,8 +2,9 @@
 use mathlib.Core.Path.{_≡_, sym, _∙_}
 use lib.ListN.{length}
 use denote.Ref.{now}
+use Rattle.unpacking.specs.Ahead.{headed}
 use Rattle.adv7194_bus.specs.Kind.{registerCount}
-use Rattle.adv7194_playing.specs.Progress.{held, headed}
+use Rattle.adv7194_playing.specs.Progress.{held}
 use Rattle.adv7194_playing.proofs.EventLaws.{after-header}
 use Rattle.adv7194_playing.proofs.play_transaction.Statement.{statement}
 use Rattle.adv7194_playing.proofs.play_transaction.Tie as tie

@@ -8,12 +8,11 @@ use lib.ListN.{length}
 use borrow.Author.Tests.{not-true, not-false}
 use Rattle.bus.specs.Transactions.{Transaction}
 use Rattle.packing.specs.declared.Pending.{Pending}
-use Rattle.unpacking.specs.Ahead.{Ahead}
+use Rattle.unpacking.specs.Ahead.{Ahead, listed}
 use Rattle.unpacking.specs.Unpacking.{unpack}
 use Rattle.unpacking.proofs.Walk.{ahead-start, ahead-long}
+use Rattle.unpacking.proofs.PlanLaws.{Next, next-of, Begun, begun, passed, none-left, few-counted, wide, turn-fits, turn-less}
 use Rattle.adv7194_bus.specs.Rules.{keepsRules, allKeepRules}
-use Rattle.adv7194_playing.specs.Progress.{listed}
-use Rattle.adv7194_playing.proofs.PlanLaws.{Next, next-of, Begun, begun, passed, none-left, few-counted, wide, turn-fits, turn-less}
 use Rattle.adv7194_playing.proofs.rules_kept.Statement.{statement}
 use Rattle.adv7194_playing.proofs.rules_kept.Tie as tie
 

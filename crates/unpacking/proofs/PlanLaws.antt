@@ -1,11 +1,11 @@
--- The data and the transactions that a player finds in a well-formed plan. Assumes nothing.
+-- The data and the transactions that a walk through a well-formed plan finds. Assumes nothing.
 use mathlib.Core.Path.{_≡_, refl, sym, ap, ap₂, _∙_, subst, subst⁻¹}
 use mathlib.Core.Bool.{Bool, false}
 use mathlib.Core.List.{List, [], _∷_, _++_, append-assoc}
 use Prim.Native.Nat.{ℕ, suc, _+_, _-_, _*_, _^_, _≤_, _<_}
 use native.Mathlib.Omega.{arith}
-use lib.ListN.{length, take, drop, getD, replicate, length-append}
-use lib.Seq.{take-append-le}
+use lib.ListN.{length, drop, getD, replicate, length-append, length-drop}
+use lib.Seq.{take-append-le, drop-drop}
 use Rattle.bits.specs.Strings.{msbFirst, msbValue, byteBits, firstBytes}
 use Rattle.bits.proofs.StringLaws.{msb-length}
 use Rattle.bits.proofs.ByteLaws.{byteBits-length}
@@ -13,15 +13,14 @@ use Rattle.refusals.specs.Refusal.{Judged, accepted, refused}
 use Rattle.bus.specs.Transactions.{Transaction, size}
 use Rattle.packing.specs.declared.Pending.{Pending}
 use Rattle.packing.specs.Packing.{listBits}
-use Rattle.unpacking.specs.Ahead.{Ahead}
+use Rattle.unpacking.specs.Ahead.{Ahead, headed, listed, Accepted}
 use Rattle.unpacking.specs.Unpacking.{number, unpack, counted}
 use Rattle.unpacking.specs.declared.Taken.{Taken}
 use Rattle.unpacking.specs.declared.Header.{Header}
-use Rattle.unpacking.specs.Left.{left, Further, Took, TookHeader}
+use Rattle.unpacking.specs.Left.{left, Within, Further, Took, TookHeader}
 use Rattle.unpacking.proofs.FrontLaws.{number-front, rest-front, number-lt}
 use Rattle.unpacking.proofs.Exact.{unpacks-packed, packed-bits}
 use Rattle.unpacking.proofs.Walk.{list-of, ahead-header, ahead-encodable, ahead-data-long, ahead-skip}
-use Rattle.adv7194_playing.specs.Progress.{headed, listed, Accepted}
 
 -- ---- turns of a loop
 
@@ -58,6 +57,46 @@ bytes-first (d ∷ ds) rest h =
 pub ahead-data : (plan : List ℕ) (place : Pending) (ds : List ℕ) (ts : List Transaction) → Ahead plan place ds ts
     → firstBytes (length ds) (left plan place) ≡ ds
 ahead-data plan place ds ts a = ap (firstBytes (length ds)) (a .bits) ∙ bytes-first ds (listBits ts ++ replicate (a .fill) false) (a .bytes)
+
+-- i of count data bytes were taken, from a place on
+pub record Data (plan : List ℕ) (place : Pending) (count : ℕ) (next : Pending) (i : ℕ) : Type 0 where
+  pub turns : i ≤ count
+  pub within : Within plan next
+  pub rest : left plan next ≡ drop (i * 8) (left plan place)
+  pub long : (count - i) * 8 ≤ length (left plan next)
+
+-- none yet
+pub data-begun : (plan : List ℕ) (place : Pending) (count : ℕ) → Within plan place → count * 8 ≤ length (left plan place) → Data plan place count place 0
+data-begun plan place count w h = record { turns = omega arith; within = w; rest = refl; long = omega arith }
+
+module _ {plan : List ℕ} {place : Pending} {count : ℕ} {next : Pending} {i : ℕ} (d : Data plan place count next i) where
+  -- the next one is there
+  pub data-there : i < count → 8 ≤ length (left plan next)
+  data-there h = omega (arith, d .long)
+
+  -- it is the first of those left, and one more was taken
+  pub data-taken : i < count → (r : Taken) → Took plan next 8 r
+      → Data plan place count (r .next) (i + 1) × (firstBytes (count - i) (left plan next) ≡ r .value ∷ firstBytes (count - (i + 1)) (left plan (r .next)))
+  data-taken h r t =
+      let bs = left plan next in
+      let n = count - (i + 1) in
+      let more : count - i ≡ suc n = omega arith in
+      let at : i * 8 + 8 ≡ (i + 1) * 8 = omega arith in (
+        record {
+          turns = omega arith;
+          within = t .next .within;
+          rest = t .next .rest ∙ ap (drop 8) (d .rest) ∙ drop-drop 8 (i * 8) (left plan place) ∙ ap (λ (k : ℕ). drop k (left plan place)) at;
+          long = omega (arith, d .long, ap length (t .next .rest), length-drop 8 bs);
+        },
+        ap (λ (k : ℕ). firstBytes k bs) more ∙ first-byte n bs (data-there h)
+            ∙ ap₂ (λ (x : ℕ) (b : List Bool). x ∷ firstBytes n b) (sym (t .value)) (sym (t .next .rest)),
+      )
+
+  -- all were taken
+  pub data-passed : count ≤ i → Further plan place (count * 8) next
+  data-passed h =
+      let all : i ≡ count = omega (arith, d .turns) in
+      record { within = d .within; rest = d .rest ∙ ap (λ (k : ℕ). drop (k * 8) (left plan place)) all }
 
 -- ---- a transaction
 
@@ -112,6 +151,16 @@ pub accepted-plan : (plan : List ℕ) (n : ℕ) → counted (unpack plan) ≡ ac
 accepted-plan plan n e =
     let p = list-of plan n e in
     p .1 .0 ∙ ap (λ (j : Judged (List Transaction)). accepted (listed j)) (sym (p .1 .0))
+
+-- with as many transactions as were counted
+pub listed-length : (j : Judged (List Transaction)) (n : ℕ) → counted j ≡ accepted n → length (listed j) ≡ n
+listed-length (accepted ts) n e = cc
+listed-length (refused m) n e = let z : _≡_ {A = ℕ} 0 1 = cc in absurd (omega arith)
+
+-- a count that was refused is a list that was
+pub refused-list : (j : Judged (List Transaction)) (n : ℕ) → counted j ≡ refused n → j ≡ refused n
+refused-list (accepted ts) n e = let z : _≡_ {A = ℕ} 0 1 = cc in absurd (omega arith)
+refused-list (refused m) n e = cc
 
 -- it has a byte at least
 pub accepted-long : (plan : List ℕ) → Accepted plan → 0 < length plan

@@ -1,13 +1,11 @@
 -- `opened` meets its contract: the plan has a byte, so six bits are there. Assumes nothing.
-use Prim.Native.Nat.{_≤_}
 use native.Mathlib.Omega.{arith}
 use borrow.Author.Needs.{needs}
 use Rattle.packing.specs.declared.Pending.{Pending}
-use Rattle.unpacking.specs.Left.{left, Took}
 use Rattle.unpacking.proofs.LeftLaws.{left-length}
-use Rattle.adv7194_playing.proofs.PlanLaws.{accepted-long}
-use Rattle.adv7194_playing.proofs.opened.Statement.{statement}
-use Rattle.adv7194_playing.proofs.opened.Tie as tie
+use Rattle.unpacking.proofs.PlanLaws.{accepted-long}
+use Rattle.unpacking.proofs.opened.Statement.{statement}
+use Rattle.unpacking.proofs.opened.Tie as tie
 
 take-requires : tie.Need-take-requires
 take-requires c κs =

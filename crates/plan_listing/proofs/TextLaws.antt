@@ -1,0 +1,70 @@
+-- The text of a plan: how long it is, and that its parts are written one after the other. Assumes nothing.
+use mathlib.Core.Path.{_≡_, refl, ap, _∙_}
+use mathlib.Core.List.{List, [], _∷_, _++_}
+use Prim.Native.Nat.{ℕ, _+_, _*_, _≤_, _<_}
+use native.Mathlib.Omega.{arith}
+use lib.ListN.{length, set, length-append}
+use Rattle.bus.specs.Transactions.{Transaction, size, busBytes}
+use Rattle.bus.specs.Cost.{dataCount}
+use Rattle.text.specs.Line.{appended}
+use Rattle.text.specs.Text.{space, decimal, hexByte}
+use Rattle.text.proofs.Appending.{in-a-row, stored}
+use Rattle.listing.specs.Lines.{countsLine, planLine}
+use Rattle.plan_listing.specs.PlanText.{dataText, transactionLine, transactionLines, planText}
+
+-- ---- lengths
+
+-- the first line: its numbers, and seven bytes
+pub first-length : (n k : ℕ) → length (planLine n k) ≡ length (decimal n) + length (decimal k) + 7
+unfolding countsLine
+first-length n k = simp length-append (omega arith)
+
+-- three bytes a datum, and the line end
+pub data-length : (bs : List ℕ) → length (dataText bs) ≡ 3 * length bs + 1
+unfolding dataText hexByte
+data-length [] = refl
+data-length (b ∷ bs) = omega (arith, data-length bs)
+
+-- three bytes for the subaddress with the line end, and three a datum
+pub line-length : (t : Transaction) → length (transactionLine t) ≡ 3 * (size t + 1)
+unfolding transactionLine hexByte
+line-length t = omega (arith, data-length (t .bytes))
+
+pub lines-length : (ts : List Transaction) → length (transactionLines ts) ≡ 3 * (length ts + dataCount ts)
+unfolding transactionLines dataCount
+lines-length [] = refl
+lines-length (t ∷ ts) = omega (arith, length-append (transactionLine t) (transactionLines ts), line-length t, lines-length ts)
+
+-- the whole
+pub text-length : (ts : List Transaction) → length (planText ts) ≡ length (planLine (length ts) (busBytes ts)) + 3 * (length ts + dataCount ts)
+unfolding planText
+text-length ts = omega (arith, length-append (planLine (length ts) (busBytes ts)) (transactionLines ts), lines-length ts)
+
+-- ---- one part after the other
+
+module _ (out : List ℕ) (at : ℕ) where
+  -- a datum, and then the others
+  pub datum : (b : ℕ) (bs : List ℕ) → at + (3 + length (dataText bs)) ≤ length out
+      → appended (appended (set out at 0x20) (at + 1) (hexByte b)) (at + 3) (dataText bs) ≡ appended out at (dataText (b ∷ bs))
+  unfolding dataText hexByte
+  datum b bs h =
+      ap (λ (l : List ℕ). appended (appended l (at + 1) (hexByte b)) (at + 3) (dataText bs)) (stored out at 0x20 (omega arith))
+      ∙ ap (λ (l : List ℕ). appended l (at + 3) (dataText bs)) (in-a-row out at space (hexByte b) (omega arith))
+      ∙ in-a-row out at (space ++ hexByte b) (dataText bs) h
+
+  -- no datum more: the line end
+  pub no-datum : at < length out → set out at 0x0a ≡ appended out at (dataText [])
+  unfolding dataText
+  no-datum h = stored out at 0x0a h
+
+  -- a subaddress, and then the data
+  pub line : (t : Transaction) → at + (2 + length (dataText (t .bytes))) ≤ length out
+      → appended (appended out at (hexByte (t .subaddress))) (at + 2) (dataText (t .bytes)) ≡ appended out at (transactionLine t)
+  unfolding transactionLine hexByte
+  line t h = in-a-row out at (hexByte (t .subaddress)) (dataText (t .bytes)) h
+
+  -- a line, and then the others
+  pub lines : (t : Transaction) (ts : List Transaction) → at + (length (transactionLine t) + length (transactionLines ts)) ≤ length out
+      → appended (appended out at (transactionLine t)) (at + length (transactionLine t)) (transactionLines ts) ≡ appended out at (transactionLines (t ∷ ts))
+  unfolding transactionLines
+  lines t ts h = in-a-row out at (transactionLine t) (transactionLines ts) h

@@ -1,0 +1,147 @@
+// The text of a packed plan: transactions and bus bytes, then a line a transaction.
+ghost use mathlib.Core.Path.{_≡_};
+ghost use Prim.Native.Nat.{_+_, _*_, _^_, _≤_, _<_};
+ghost use lib.ListN.{length};
+ghost use Rattle.bus.specs.Cost.{dataCount};
+ghost use Rattle.unpacking.specs.Unpacking.{unpack};
+ghost use Rattle.unpacking.specs.Left.{left, Within, Further};
+ghost use Rattle.unpacking.specs.Ahead.{headed, listed, Accepted};
+ghost use Rattle.text.specs.Line.{placeAfter, appended};
+ghost use Rattle.listing.specs.Lines.{planLine};
+ghost use Rattle.plan_listing.specs.PlanText.{transactionLine, transactionLines, planText};
+ghost use Rattle.plan_listing.specs.Listing.{listingOf, listingIn, listedAs};
+use packing::BYTE_BITS;
+use packing::Pending;
+use refusals::Refusal;
+use text::Place;
+use unpacking::Checked;
+use unpacking::Header;
+
+// The digits of a byte.
+const HEX_DIGITS: usize = 2;
+// The text of a subaddress or a datum: its digits, and a space or the line end.
+const BYTE_TEXT: usize = 3;
+// The first line without its numbers: the word, two spaces and the line end.
+const PLAN_LINE_FIXED: usize = 7;
+
+// What listing answers: the place after the text, that the memory lent is too short, or a refusal.
+pub enum Listed {
+    After(usize),
+    TooShort,
+    Refused(Refusal),
+}
+
+// The places after a line: in the text, and in the plan.
+struct Progress {
+    end: usize,
+    next: Pending,
+}
+
+// How many data bytes a well-formed plan has in all.
+fn data_bytes(plan: &[u8]) -> u32
+    requires { ⌜ Accepted (now plan) ⌝ }
+    ensures answer { λ r. ⌜ r ≡ dataCount (listed (unpack (now (plan .entry)))) ⌝ }
+    ensures most { λ r. ⌜ r < 2 ^ 16 ⌝ }
+{
+    let first = unpacking::opened(plan);
+    let transactions = first.value;
+    let mut next = first.next;
+    let mut all: u32 = 0;
+    let mut i: u8 = 0;
+    while i < transactions {
+        let header = unpacking::take_header(plan, next);
+        let count = header.count;
+        let bytes = header.next;
+        next = unpacking::skip(plan, bytes, count as usize);
+        all += count as u32;
+        i += 1;
+    }
+    all
+}
+
+// How many bytes the first line takes.
+fn plan_line_length(transactions: u64, bytes: u64) -> usize
+    ensures answer { λ r. ⌜ r ≡ length (planLine transactions bytes) ⌝ }
+    ensures most { λ r. ⌜ r ≤ 47 ⌝ }
+{
+    text::decimal_length(transactions) + text::decimal_length(bytes) + PLAN_LINE_FIXED
+}
+
+// Writes the line of the transaction whose header was taken, where there is room for it.
+fn put_line(out: &mut [u8], at: usize, plan: &[u8], header: Header) -> Progress
+    requires { ⌜ Within (now plan) (header .next) × (header .count < 64) × (header .count * 8 ≤ length (left (now plan) (header .next))) × (at + 3 * (header .count + 1) ≤ length (now out)) ⌝ }
+    ensures answer { λ r. ⌜ r .end ≡ at + 3 * (header .count + 1) ⌝ }
+    ensures memory { λ r. ⌜ now (out .exit) ≡ appended (now (out .entry)) at (transactionLine (headed (now (plan .entry)) header)) ⌝ }
+    ensures further { λ r. ⌜ Further (now (plan .entry)) (header .next) (header .count * 8) (r .next) ⌝ }
+{
+    text::hex_byte(out, at, header.subaddress);
+    let count = header.count;
+    let mut end = at + HEX_DIGITS;
+    let mut next = header.next;
+    let mut i: u8 = 0;
+    while i < count {
+        let taken = unpacking::take(plan, next, BYTE_BITS);
+        out[end] = b' ';
+        text::hex_byte(out, end + 1, taken.value);
+        end += BYTE_TEXT;
+        next = taken.next;
+        i += 1;
+    }
+    out[end] = b'\n';
+    Progress {
+        end: end + 1,
+        next: next,
+    }
+}
+
+// Writes a line a transaction of a well-formed plan, where there is room for them, and answers the place after them.
+fn put_lines(out: &mut [u8], at: usize, plan: &[u8]) -> usize
+    requires { ⌜ Accepted (now plan) × (at + length (transactionLines (listed (unpack (now plan)))) ≤ length (now out)) ⌝ }
+    ensures answer { λ r. ⌜ r ≡ at + length (transactionLines (listed (unpack (now (plan .entry))))) ⌝ }
+    ensures memory { λ r. ⌜ now (out .exit) ≡ appended (now (out .entry)) at (transactionLines (listed (unpack (now (plan .entry))))) ⌝ }
+{
+    let first = unpacking::opened(plan);
+    let transactions = first.value;
+    let mut next = first.next;
+    let mut end = at;
+    let mut lines: u8 = 0;
+    while lines < transactions {
+        let header = unpacking::take_header(plan, next);
+        let progress = put_line(out, end, plan, header);
+        end = progress.end;
+        next = progress.next;
+        lines += 1;
+    }
+    end
+}
+
+// Writes the text of a well-formed plan with that many transactions, or nothing where there is no room for all of it.
+fn put_plan(out: &mut [u8], plan: &[u8], transactions: u8) -> Place
+    requires { ⌜ Accepted (now plan) × (length (listed (unpack (now plan))) ≡ transactions) ⌝ }
+    ensures answer { λ r. ⌜ r ≡ placeAfter (now (out .entry)) 0 (planText (listed (unpack (now (plan .entry))))) ⌝ }
+    ensures memory { λ r. ⌜ now (out .exit) ≡ appended (now (out .entry)) 0 (planText (listed (unpack (now (plan .entry))))) ⌝ }
+{
+    let data = data_bytes(plan);
+    let bytes = bus::cost::bus_bytes(transactions as u32, data);
+    let first = plan_line_length(transactions as u64, bytes);
+    let lines = BYTE_TEXT * (transactions as usize + data as usize);
+    if out.len() < first + lines {
+        return Place::TooShort;
+    }
+    listing::plan_line(out, transactions as u64, bytes);
+    Place::After(put_lines(out, first, plan))
+}
+
+// Writes the text of a packed plan at the front of the memory lent.
+pub fn list_plan(out: &mut [u8], plan: &[u8]) -> Listed
+    ensures answer { λ r. ⌜ listedAs r ≡ listingOf (unpack (now (plan .entry))) (now (out .entry)) ⌝ }
+    ensures memory { λ r. ⌜ now (out .exit) ≡ listingIn (unpack (now (plan .entry))) (now (out .entry)) ⌝ }
+{
+    match unpacking::check(plan) {
+        Checked::Refused(refusal) => Listed::Refused(refusal),
+        Checked::WellFormed(transactions) => match put_plan(out, plan, transactions) {
+            Place::After(end) => Listed::After(end),
+            Place::TooShort => Listed::TooShort,
+        },
+    }
+}
