@@ -1,0 +1,5 @@
+pub mod CaseLaws
+pub mod ExactLaws
+pub mod RegisterMaps
+pub mod Clauses
+pub mod MapPlan

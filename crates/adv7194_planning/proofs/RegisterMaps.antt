@@ -1,0 +1,87 @@
+-- A map against a test on registers, and the needed registers as a map. Assumes nothing.
+use mathlib.Core.Path.{_≡_, refl, sym, ap, _∙_}
+use mathlib.Core.Logic.{inr}
+use mathlib.Core.Bool.{Bool, true, false, cond, not, _&&_, _||_, or-true, or-false}
+use Prim.Native.Nat.{ℕ, _^_, _≤_, _<_}
+use native.Mathlib.Omega.{arith}
+use lib.Bits.{bitAnd, bitOr, and-le-l}
+use lib.Dec.{T, ltb, lit<}
+use borrow.Author.Tests.{ltb-true, ltb-false}
+use Rattle.rounding.proofs.Range.{below, below-at}
+use Rattle.bits.specs.Maps.{has, mapBits, clearRun}
+use Rattle.bits.proofs.MapLaws.{least}
+use Rattle.bits.proofs.SetLaws.{has-and, has-or}
+use Rattle.planning.proofs.ShiftLaws.{has-past}
+use Rattle.adv7194_least.specs.Plan.{inWord, wordIn, withWord}
+use Rattle.adv7194_least.proofs.Registers.{both-true, among-true, among-out}
+use Rattle.adv7194_least.proofs.TaskLaws.{need-word, must-needed}
+
+-- ---- a map against a test on registers
+
+-- two tests agree
+abbrev pub agree : Bool → Bool → Bool
+agree true b = b
+agree false b = not b
+
+agrees : (a b : Bool) → T (agree a b) → a ≡ b
+agrees true true t = refl
+agrees true false t = absurd t
+agrees false true t = absurd t
+agrees false false t = refl
+
+-- a map has the registers that pass a test, where it does below 64 and none beyond passes
+pub map-is : (m : ℕ) (test : ℕ → Bool) → m < 2 ^ 64 → T (below (λ i. agree (has m i) (test i)) 64) → ((i : ℕ) → 64 ≤ i → test i ≡ false)
+    → (i : ℕ) → has m i ≡ test i
+map-is m test small same past i = split (ltb i 64) refl
+  where
+    split : (b : Bool) → ltb i 64 ≡ b → has m i ≡ test i
+    split true e = agrees (has m i) (test i) (below-at (λ i. agree (has m i) (test i)) 64 same i (ltb-true i 64 e))
+    split false e = let h = ltb-false i 64 e in has-past 64 m i small h ∙ sym (past i h)
+
+-- the word's registers
+abbrev wordMap : ℕ
+wordMap = 0xF000
+
+word-is : (i : ℕ) → has wordMap i ≡ inWord i
+word-is = map-is wordMap inWord (lit< tt) tt (λ i h. among-out 0x0c 0x0f i (inr (omega arith)))
+
+-- ---- the needed registers
+
+module _ (d : ℕ) where
+  in-both : (i : ℕ) → has (bitAnd d wordMap) i ≡ (has d i && inWord i)
+  in-both i = has-and d wordMap i ∙ ap (λ (b : Bool). has d i && b) (word-is i)
+
+  -- where no register of the word differs
+  pub none-in-word : bitAnd d wordMap ≡ 0 → (i : ℕ) → has d i ≡ withWord (has d) i
+  none-in-word e i = split (inWord i) refl
+    where
+      none : (r : ℕ) → (has d r && inWord r) ≡ false
+      none r = sym (in-both r) ∙ ap (λ (m : ℕ). has m r) e ∙ has-past 0 0 r (omega arith) (omega arith)
+
+      out : (a : Bool) → (a && true) ≡ false → a ≡ false
+      out true p = p
+      out false p = refl
+
+      no-word : wordIn (has d) ≡ false
+      no-word = rw (out (has d 0x0c) (none 0x0c), out (has d 0x0d) (none 0x0d), out (has d 0x0e) (none 0x0e), out (has d 0x0f) (none 0x0f))
+
+      split : (b : Bool) → inWord i ≡ b → has d i ≡ cond b (wordIn (has d)) (has d i)
+      split true p = out (has d i) (sym (ap (λ (b : Bool). has d i && b) p) ∙ none i) ∙ sym no-word
+      split false p = refl
+
+  -- where one does
+  pub some-in-word : d < 2 ^ 64 → (bitAnd d wordMap ≡ 0 → ⊥) → (i : ℕ) → has (bitOr d wordMap) i ≡ withWord (has d) i
+  some-in-word h n i = has-or d wordMap i ∙ ap (λ (b : Bool). has d i || b) (word-is i) ∙ split (inWord i)
+    where
+      word : wordIn (has d) ≡ true
+      word =
+          let m = bitAnd d wordMap in
+          let r = clearRun (mapBits m) in
+          let l = least 64 m (omega arith) (omega (arith, and-le-l d wordMap)) in
+          let q = both-true (has d r) (inWord r) (sym (in-both r) ∙ rw (l .isset)) in
+          let a = among-true 0x0c 0x0f r (q .1) in
+          sym (need-word (has d) r (a .0) (a .1)) ∙ must-needed (has d) r (q .0)
+
+      split : (b : Bool) → (has d i || b) ≡ cond b (wordIn (has d)) (has d i)
+      split true = or-true (has d i) ∙ sym word
+      split false = or-false (has d i)

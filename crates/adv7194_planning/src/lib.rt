@@ -1,0 +1,107 @@
+// Planning: the fewest register writes that turn an image into what settings mean, packed into a lent plan.
+ghost use mathlib.Core.Path.{_≡_};
+ghost use Prim.Native.Nat.{ℕ, _<_};
+ghost use lib.ListN.{length, take};
+ghost use Rattle.planning.specs.Plan.{packingOf, planAfter};
+ghost use Rattle.adv7194_settings.specs.Order.{refusedAt};
+ghost use Rattle.adv7194_image.specs.Wanted.{wantedOf, CodesFit};
+ghost use Rattle.adv7194_least.specs.Change.{Change};
+ghost use Rattle.adv7194_least.specs.Plan.{planOf};
+ghost use Rattle.adv7194_least.specs.Demands.{Played, Counted, Least, Only, mostBytes};
+ghost use Rattle.adv7194_planning.specs.Rows.{wantedBy, listOf};
+ghost use Rattle.adv7194_planning.specs.Planning.{planningOf, planLeft, withoutField, done, answerOf};
+use crate::image::wanted_image;
+use crate::registers::needed_registers;
+use crate::registers::writable_registers;
+use adv7194_bus::REGISTERS;
+use adv7194_bus::address_right;
+use adv7194_settings::Checked;
+use adv7194_settings::check;
+use adv7194_settings::codes::Codes;
+use adv7194_settings::settings::Settings;
+use planning::maps::differing;
+use planning::plan::Packed;
+use planning::plan::pack;
+use refusals::Refusal;
+
+mod image;
+mod registers;
+
+// The field number of a refusal that belongs to no field.
+const NO_FIELD: u8 = 0;
+
+// What planning answers: how many bytes and transactions the packed plan has and what it costs on the bus, or a refusal with its field.
+pub enum Planned {
+    Done {
+        length: u32,
+        transactions: u32,
+        bus_bytes: u32,
+    },
+    Refused {
+        refusal: Refusal,
+        field: u8,
+    },
+}
+
+// Plans the change from an image to a wanted one, into the lent plan.
+fn plan_change(image: &[u8], wanted: &[u8], plan: &mut [u8]) -> Planned
+    requires { ⌜ Change (now image) (now wanted) ⌝ }
+    ensures answer { λ r. ⌜ answerOf r ≡ withoutField (packingOf (planOf (now (image .entry)) (now (wanted .entry))) (length (now (plan .entry)))) ⌝ }
+    ensures memory { λ r. ⌜ now (plan .exit) ≡ planAfter (planOf (now (image .entry)) (now (wanted .entry))) (now (plan .entry)) ⌝ }
+{
+    let needed = needed_registers(differing(image, wanted));
+    let writable = writable_registers();
+    match pack(plan, needed, writable, wanted) {
+        Packed::TooShort => Planned::Refused {
+            refusal: Refusal::PlanRoom,
+            field: NO_FIELD,
+        },
+        Packed::Done {
+            length,
+            transactions,
+            bus_bytes,
+        } => Planned::Done {
+            length,
+            transactions,
+            bus_bytes,
+        },
+    }
+}
+
+// Plans codes over an image, into the lent plan.
+fn plan_codes(image: &[u8], codes: Codes, plan: &mut [u8]) -> Planned
+    requires { ⌜ Change (now image) (wantedOf (now image) codes) × CodesFit codes ⌝ }
+    ensures answer { λ r. ⌜ answerOf r ≡ withoutField (packingOf (planOf (now (image .entry)) (wantedOf (now (image .entry)) codes)) (length (now (plan .entry)))) ⌝ }
+    ensures memory { λ r. ⌜ now (plan .exit) ≡ planAfter (planOf (now (image .entry)) (wantedOf (now (image .entry)) codes)) (now (plan .entry)) ⌝ }
+{
+    let wanted = wanted_image(image, codes);
+    plan_change(image, &wanted, plan)
+}
+
+// Plans the settings over an image, for the chip at a bus address, into the lent plan.
+pub fn plan(image: &[u8], settings: Settings, address: u32, plan: &mut [u8]) -> Planned
+    ensures answer { λ r. ⌜ answerOf r ≡ planningOf (now (image .entry)) settings address (length (now (plan .entry))) ⌝ }
+    ensures memory { λ r. ⌜ now (plan .exit) ≡ planLeft (now (image .entry)) settings address (now (plan .entry)) ⌝ }
+    ensures counted { λ r. ⌜ ((l t b : ℕ) → answerOf r ≡ done l t b → Counted (take l (now (plan .exit))) l t b) ⌝ }
+    ensures played { λ r. ⌜ ((l t b : ℕ) → answerOf r ≡ done l t b → Played (now (image .entry)) (wantedBy (now (image .entry)) settings) (take l (now (plan .exit)))) ⌝ }
+    ensures least { λ r. ⌜ ((l t b : ℕ) → answerOf r ≡ done l t b → Least (now (image .entry)) (wantedBy (now (image .entry)) settings) t b) ⌝ }
+    ensures only { λ r. ⌜ ((l t b : ℕ) → answerOf r ≡ done l t b → Only (now (image .entry)) (wantedBy (now (image .entry)) settings) (listOf (now (image .entry)) settings)) ⌝ }
+    ensures room { λ r. ⌜ ((f : ℕ) → answerOf r ≡ refusedAt 10 f → length (now (plan .entry)) < mostBytes) ⌝ }
+{
+    if image.len() != REGISTERS as usize {
+        return Planned::Refused {
+            refusal: Refusal::ImageLength,
+            field: NO_FIELD,
+        };
+    }
+    if !address_right(address) {
+        return Planned::Refused {
+            refusal: Refusal::BusAddress,
+            field: NO_FIELD,
+        };
+    }
+    match check(settings) {
+        Checked::Refused { refusal, field } => Planned::Refused { refusal, field },
+        Checked::Good(codes) => plan_codes(image, codes, plan),
+    }
+}
