@@ -1,0 +1,4 @@
+pub mod SignalLaws
+pub mod SignalHeldLaws
+pub mod SubcarrierLaws
+pub mod PartLaws

@@ -1,0 +1,44 @@
+// What the fields' readers share: the code in a field's bits, the must-be-zero bits of a register, and a setting compared.
+ghost use mathlib.Core.Path.{_≡_};
+ghost use mathlib.Core.Bool.{not};
+ghost use Prim.Native.Nat.{_+_, _≤_, _<_};
+ghost use lib.Bits.{bitAnd};
+ghost use lib.Dec.{eqb};
+ghost use lib.ListN.{length};
+ghost use Rattle.bits.specs.Fields.{field};
+ghost use Rattle.adv7194_image.specs.Masks.{zeroMask};
+ghost use Rattle.adv7194_settings.specs.Rows.{is as isOf};
+ghost use Rattle.adv7194_reading_groups.specs.Held.{byteAt};
+
+// The registers of an image.
+pub const REGISTERS: usize = 54;
+
+// The settings that rows name.
+pub const YES: u8 = 1;
+
+pub const NTSC: u8 = 0;
+
+pub const PAL: u8 = 1;
+
+// The code in some bits of a register: width bits from bit place up.
+pub fn code(image: &[u8], register: usize, place: u8, width: u8) -> u8
+    requires { ⌜ (register < length (now image)) × (place + width ≤ 8) ⌝ }
+    ensures answer { λ r. ⌜ r ≡ field place width (byteAt (now (image .entry)) register) ⌝ }
+{
+    bits::fields::field(image[register], place, width)
+}
+
+// Whether a must-be-zero bit of a register is set.
+pub fn zero_bit_set(image: &[u8], register: usize) -> bool
+    requires { ⌜ (register < length (now image)) × (register < 54) ⌝ }
+    ensures answer { λ r. ⌜ r ≡ not (eqb (bitAnd (byteAt (now (image .entry)) register) (zeroMask register)) 0) ⌝ }
+{
+    image[register] & adv7194_image::must_be_zero(register) != 0
+}
+
+// Whether a setting is this number.
+pub fn is(setting: i32, number: u8) -> bool
+    ensures answer { λ r. ⌜ r ≡ isOf number setting ⌝ }
+{
+    setting == number as i32
+}

@@ -1,0 +1,14 @@
+pub mod FirstLaws
+pub mod NumberLaws
+pub mod ByteLaws
+pub mod PartLaws
+pub mod SignalLaws
+pub mod CodeLaws
+pub mod HeldLaws
+pub mod ReadMeans
+pub mod NarrowLaws
+pub mod InsideLaws
+pub mod SmallLaws
+pub mod SignalBack
+pub mod PassedLaws
+pub mod WantedReads
