@@ -1,0 +1,50 @@
+// The images that settings mean, over zeros and over ones.
+ghost use mathlib.Core.Path.{_≡_};
+ghost use lib.ListN.{length};
+use crate::print;
+use adv7194_settings::Checked;
+
+// How many registers an image has.
+const REGISTERS: usize = 54;
+
+// The bytes of an image.
+fn registers(image: &[u8; 54]) {
+    let mut i = 0;
+    while i < REGISTERS {
+        print::byte(image[i]);
+        i += 1;
+    }
+}
+
+// The lent image becomes the one that settings mean; whether they are accepted.
+fn wanted(numbers: &[i32], image: &mut [u8; 54]) -> bool
+    requires { ⌜ length (now numbers) ≡ 49 ⌝ }
+{
+    let checked = adv7194_settings::check(adv7194_numbers::settings_of(numbers));
+    let Checked::Good(codes) = checked else {
+        return false;
+    };
+    adv7194_image::want(image, codes);
+    true
+}
+
+// A line with the image that settings mean over one that holds the same byte everywhere.
+fn over(base: &[u8], numbers: &[i32], found: u8)
+    requires { ⌜ length (now numbers) ≡ 49 ⌝ }
+{
+    let mut image = [found; 54];
+    print::text(b"image ");
+    print::text(base);
+    if wanted(numbers, &mut image) {
+        registers(&image);
+    }
+    print::text(b"\n");
+}
+
+// Two lines: over zeros, and over ones.
+pub(crate) fn both(base: &[u8], numbers: &[i32])
+    requires { ⌜ length (now numbers) ≡ 49 ⌝ }
+{
+    over(base, numbers, 0x00);
+    over(base, numbers, 0xFF);
+}
