@@ -1,9 +1,12 @@
 -- `reading::read` meets its contract: the length, then the fields. Assumes nothing.
-use mathlib.Core.Path.{_≡_, sym, ap, _∙_}
+use mathlib.Core.Path.{_≡_}
+use mathlib.Core.Bool.{false}
+use lib.Dec.{eqb}
+use lib.ListN.{length}
 use borrow.Author.Needs.{needs}
-use borrow.Author.Tests.{ne-eqb, eq-eqb}
+use borrow.Author.Tests.{ne-eqb}
 use Rattle.adv7194_settings.specs.Order.{firstOf}
-use Rattle.adv7194_reading_groups.specs.Rows.{rowHeld}
+use Rattle.adv7194_reading_groups.specs.Rows.{registers, rowHeld}
 use Rattle.adv7194_reading.specs.Reading.{readOrder, readOf}
 use Rattle.adv7194_reading_groups.specs.Groups.{partOf}
 use Rattle.adv7194_reading.proofs.reading.read.Statement.{statement}
@@ -11,7 +14,10 @@ use Rattle.adv7194_reading.proofs.reading.read.Tie as tie
 
 returns : tie.Need-returns
 unfolding readOf readOrder firstOf rowHeld
-returns c = rw (ne-eqb _ _ (c .if1 .taken))
+returns c =
+    let n = length (c .before .before .args .image .now) in
+    let other : eqb n registers ≡ false = ne-eqb n registers (c .if1 .taken) in
+    rw other
 
 returns-2 : tie.Need-returns-2
 unfolding readOf readOrder firstOf rowHeld partOf
