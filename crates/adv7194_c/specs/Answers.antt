@@ -1,0 +1,36 @@
+-- Document 01, "Refusals": every refusal carries its number and a field number, 0 where none applies. An answer as numbers: the refusal is 0 where
+-- there is none, and after a refusal every other number is 0.
+use mathlib.Core.Bool.{Bool, true, false}
+use Prim.Native.Nat.{ℕ}
+use Rattle.refusals.specs.Refusal.{Judged, accepted, refused}
+use Rattle.planning.specs.Plan.{Counts}
+use Rattle.adv7194_settings.specs.declared.settings.Settings.{Settings}
+use Rattle.adv7194_settings.specs.Order.{Verdict, good, refusedAt}
+use Rattle.adv7194_c.specs.declared.plan_numbers.PlanAnswer.{PlanAnswer}
+use Rattle.adv7194_c.specs.declared.play_numbers.PlayAnswer.{PlayAnswer}
+use Rattle.adv7194_c.specs.declared.read_numbers.ReadAnswer.{ReadAnswer}
+
+-- what planning answers
+abbrev pub planAnswer : Verdict Counts → PlanAnswer
+planAnswer (good n) =
+    record { refusal = 0; field = 0; length = n .length; transactions = n .transactions; «bus_bytes» = n .busBytes }
+planAnswer (refusedAt n f) = record { refusal = n; field = f; length = 0; transactions = 0; «bus_bytes» = 0 }
+
+-- a yes is 1
+abbrev pub yesNo : Bool → ℕ
+yesNo true = 1
+yesNo false = 0
+
+-- what playing answers; its refusals belong to no field
+abbrev pub playAnswer : Judged Bool → PlayAnswer
+playAnswer (accepted b) = record { refusal = 0; field = 0; acknowledged = yesNo b }
+playAnswer (refused n) = record { refusal = n; field = 0; acknowledged = 0 }
+
+-- what reading answers where it gives settings
+abbrev pub readDone : ReadAnswer
+readDone = record { refusal = 0; field = 0 }
+
+-- what reading answers
+abbrev pub readAnswer : Verdict Settings → ReadAnswer
+readAnswer (good s) = readDone
+readAnswer (refusedAt n f) = record { refusal = n; field = f }

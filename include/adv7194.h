@@ -1,0 +1,171 @@
+/*
+ * Plans, plays and reads back the settings of one ADV7194 video encoder.
+ *
+ * An image is the chip's 54 registers, one byte each. Settings are 49 numbers.
+ * A packed plan is a list of write transactions, as adv7194_plan makes it.
+ *
+ * Each lent memory is a pointer followed by its length, in elements. A null
+ * pointer is allowed with length 0. Lent memories of one call must not overlap.
+ * A memory lent as const is only read. Nothing outside the lent memories is
+ * touched.
+ *
+ * The library keeps no state and allocates nothing: calls may be made from any
+ * thread at any time, as long as no memory that one call may change is lent to
+ * another.
+ *
+ * After a refusal all lent memory is as it was, and every number answered but
+ * the refusal and its field is 0.
+ */
+#ifndef ADV7194_H
+#define ADV7194_H
+
+#include <stddef.h>
+#include <stdint.h>
+
+#ifdef __cplusplus
+extern "C" {
+#endif
+
+/* Bytes of an image. */
+#define ADV7194_REGISTERS 54
+/* Numbers of the settings. */
+#define ADV7194_SETTINGS 49
+/* Room for the longest packed plan. */
+#define ADV7194_PLAN_ROOM 44
+/* Bytes of a gamma curve. */
+#define ADV7194_CURVE_BYTES 7
+
+/*
+ * The settings' numbers, in field order. A yes is 1, a no is 0. Numbers that a
+ * kind doesn't use are ignored in planning, and are 0 when read.
+ */
+enum {
+    ADV7194_STANDARD = 0,      /* field 1: 0 NTSC, 1 PAL */
+    ADV7194_SQUARE = 1,        /* field 2: square pixel, yes or no */
+    ADV7194_FOUR_TIMES = 2,    /* field 3: 4x oversampling, yes or no; not with square pixel */
+    ADV7194_PEDESTAL = 3,      /* field 4: yes or no; not with PAL */
+    ADV7194_Y_LEVEL = 4,       /* field 5: 0 Betacam, 1 SMPTE */
+    ADV7194_UV_LEVEL = 5,      /* field 6: 0 to 2 */
+    ADV7194_RGB_SYNC = 6,      /* field 7: yes or no */
+    ADV7194_CLAMP_DELAY = 7,   /* field 8: -3 to 3 clocks */
+    ADV7194_BACK_PORCH = 8,    /* field 9: clamp in the back porch, yes or no */
+    ADV7194_PHASE = 9,         /* field 10: subcarrier phase, 0 to 255 */
+    ADV7194_SIGNALLING = 10,   /* field 11: its kind, see below */
+    ADV7194_PAYLOAD = 11,      /* field 11: CGMS payload or WSS number, 0 to 16383 */
+    ADV7194_ODD = 12,          /* field 11: CGMS in odd fields, yes or no */
+    ADV7194_EVEN = 13,         /* field 11: CGMS in even fields, yes or no */
+    ADV7194_CHIP_CHECK = 14,   /* field 11: the chip works out the CGMS check, yes or no */
+    ADV7194_CONTRAST = 15,     /* field 12: 0 to 1500 thousandths */
+    ADV7194_U_SCALE = 16,      /* field 13: 0 to 1996 thousandths */
+    ADV7194_V_SCALE = 17,      /* field 14: 0 to 1996 thousandths */
+    ADV7194_HUE = 18,          /* field 15: -225 to 224 tenths of a degree */
+    ADV7194_BRIGHTNESS = 19,   /* field 16: -75 to 150 tenths of an IRE */
+    ADV7194_SHARPNESS = 20,    /* field 17: -6 to 6 steps */
+    ADV7194_BORDER_GAIN = 21,  /* field 18: DNR border gain, 0 to 8 */
+    ADV7194_DATA_GAIN = 22,    /* field 19: DNR data gain, 0 to 8 */
+    ADV7194_THRESHOLD = 23,    /* field 20: DNR threshold, 0 to 63 */
+    ADV7194_BORDER_AREA = 24,  /* field 21: DNR border area, yes or no */
+    ADV7194_BLOCK_SIZE = 25,   /* field 22: DNR block size, yes or no */
+    ADV7194_DNR_INPUT = 26,    /* field 23: 1 to 4 */
+    ADV7194_DNR_MODE = 27,     /* field 24: yes or no */
+    ADV7194_BLOCK_OFFSET = 28, /* field 25: DNR block offset, 0 to 15 */
+    ADV7194_CURVE_A = 29,      /* field 26: its kind, see below */
+    ADV7194_CURVE_A_P = 30,    /* field 26: p of the ratio p/q, 1 to 3 */
+    ADV7194_CURVE_A_Q = 31,    /* field 26: q of the ratio p/q, 1 to 3 */
+    ADV7194_CURVE_A_BYTES = 32, /* field 26: the first of seven bytes, each 0 to 255 */
+    ADV7194_CURVE_B = 39,      /* field 27: its kind, see below */
+    ADV7194_CURVE_B_P = 40,    /* field 27: p of the ratio p/q, 1 to 3 */
+    ADV7194_CURVE_B_Q = 41,    /* field 27: q of the ratio p/q, 1 to 3 */
+    ADV7194_CURVE_B_BYTES = 42 /* field 27: the first of seven bytes, each 0 to 255 */
+};
+
+/* Standards. */
+enum { ADV7194_NTSC = 0, ADV7194_PAL = 1 };
+
+/* Kinds of signalling. CGMS is for NTSC and for at least one field; WSS is for
+ * PAL, and the lowest four bits of its number hold an odd number of ones. */
+enum { ADV7194_OFF = 0, ADV7194_CGMS = 1, ADV7194_WSS = 2 };
+
+/* Kinds of gamma curves. Reading always gives bytes. */
+enum { ADV7194_RATIO = 0, ADV7194_BYTES = 1 };
+
+/* Refusals. Each comes with the number of the field at fault, or 0. */
+enum {
+    ADV7194_ACCEPTED = 0,
+    ADV7194_IMAGE_LENGTH = 1,        /* an image isn't 54 bytes */
+    ADV7194_ADDRESS = 2,             /* a bus address is odd or above 254 */
+    ADV7194_OUT_OF_RANGE = 3,        /* a number is outside its range, or (field 0) the settings aren't 49 */
+    ADV7194_RESERVED = 4,            /* a code is reserved, a must-be-zero bit is set, or WSS breaks its odd count */
+    ADV7194_SQUARE_FOUR_TIMES = 5,   /* square pixel with 4x oversampling */
+    ADV7194_PEDESTAL_PAL = 6,        /* pedestal with PAL */
+    ADV7194_WRONG_SIGNALLING = 7,    /* CGMS with PAL, WSS with NTSC, CGMS for neither field, or both at once */
+    ADV7194_DISAGREES = 8,           /* check bits or subcarrier word don't agree with the other fields */
+    ADV7194_PLAN_BYTES = 9,          /* a plan's bytes break the packing or the bus rules */
+    ADV7194_PLAN_TOO_SHORT = 10      /* the lent plan is shorter than the packed plan */
+};
+
+/* The field number of the subcarrier word, which is worked out and not set. */
+enum { ADV7194_FIELD_WORD = 28 };
+
+/* What planning answers. */
+typedef struct {
+    uint32_t refusal;      /* a refusal, or 0 */
+    uint32_t field;        /* the field at fault, or 0 */
+    uint32_t length;       /* bytes of the packed plan */
+    uint32_t transactions; /* its write transactions */
+    uint32_t bus_bytes;    /* its bus bytes: 2 for each transaction, plus all data */
+} adv7194_plan_answer;
+
+/* What playing answers. */
+typedef struct {
+    uint32_t refusal;      /* a refusal, or 0 */
+    uint32_t field;        /* always 0 */
+    uint32_t acknowledged; /* 1 if every byte was acknowledged, else 0 */
+} adv7194_play_answer;
+
+/* What reading answers. */
+typedef struct {
+    uint32_t refusal; /* a refusal, or 0 */
+    uint32_t field;   /* the field at fault, or 0 */
+} adv7194_read_answer;
+
+/*
+ * Packs into `plan` the least list of write transactions that brings a chip
+ * holding `image` to the settings: the fewest bus bytes, then the fewest
+ * transactions. Bytes of `plan` past the packed plan stay as they were.
+ *
+ * Refuses, in this order: 1; 2; 3 with field 0 for another length than 49; the
+ * settings' fields in order; 10. Of the image only the length is judged.
+ */
+adv7194_plan_answer adv7194_plan(const uint8_t *image, size_t image_len,
+                                 const int32_t *settings, size_t settings_len,
+                                 uint32_t address,
+                                 uint8_t *plan, size_t plan_len);
+
+/*
+ * Plays the packed `plan`, sent to the address `used`, on a chip that holds
+ * `image` and has the address `own`. `image` becomes what the chip then holds.
+ * Where the addresses differ nothing is stored, and nothing is acknowledged
+ * unless the plan is empty.
+ *
+ * Refuses, in this order: 1; 2 for either address; 9.
+ */
+adv7194_play_answer adv7194_play(uint8_t *image, size_t image_len,
+                                 uint32_t used, uint32_t own,
+                                 const uint8_t *plan, size_t plan_len);
+
+/*
+ * Writes into `settings` what `image` is set to: of the settings that have the
+ * same codes, the ones nearest zero; curves as bytes.
+ *
+ * Refuses, in this order: 1; 3 with field 0 for another length than 49; the
+ * image's fields in order, the subcarrier word last.
+ */
+adv7194_read_answer adv7194_read(const uint8_t *image, size_t image_len,
+                                 int32_t *settings, size_t settings_len);
+
+#ifdef __cplusplus
+}
+#endif
+
+#endif

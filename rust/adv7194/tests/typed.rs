@@ -1,0 +1,98 @@
+//! The typed form: to numbers and back, and through the archive.
+
+use adv7194::{
+    index, plan, play, read, Curve, Reason, Refusal, Settings, Signalling, Standard, YLevel,
+    PLAN_ROOM, REGISTERS,
+};
+
+/// An even address.
+const ADDRESS: u32 = 0xD4;
+
+/// PAL with WSS and curves of both kinds; every setting nearest zero.
+fn pal() -> Settings {
+    Settings {
+        standard: Standard::Pal,
+        square_pixel: true,
+        four_times: false,
+        pedestal: false,
+        y_level: YLevel::Smpte,
+        clamp_delay: -2,
+        phase: 0xA7,
+        signalling: Signalling::Wss { number: 0x2A07 },
+        contrast: 0,
+        u_scale: 4,
+        v_scale: 1989,
+        hue: -225,
+        brightness: -75,
+        sharpness: 6,
+        dnr_input: 4,
+        curve_a: Curve::Ratio { p: 1, q: 2 },
+        curve_b: Curve::Bytes([0, 255, 1, 254, 2, 253, 3]),
+        ..Settings::house()
+    }
+}
+
+/// Plans, plays and reads.
+fn through(settings: &Settings) -> Result<Settings, Refusal> {
+    let mut image = [0xFF; REGISTERS];
+    let mut bytes = [0; PLAN_ROOM];
+    let planned = plan(&image, settings, ADDRESS, &mut bytes)?;
+    assert!(play(
+        &mut image,
+        ADDRESS,
+        ADDRESS,
+        &bytes[..planned.length]
+    )?);
+    read(&image)
+}
+
+#[test]
+fn numbers_and_back() {
+    for settings in [Settings::house(), pal()] {
+        assert_eq!(
+            Settings::from_numbers(&settings.to_numbers()),
+            Some(settings)
+        );
+    }
+    let mut numbers = pal().to_numbers();
+    numbers[index::CURVE_B + index::CURVE_FIRST] = 256;
+    assert_eq!(Settings::from_numbers(&numbers), None);
+}
+
+#[test]
+fn read_as_set() {
+    let mut wanted = pal();
+    wanted.curve_a = Curve::Bytes([76, 120, 150, 174, 196, 215, 232]);
+    assert_eq!(through(&pal()), Ok(wanted));
+}
+
+#[test]
+fn cgms() {
+    let settings = Settings {
+        signalling: Signalling::Cgms {
+            payload: 0x1234,
+            odd: false,
+            even: true,
+            chip_check: true,
+        },
+        ..Settings::house()
+    };
+    assert_eq!(through(&settings).unwrap().signalling, settings.signalling);
+}
+
+#[test]
+fn refused() {
+    let settings = Settings {
+        pedestal: true,
+        ..pal()
+    };
+    let refusal = through(&settings).unwrap_err();
+    assert_eq!(
+        (refusal.reason, refusal.field),
+        (Reason::PedestalWithPal, 4)
+    );
+    assert_eq!(
+        refusal.to_string(),
+        "refusal 6: pedestal with PAL (field 4)"
+    );
+}

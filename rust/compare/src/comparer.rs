@@ -1,0 +1,145 @@
+//! One call, made on both sides and compared.
+
+use crate::lent::Lent;
+use crate::tally::{Entry, Tally};
+use adv7194::ffi;
+use plain::{PlanAnswer, PlayAnswer, ReadAnswer};
+
+/// Guard bytes.
+const GUARD_BYTE: u8 = 0xC3;
+/// Guard numbers.
+const GUARD_NUMBER: i32 = -0x3C5A_1234;
+/// The most differences that are shown.
+const MOST_SHOWN: u64 = 20;
+
+/// Makes calls on both sides, and counts answers and differences.
+#[derive(Default)]
+pub struct Comparer {
+    /// Answers by refusal and field.
+    pub tally: Tally,
+    /// Calls compared.
+    pub calls: u64,
+    /// Differences.
+    pub differences: u64,
+}
+
+impl Comparer {
+    /// Counts a difference unless `holds`, and shows the first ones.
+    pub fn expect(&mut self, holds: bool, what: impl FnOnce() -> String) {
+        if holds {
+            return;
+        }
+        self.differences += 1;
+        if self.differences <= MOST_SHOWN {
+            println!("DIFFERENCE {}", what());
+        }
+    }
+
+    /// Counts an answer that must be one that can occur.
+    fn count(&mut self, entry: Entry, refusal: u32, field: u32) {
+        self.calls += 1;
+        let can = self.tally.count(entry, refusal, field);
+        self.expect(can, || {
+            format!("refusal {refusal} at field {field} can't be")
+        });
+    }
+
+    /// Plans. `plan` is what the lent plan holds before.
+    pub fn plan(
+        &mut self,
+        image: &[u8],
+        settings: &[i32],
+        address: u32,
+        plan: &[u8],
+    ) -> (PlanAnswer, Lent<u8>) {
+        let given = (
+            Lent::new(image, GUARD_BYTE),
+            Lent::new(settings, GUARD_NUMBER),
+        );
+        let before = Lent::new(plan, GUARD_BYTE);
+        let (mut one, mut other, mut lent) = (before, before, given);
+        let answer = plain::plan(image, settings, address, one.lend());
+        let proved = ffi::plan(lent.0.lend(), lent.1.lend(), address, other.lend());
+        let show = |what: &str| {
+            let given = format!("{image:02X?} {settings:?} {address} room {}", plan.len());
+            format!("plan, {what}: {answer:?} {proved:?} for {given}")
+        };
+        self.count(Entry::Plan, answer.refusal, answer.field);
+        self.expect(same_plan(answer, proved), || show("answers"));
+        self.expect(one == other, || show("lent plan"));
+        self.expect(lent == given, || show("given memory"));
+        if proved.refusal != 0 {
+            let zero = [proved.length, proved.transactions, proved.bus_bytes] == [0; 3];
+            self.expect(other == before, || show("plan after a refusal"));
+            self.expect(zero, || show("numbers after a refusal"));
+        } else {
+            let past = proved.length as usize..;
+            let kept = other.get().get(past.clone()) == plan.get(past);
+            self.expect(kept, || show("past the plan"));
+        }
+        (answer, other)
+    }
+
+    /// Plays.
+    pub fn play(
+        &mut self,
+        image: &[u8],
+        used: u32,
+        own: u32,
+        plan: &[u8],
+    ) -> (PlayAnswer, Lent<u8>) {
+        let given = Lent::new(plan, GUARD_BYTE);
+        let before = Lent::new(image, GUARD_BYTE);
+        let (mut one, mut other, mut lent) = (before, before, given);
+        let answer = plain::play(one.lend(), used, own, plan);
+        let proved = ffi::play(other.lend(), used, own, lent.lend());
+        let a = [answer.refusal, answer.field, answer.acknowledged];
+        let b = [proved.refusal, proved.field, proved.acknowledged];
+        let show = |what: &str| {
+            format!("play, {what}: {a:?} {b:?} for {image:02X?} {used} {own} {plan:02X?}")
+        };
+        self.count(Entry::Play, answer.refusal, answer.field);
+        self.expect(a == b, || show("answers"));
+        self.expect(one == other, || show("lent image"));
+        self.expect(lent == given, || show("given memory"));
+        if b[0] != 0 {
+            self.expect(other == before, || show("image after a refusal"));
+            self.expect(b[2] == 0, || show("numbers after a refusal"));
+        }
+        (answer, other)
+    }
+
+    /// Reads. `settings` is what the lent settings hold before.
+    pub fn read(&mut self, image: &[u8], settings: &[i32]) -> (ReadAnswer, Lent<i32>) {
+        let given = Lent::new(image, GUARD_BYTE);
+        let before = Lent::new(settings, GUARD_NUMBER);
+        let (mut one, mut other, mut lent) = (before, before, given);
+        let answer = plain::read(image, one.lend());
+        let proved = ffi::read(lent.lend(), other.lend());
+        let a = [answer.refusal, answer.field];
+        let b = [proved.refusal, proved.field];
+        let show = |what: &str| {
+            format!(
+                "read, {what}: {a:?} {b:?} for {image:02X?} length {}",
+                settings.len()
+            )
+        };
+        self.count(Entry::Read, answer.refusal, answer.field);
+        self.expect(a == b, || show("answers"));
+        self.expect(one == other, || show("lent settings"));
+        self.expect(lent == given, || show("given memory"));
+        if b[0] != 0 {
+            self.expect(other == before, || show("settings after a refusal"));
+        }
+        (answer, other)
+    }
+}
+
+/// Whether two answers of planning are the same.
+fn same_plan(plain: PlanAnswer, proved: ffi::PlanAnswer) -> bool {
+    plain.refusal == proved.refusal
+        && plain.field == proved.field
+        && plain.length == proved.length
+        && plain.transactions == proved.transactions
+        && plain.bus_bytes == proved.bus_bytes
+}

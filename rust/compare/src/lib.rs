@@ -1,0 +1,16 @@
+//! Compares the proved archive with the plain implementation.
+//!
+//! Every answer and every byte of lent memory is compared, with guards around
+//! it: on seeded cases, on systematic ones, and with an exhaustive search.
+#![forbid(unsafe_code)]
+#![warn(missing_docs)]
+
+pub mod cases;
+pub mod comparer;
+pub mod damage;
+pub mod lent;
+pub mod random;
+pub mod seeded;
+pub mod systematic;
+pub mod tally;
+pub mod windows;

@@ -1,0 +1,67 @@
+//! Compares the proved archive with the plain implementation.
+//!
+//! `compare --cases N --seed S`. The last line is `N cases, 0 differences`; the
+//! status is 1 where there is a difference.
+#![forbid(unsafe_code)]
+
+use compare::comparer::Comparer;
+use compare::seeded::Seeded;
+use compare::{systematic, windows};
+use std::process::ExitCode;
+
+/// Cases unless told otherwise.
+const CASES: u64 = 1_000_000;
+/// The seed unless told otherwise.
+const SEED: u64 = 1;
+
+/// The number after `name`, or another.
+fn option(name: &str, otherwise: u64) -> Result<u64, String> {
+    let mut words = std::env::args().skip_while(|word| word != name);
+    match (words.next(), words.next()) {
+        (None, _) => Ok(otherwise),
+        (_, Some(word)) => word
+            .parse()
+            .map_err(|_| format!("{name} {word}: no number")),
+        (_, None) => Err(format!("{name}: a number is missing")),
+    }
+}
+
+/// Compares everything, and gives the differences.
+fn compare(cases: u64, seed: u64) -> u64 {
+    let mut comparer = Comparer::default();
+    systematic::all(&mut comparer, seed);
+    println!("systematic: {} calls", comparer.calls);
+    let sets = windows::all(&mut comparer, seed);
+    println!("exhaustive search: {sets} sets of registers");
+    let mut seeded = Seeded::new(seed);
+    for _ in 0..cases {
+        seeded.case(&mut comparer);
+    }
+    let accepted = seeded.accepted;
+    println!(
+        "seeded: {cases} cases, {accepted} accepted; {} calls in all",
+        comparer.calls
+    );
+    let missing = comparer.tally.print();
+    comparer.expect(missing == 0, || format!("{missing} refusals never came"));
+    let half = 2 * accepted >= cases;
+    comparer.expect(half, || "less than half accepted".to_string());
+    comparer.differences
+}
+
+fn main() -> ExitCode {
+    let (cases, seed) = match (option("--cases", CASES), option("--seed", SEED)) {
+        (Ok(cases), Ok(seed)) => (cases, seed),
+        (Err(fault), _) | (_, Err(fault)) => {
+            eprintln!("{fault}\ncompare --cases N --seed S");
+            return ExitCode::FAILURE;
+        }
+    };
+    let differences = compare(cases, seed);
+    println!("{cases} cases, {differences} differences");
+    if differences == 0 {
+        ExitCode::SUCCESS
+    } else {
+        ExitCode::FAILURE
+    }
+}

@@ -1,0 +1,184 @@
+//! Seeded cases.
+
+use crate::cases::{self, Image, Numbers, ADDRESS, BEFORE, ROOM};
+use crate::comparer::Comparer;
+use crate::damage;
+use crate::random::Random;
+use plain::fields::SETTINGS;
+use plain::registers::REGISTERS;
+use plain::{least, search};
+
+/// One in so many cases has a wrong length, or a wrong address.
+const SELDOM: u64 = 24;
+/// One in so many plans is compared with the search over the whole chip.
+const SEARCHED: u64 = 16;
+/// The most bits that are wrong in an image near the wanted one.
+const FLIPPED: i32 = 6;
+/// The longest image or settings tried.
+const LONGEST: u64 = 61;
+/// Bytes of the longest packed plan.
+const LONGEST_PLAN: i32 = 44;
+/// What lent settings hold before.
+const NUMBER_BEFORE: i32 = -77;
+
+/// Seeded cases, with what they need.
+pub struct Seeded {
+    random: Random,
+    spans: Vec<u64>,
+    /// Cases that were accepted.
+    pub accepted: u64,
+}
+
+impl Seeded {
+    /// Starts from a seed.
+    pub fn new(seed: u64) -> Seeded {
+        Seeded {
+            random: Random::new(seed),
+            spans: search::spans(0, REGISTERS - 1),
+            accepted: 0,
+        }
+    }
+
+    /// One case: half of them plan, a quarter plays, a quarter reads.
+    pub fn case(&mut self, comparer: &mut Comparer) {
+        let accepted = match self.random.below(4) {
+            0 => self.play(comparer),
+            1 => self.read(comparer),
+            _ => self.plan(comparer),
+        };
+        self.accepted += accepted as u64;
+    }
+
+    /// An address, seldom a wrong one.
+    fn address(&mut self) -> u32 {
+        if !self.random.once_in(SELDOM) {
+            return 2 * self.random.below(128) as u32;
+        }
+        let wide = self.random.bits() as u32;
+        self.random.one_of(&[1, 255, 256, 0x1D4, wide, wide & !1])
+    }
+
+    /// A length, seldom another than the right one.
+    fn length(&mut self, right: usize) -> usize {
+        if self.random.once_in(SELDOM) {
+            self.random.below(LONGEST) as usize
+        } else {
+            right
+        }
+    }
+
+    /// Plans; where accepted, goes round.
+    fn plan(&mut self, comparer: &mut Comparer) -> bool {
+        let mut settings = cases::accepted(&mut self.random);
+        let image = match self.random.below(4) {
+            0 => cases::any_image(&mut self.random),
+            _ => cases::near_image(&mut self.random, &settings, FLIPPED),
+        };
+        if self.random.once_in(4) {
+            cases::spoil(&mut self.random, &mut settings);
+        }
+        let room = match self.random.below(6) {
+            0 => {
+                let length = cases::packed(&image, &settings).0.length as usize;
+                (length + self.random.below(4) as usize).saturating_sub(2)
+            }
+            _ => self.random.within(LONGEST_PLAN, ROOM as i32) as usize,
+        };
+        let given = resized(&image, self.length(REGISTERS), 0);
+        let numbers = resized(&settings, self.length(SETTINGS), 0);
+        let address = self.address();
+        let (answer, plan) = comparer.plan(&given, &numbers, address, &[BEFORE; ROOM][..room]);
+        if answer.refusal != 0 {
+            return false;
+        }
+        let used = &plan.get()[..answer.length as usize];
+        self.round(
+            comparer,
+            &image,
+            used,
+            (answer.bus_bytes, answer.transactions),
+        );
+        true
+    }
+
+    /// Plays a plan just made, reads the image, and plans what was read.
+    fn round(&mut self, comparer: &mut Comparer, image: &Image, plan: &[u8], cost: (u32, u32)) {
+        let (played, lent) = comparer.play(image, ADDRESS, ADDRESS, plan);
+        let sound = (played.refusal, played.acknowledged) == (0, 1);
+        comparer.expect(sound, || {
+            format!("a plan isn't played: {image:02X?} {plan:02X?}")
+        });
+        let after: Image = lent.get().try_into().expect("an image's length");
+        if self.random.once_in(SEARCHED) {
+            let needed = least::differing(image, &after);
+            let least = search::least(needed, &self.spans);
+            let found = least.map(|least| (least.bytes, least.transactions));
+            comparer.expect(found == Some(cost), || {
+                format!("not least: {needed:X} {cost:?} {found:?}")
+            });
+        }
+        let (read, numbers) = comparer.read(&after, &[NUMBER_BEFORE; SETTINGS]);
+        comparer.expect(read.refusal == 0, || {
+            format!("a wanted image isn't read: {after:02X?}")
+        });
+        let (again, plan) = comparer.plan(&after, numbers.get(), ADDRESS, &[BEFORE; 2]);
+        let nothing = (
+            again.refusal,
+            again.length,
+            again.transactions,
+            again.bus_bytes,
+        ) == (0, 1, 0, 0);
+        let nothing = nothing && plan.get() == [0x00, BEFORE];
+        comparer.expect(nothing, || {
+            format!("what was read isn't there: {after:02X?}")
+        });
+    }
+
+    /// Plays a plan of ours or of another make, sound or damaged.
+    fn play(&mut self, comparer: &mut Comparer) -> bool {
+        let image = cases::any_image(&mut self.random);
+        let mut plan = if self.random.once_in(3) {
+            damage::foreign(&mut self.random)
+        } else {
+            let settings = cases::accepted(&mut self.random);
+            let start = cases::near_image(&mut self.random, &settings, FLIPPED);
+            let (planned, bytes) = cases::packed(&start, &settings);
+            bytes[..planned.length as usize].to_vec()
+        };
+        if self.random.once_in(4) {
+            damage::damage(&mut self.random, &mut plan);
+        }
+        let used = self.address();
+        let own = if self.random.once_in(8) {
+            self.address()
+        } else {
+            used
+        };
+        let given = resized(&image, self.length(REGISTERS), 0);
+        comparer.play(&given, used, own, &plan).0.refusal == 0
+    }
+
+    /// Reads an image that settings made, sound or damaged.
+    fn read(&mut self, comparer: &mut Comparer) -> bool {
+        let settings: Numbers = cases::accepted(&mut self.random);
+        let mut image = cases::settled(&cases::any_image(&mut self.random), &settings);
+        if self.random.once_in(3) {
+            for _ in 0..self.random.within(1, 3) {
+                cases::flip_one(&mut self.random, &mut image);
+            }
+        } else if self.random.once_in(8) {
+            let register = self.random.below(REGISTERS as u64) as usize;
+            image[register] = self.random.byte();
+        }
+        let given = resized(&image, self.length(REGISTERS), 0);
+        let numbers = vec![NUMBER_BEFORE; self.length(SETTINGS)];
+        comparer.read(&given, &numbers).0.refusal == 0
+    }
+}
+
+/// The same at another length.
+pub fn resized<T: Copy>(contents: &[T], length: usize, more: T) -> Vec<T> {
+    let mut all = contents.to_vec();
+    all.resize(length, more);
+    all
+}

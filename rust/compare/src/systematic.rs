@@ -1,0 +1,277 @@
+//! Systematic cases: every length, address, bit, byte and number near a limit.
+
+use crate::cases::{self, Image, Numbers, ADDRESS, BEFORE, ROOM};
+use crate::comparer::Comparer;
+use crate::random::Random;
+use crate::seeded::resized;
+use plain::fields::{self as at, SETTINGS};
+use plain::registers::{self as reg, REGISTERS};
+use plain::signal::LAST_PAYLOAD;
+
+/// The longest image or settings tried.
+const LONGEST: usize = 60;
+/// Plans that are damaged in every bit, and lent every room.
+const PLANS: usize = 200;
+/// The most bits that are wrong in the images those plans start from.
+const FLIPPED: i32 = 8;
+/// Settings whose every number is tried.
+const BASES: usize = 4;
+/// The numbers tried at every place.
+const TRIED: std::ops::RangeInclusive<i32> = -300..=2100;
+/// Addresses tried one by one.
+const ADDRESSES: u32 = 600;
+/// Wide numbers.
+const WIDE: [i32; 6] = [
+    i32::MIN,
+    i32::MAX,
+    1 << 16,
+    -(1 << 16),
+    LAST_PAYLOAD,
+    LAST_PAYLOAD + 1,
+];
+/// Low signalling bytes tried under every pair of the other two.
+const LOWS: [u8; 6] = [0x00, 0x01, 0x07, 0x80, 0xA4, 0xFF];
+
+/// All of it.
+pub fn all(comparer: &mut Comparer, seed: u64) {
+    let mut random = Random::new(seed);
+    lengths(comparer, &mut random);
+    addresses(comparer, &mut random);
+    for _ in 0..PLANS {
+        plans(comparer, &mut random);
+    }
+    short_plans(comparer, &mut random);
+    for base in 0..BASES {
+        numbers(comparer, &mut random, base);
+        registers(comparer, &mut random, base);
+    }
+    signalling_settings(comparer, &mut random);
+    signalling_images(comparer, &mut random);
+}
+
+/// A sound case: an image, settings and the image they make.
+fn sound(random: &mut Random) -> (Image, Numbers, Image) {
+    let settings = cases::accepted(random);
+    let image = cases::any_image(random);
+    (image, settings, cases::settled(&image, &settings))
+}
+
+/// Every length of image and of settings, everything else sound or wrong.
+fn lengths(comparer: &mut Comparer, random: &mut Random) {
+    let (image, settings, settled) = sound(random);
+    let mut wrong = settings;
+    wrong[at::STANDARD] = -1;
+    let mut reserved = settled;
+    reserved[reg::MODE_0] |= reg::STANDARD_BITS;
+    for length in 0..=LONGEST {
+        let given = resized(&image, length, 0);
+        let made = resized(&settled, length, 0);
+        let fewer = resized(&settings, length, 0);
+        for address in [ADDRESS, ADDRESS + 1] {
+            for numbers in [&settings, &wrong] {
+                comparer.plan(&given, numbers, address, &[BEFORE; ROOM]);
+                comparer.plan(&given, numbers, address, &[]);
+            }
+            comparer.plan(&given, &fewer, address, &[BEFORE; ROOM]);
+            comparer.plan(&image, &fewer, address, &[BEFORE; ROOM]);
+            comparer.plan(&image, &fewer, address, &[]);
+            comparer.play(&given, address, ADDRESS, &[0x00]);
+            comparer.play(&given, ADDRESS, address, &[0x01]);
+        }
+        for lent in [SETTINGS, length] {
+            comparer.read(&made, &vec![BEFORE as i32; lent]);
+            comparer.read(&settled, &vec![BEFORE as i32; lent]);
+            comparer.read(&reserved, &vec![BEFORE as i32; lent]);
+        }
+    }
+}
+
+/// Many addresses, for each place of one.
+fn addresses(comparer: &mut Comparer, random: &mut Random) {
+    let (image, settings, _) = sound(random);
+    let (planned, bytes) = cases::packed(&image, &settings);
+    let plan = &bytes[..planned.length as usize];
+    let powers = (8..u32::BITS).map(|place| 1 << place);
+    let wide = powers.flat_map(|power: u32| [power - 1, power, power + 2, power | ADDRESS]);
+    for address in (0..=ADDRESSES).chain(wide).chain([u32::MAX, u32::MAX - 1]) {
+        comparer.plan(&image, &settings, address, &[BEFORE; ROOM]);
+        for bytes in [plan, &[0x00], &[0x01], &[]] {
+            comparer.play(&image, address, ADDRESS, bytes);
+            comparer.play(&image, ADDRESS, address, bytes);
+            comparer.play(&image, address, address, bytes);
+        }
+    }
+}
+
+/// One plan: every room, every cut, extended, and every bit flipped.
+fn plans(comparer: &mut Comparer, random: &mut Random) {
+    let settings = cases::accepted(random);
+    let image = cases::near_image(random, &settings, FLIPPED);
+    let (planned, bytes) = cases::packed(&image, &settings);
+    let plan = &bytes[..planned.length as usize];
+    for room in 0..=plan.len() + 3 {
+        comparer.plan(&image, &settings, ADDRESS, &bytes[..room]);
+        comparer.plan(&image, &settings, ADDRESS, &[BEFORE; ROOM][..room]);
+    }
+    for length in 0..=plan.len() + 3 {
+        for more in [0x00, 0x01, 0xFF] {
+            comparer.play(&image, ADDRESS, ADDRESS, &resized(plan, length, more));
+        }
+    }
+    for place in 0..8 * plan.len() {
+        let mut flipped = plan.to_vec();
+        flipped[place / 8] ^= 0x80 >> (place % 8);
+        comparer.play(&image, ADDRESS, ADDRESS, &flipped);
+    }
+}
+
+/// Every plan of one or two bytes, and every single register written.
+fn short_plans(comparer: &mut Comparer, random: &mut Random) {
+    let image = cases::any_image(random);
+    for word in 0..=u16::MAX {
+        comparer.play(&image, ADDRESS, ADDRESS, &word.to_be_bytes());
+    }
+    for byte in 0..=u8::MAX {
+        comparer.play(&image, ADDRESS, ADDRESS, &[byte]);
+        comparer.play(&image, ADDRESS, ADDRESS + 2, &[byte]);
+        // One transaction of one byte, or of four, at each subaddress.
+        let second = (byte & 0x0F) << 4;
+        comparer.play(
+            &image,
+            ADDRESS,
+            ADDRESS,
+            &[0x04 | byte >> 6, byte << 2, 0x40 | second >> 4, second],
+        );
+        comparer.play(
+            &image,
+            ADDRESS,
+            ADDRESS,
+            &[
+                0x04 | byte >> 4,
+                second | 0x01,
+                0x15,
+                0x59,
+                0x9D,
+                0xE2,
+                0x40,
+            ],
+        );
+    }
+}
+
+/// Every number of the settings, from below all ranges to above nearly all.
+fn numbers(comparer: &mut Comparer, random: &mut Random, base: usize) {
+    let mut settings = cases::accepted(random);
+    while (
+        settings[at::STANDARD] as usize,
+        settings[at::SIGNALLING] != at::OFF,
+    ) != (base % 2, base < 2)
+    {
+        settings = cases::accepted(random);
+    }
+    let image = cases::settled(&cases::any_image(random), &settings);
+    for place in 0..SETTINGS {
+        for value in TRIED.chain(WIDE) {
+            let mut changed = settings;
+            changed[place] = value;
+            comparer.plan(&image, &changed, ADDRESS, &[BEFORE; ROOM]);
+        }
+    }
+    for p in -1..=5 {
+        for q in -1..=5 {
+            for kind in [at::CURVE_A, at::CURVE_B] {
+                let mut changed = settings;
+                changed[kind..][..at::CURVE_FIRST].copy_from_slice(&[at::RATIO, p, q]);
+                comparer.plan(&image, &changed, ADDRESS, &[BEFORE; ROOM]);
+            }
+        }
+    }
+}
+
+/// Every byte of every register read.
+fn registers(comparer: &mut Comparer, random: &mut Random, base: usize) {
+    let mut settings = cases::accepted(random);
+    while settings[at::STANDARD] as usize != base % 2 {
+        settings = cases::accepted(random);
+    }
+    let image = cases::settled(&cases::any_image(random), &settings);
+    for register in 0..REGISTERS {
+        for byte in 0..=u8::MAX {
+            let mut changed = image;
+            changed[register] = byte;
+            comparer.read(&changed, &[BEFORE as i32; SETTINGS]);
+        }
+    }
+}
+
+/// Field 11 of settings: every payload, and every mixture of its other numbers.
+fn signalling_settings(comparer: &mut Comparer, random: &mut Random) {
+    let (image, mut settings, _) = sound(random);
+    settings[at::PEDESTAL] = 0;
+    for standard in [at::NTSC, at::PAL] {
+        settings[at::STANDARD] = standard;
+        for kind in -1..=4 {
+            for switches in 0..4 * 4 * 4 {
+                let [odd, even, check] =
+                    [switches & 3, switches >> 2 & 3, switches >> 4].map(|number| number - 1);
+                for payload in [
+                    -1,
+                    0,
+                    1,
+                    3,
+                    LAST_PAYLOAD,
+                    LAST_PAYLOAD + 1,
+                    LAST_PAYLOAD + 2,
+                ] {
+                    settings[at::SIGNALLING..=at::CHIP_CHECK]
+                        .copy_from_slice(&[kind, payload, odd, even, check]);
+                    comparer.plan(&image, &settings, ADDRESS, &[BEFORE; ROOM]);
+                }
+            }
+        }
+        let kind = if standard == at::PAL {
+            at::WSS
+        } else {
+            at::CGMS
+        };
+        for payload in 0..=LAST_PAYLOAD {
+            settings[at::SIGNALLING..=at::CHIP_CHECK].copy_from_slice(&[kind, payload, 1, 0, 0]);
+            comparer.plan(&image, &settings, ADDRESS, &[BEFORE; ROOM]);
+        }
+    }
+}
+
+/// Field 11 of images: every pair of the upper two bytes, and every payload
+/// that is sound, with each lower byte.
+fn signalling_images(comparer: &mut Comparer, random: &mut Random) {
+    for standard in [at::NTSC, at::PAL] {
+        let mut settings = cases::accepted(random);
+        while settings[at::STANDARD] != standard {
+            settings = cases::accepted(random);
+        }
+        let mut image = cases::settled(&cases::any_image(random), &settings);
+        for pair in 0..=u16::MAX {
+            [image[reg::SIGNAL_TOP], image[reg::SIGNAL_MIDDLE]] = pair.to_be_bytes();
+            for low in LOWS {
+                image[reg::SIGNAL_LOW] = low;
+                comparer.read(&image, &[BEFORE as i32; SETTINGS]);
+            }
+        }
+        let kind = if standard == at::PAL {
+            at::WSS
+        } else {
+            at::CGMS
+        };
+        for payload in 0..=LAST_PAYLOAD {
+            settings[at::SIGNALLING..=at::CHIP_CHECK].copy_from_slice(&[
+                kind,
+                payload,
+                0,
+                1,
+                payload & 1,
+            ]);
+            let image = cases::settled(&image, &settings);
+            comparer.read(&image, &[BEFORE as i32; SETTINGS]);
+        }
+    }
+}

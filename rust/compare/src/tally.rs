@@ -1,0 +1,121 @@
+//! Which refusals came, and which can.
+
+/// The entry points.
+#[derive(Clone, Copy, PartialEq, Eq)]
+pub enum Entry {
+    /// Planning.
+    Plan,
+    /// Playing.
+    Play,
+    /// Reading.
+    Read,
+}
+
+/// Their names, in that order.
+const NAMES: [&str; 3] = ["plan", "play", "read"];
+/// Numbers of refusals, none among them.
+const REFUSALS: usize = 11;
+/// Numbers of fields, none among them.
+const FIELDS: usize = 29;
+/// The refusal of a number outside its range.
+const RANGE: u32 = 3;
+/// The last field that settings have.
+const LAST_SET: u32 = 27;
+
+/// Planning: at no field, and at one. Refusal 3 can occur at every field that
+/// is set, and for another length than 49.
+const PLAN: [(u32, u32); 12] = [
+    (1, 0),
+    (2, 0),
+    (10, 0),
+    (4, 1),
+    (5, 3),
+    (6, 4),
+    (4, 6),
+    (7, 11),
+    (4, 11),
+    (4, 18),
+    (4, 19),
+    (4, 23),
+];
+/// Playing.
+const PLAY: [(u32, u32); 3] = [(1, 0), (2, 0), (9, 0)];
+/// Reading. Fields whose every code has a setting aren't among them.
+const READ: [(u32, u32); 19] = [
+    (1, 0),
+    (3, 0),
+    (4, 1),
+    (5, 3),
+    (6, 4),
+    (4, 6),
+    (4, 8),
+    (7, 11),
+    (4, 11),
+    (8, 11),
+    (3, 12),
+    (3, 16),
+    (4, 16),
+    (3, 17),
+    (4, 17),
+    (4, 18),
+    (4, 19),
+    (4, 23),
+    (8, 28),
+];
+
+/// Counts by entry, refusal and field.
+pub struct Tally([[[u64; FIELDS]; REFUSALS]; 3]);
+
+impl Tally {
+    /// Nothing counted.
+    pub fn new() -> Tally {
+        Tally([[[0; FIELDS]; REFUSALS]; 3])
+    }
+
+    /// Counts one answer; says whether such a one can be.
+    pub fn count(&mut self, entry: Entry, refusal: u32, field: u32) -> bool {
+        let (r, f) = (refusal as usize, field as usize);
+        if r < REFUSALS && f < FIELDS {
+            self.0[entry as usize][r][f] += 1;
+        }
+        can_be(entry, refusal, field)
+    }
+
+    /// Prints the table, and gives how many that can occur never came.
+    pub fn print(&self) -> u64 {
+        println!("entry refusal field      count");
+        let mut missing = 0;
+        for entry in [Entry::Plan, Entry::Play, Entry::Read] {
+            for refusal in 0..REFUSALS as u32 {
+                for field in 0..FIELDS as u32 {
+                    let count = self.0[entry as usize][refusal as usize][field as usize];
+                    let can = can_be(entry, refusal, field);
+                    if count > 0 || can {
+                        let name = NAMES[entry as usize];
+                        let note = if count == 0 { "  NEVER CAME" } else { "" };
+                        println!("{name:5} {refusal:7} {field:5} {count:10}{note}");
+                    }
+                    missing += (count == 0 && can) as u64;
+                }
+            }
+        }
+        missing
+    }
+}
+
+impl Default for Tally {
+    fn default() -> Tally {
+        Tally::new()
+    }
+}
+
+/// Whether an entry can answer this. 0 with 0 is an accepted call.
+fn can_be(entry: Entry, refusal: u32, field: u32) -> bool {
+    let pair = (refusal, field);
+    let listed = match entry {
+        Entry::Plan => PLAN.contains(&pair) || refusal == RANGE && field <= LAST_SET,
+        Entry::Play => PLAY.contains(&pair),
+        Entry::Read => READ.contains(&pair),
+    };
+    listed || pair == (0, 0)
+}

@@ -1,0 +1,28 @@
+//! Planning, playing and reading back settings of one ADV7194, in plain Rust.
+//!
+//! Written from the papers alone. It shares no code and no table with the
+//! proved library: it is what that library is compared with, and timed against.
+#![forbid(unsafe_code)]
+#![warn(missing_docs)]
+
+pub mod codes;
+pub mod fields;
+pub mod gamma;
+pub mod least;
+pub mod refusal;
+pub mod registers;
+pub mod search;
+pub mod signal;
+pub mod subcarrier;
+
+mod check;
+mod pack;
+mod plan;
+mod play;
+mod read;
+mod wanted;
+
+pub use check::check;
+pub use plan::{plan, PlanAnswer};
+pub use play::{play, PlayAnswer};
+pub use read::{read, ReadAnswer};

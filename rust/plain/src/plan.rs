@@ -1,0 +1,65 @@
+//! Planning: from an image and settings to the packed least plan.
+
+use crate::check::{check_fields, numbers_of};
+use crate::least;
+use crate::pack;
+use crate::refusal::{self, check_address, Refusal};
+use crate::registers::REGISTERS;
+use crate::wanted::wanted;
+
+/// What planning answers. After a refusal all but the first two are 0.
+#[derive(Clone, Copy, Debug, Default, PartialEq, Eq)]
+pub struct PlanAnswer {
+    /// The refusal, or 0.
+    pub refusal: u32,
+    /// The field at fault, or 0.
+    pub field: u32,
+    /// Bytes of the packed plan.
+    pub length: u32,
+    /// Transactions.
+    pub transactions: u32,
+    /// Bus bytes.
+    pub bus_bytes: u32,
+}
+
+/// Packs into `plan` the least list of transactions that brings a chip holding
+/// `image` to the settings. Checks 1, 2, the fields in order, then 10.
+pub fn plan(image: &[u8], settings: &[i32], address: u32, plan: &mut [u8]) -> PlanAnswer {
+    planned(image, settings, address, plan).unwrap_or_else(|refused| PlanAnswer {
+        refusal: refused.refusal,
+        field: refused.field,
+        ..PlanAnswer::default()
+    })
+}
+
+/// Planning, with its refusal as an error.
+#[inline]
+fn planned(
+    image: &[u8],
+    settings: &[i32],
+    address: u32,
+    plan: &mut [u8],
+) -> Result<PlanAnswer, Refusal> {
+    let image: &[u8; REGISTERS] = image
+        .try_into()
+        .map_err(|_| Refusal::bare(refusal::IMAGE_LENGTH))?;
+    check_address(address)?;
+    let numbers = numbers_of(settings)?;
+    check_fields(numbers)?;
+    let wanted = wanted(image, numbers);
+    let map = least::written(least::differing(image, &wanted));
+    let transactions = least::runs(map);
+    let data = map.count_ones();
+    let length = pack::length(transactions, data);
+    let room = plan
+        .get_mut(..length)
+        .ok_or(Refusal::bare(refusal::PLAN_ROOM))?;
+    pack::pack(room, transactions, map, &wanted);
+    Ok(PlanAnswer {
+        refusal: 0,
+        field: 0,
+        length: length as u32,
+        transactions,
+        bus_bytes: least::bus_bytes(transactions, data),
+    })
+}

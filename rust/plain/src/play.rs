@@ -1,0 +1,126 @@
+//! Playing: what a chip holds after a packed plan.
+
+use crate::pack::{BYTE_BITS, HEAD_BITS};
+use crate::refusal::{self, check_address, Refusal};
+use crate::registers::{span, BARRED_MAP, REGISTERS, WORD_MAP};
+
+/// What playing answers. After a refusal the last is 0.
+#[derive(Clone, Copy, Debug, Default, PartialEq, Eq)]
+pub struct PlayAnswer {
+    /// The refusal, or 0.
+    pub refusal: u32,
+    /// The field at fault: always 0.
+    pub field: u32,
+    /// 1 if every byte was acknowledged, else 0.
+    pub acknowledged: u32,
+}
+
+/// Plays the packed `plan`, sent to the address `used`, on a chip holding
+/// `image` whose own address is `own`. Checks 1, 2 for either address, then 9.
+pub fn play(image: &mut [u8], used: u32, own: u32, plan: &[u8]) -> PlayAnswer {
+    match played(image, used, own, plan) {
+        Ok(acknowledged) => PlayAnswer {
+            refusal: 0,
+            field: 0,
+            acknowledged: acknowledged as u32,
+        },
+        Err(refused) => PlayAnswer {
+            refusal: refused.refusal,
+            field: refused.field,
+            acknowledged: 0,
+        },
+    }
+}
+
+/// Playing, with its refusal as an error.
+#[inline]
+fn played(image: &mut [u8], used: u32, own: u32, plan: &[u8]) -> Result<bool, Refusal> {
+    let image: &mut [u8; REGISTERS] = image
+        .try_into()
+        .map_err(|_| Refusal::bare(refusal::IMAGE_LENGTH))?;
+    check_address(used)?;
+    check_address(own)?;
+    let mut after = *image;
+    let transactions = unpack(&mut after, plan).ok_or(Refusal::bare(refusal::PLAN_BYTES))?;
+    if used == own {
+        *image = after;
+        return Ok(true);
+    }
+    // A wrong address byte isn't acknowledged; without a transaction none is sent.
+    Ok(transactions == 0)
+}
+
+/// Where the next bits come from.
+struct Unpacker<'a> {
+    // The bytes not yet taken.
+    rest: &'a [u8],
+    // The bits taken out of bytes but not yet given, lowest last.
+    pending: u32,
+    // How many bits are pending.
+    held: u32,
+}
+
+impl<'a> Unpacker<'a> {
+    /// Takes six bits.
+    #[inline(always)]
+    fn head(&mut self) -> Option<u32> {
+        if self.held < HEAD_BITS {
+            let (&byte, rest) = self.rest.split_first()?;
+            self.rest = rest;
+            self.pending = self.pending << BYTE_BITS | byte as u32;
+            self.held += BYTE_BITS;
+        }
+        self.held -= HEAD_BITS;
+        Some(self.pending >> self.held & ((1 << HEAD_BITS) - 1))
+    }
+
+    /// Takes a byte for each of `registers`.
+    #[inline(always)]
+    fn data(&mut self, registers: &mut [u8]) -> Option<()> {
+        let (bytes, rest) = self.rest.split_at_checked(registers.len())?;
+        self.rest = rest;
+        for (register, &byte) in registers.iter_mut().zip(bytes) {
+            self.pending = self.pending << BYTE_BITS | byte as u32;
+            *register = (self.pending >> self.held) as u8;
+        }
+        Some(())
+    }
+
+    /// Whether nothing is left but zero bits that fill the last byte.
+    #[inline(always)]
+    fn is_done(&self) -> bool {
+        let fill = self.pending & ((1 << self.held) - 1);
+        self.rest.is_empty() && self.held < BYTE_BITS && fill == 0
+    }
+}
+
+/// Stores a plan's data and gives its transaction count, or nothing where its
+/// bytes break the packing or the bus rules.
+#[inline]
+fn unpack(image: &mut [u8; REGISTERS], plan: &[u8]) -> Option<u32> {
+    let mut unpacker = Unpacker {
+        rest: plan,
+        pending: 0,
+        held: 0,
+    };
+    let transactions = unpacker.head()?;
+    let mut last_end = 0;
+    for _ in 0..transactions {
+        let start = unpacker.head()? as usize;
+        let count = unpacker.head()? as usize;
+        let end = start + count;
+        if count == 0 || start < last_end || end > REGISTERS || !keeps_rules(span(start, count)) {
+            return None;
+        }
+        unpacker.data(&mut image[start..end])?;
+        last_end = end;
+    }
+    unpacker.is_done().then_some(transactions)
+}
+
+/// Whether a transaction may touch exactly these registers.
+#[inline(always)]
+pub(crate) fn keeps_rules(touched: u64) -> bool {
+    let word = touched & WORD_MAP;
+    touched & BARRED_MAP == 0 && (word == 0 || word == WORD_MAP)
+}

@@ -1,0 +1,177 @@
+//! Playing against the bus rules event by event, and the exhaustive searches.
+
+use plain::registers::{span, BARRED_MAP, READ_ONLY, REGISTERS, WORD, WORD_BYTES};
+use plain::search::{every_cover, every_list, least, spans, Cost};
+use plain::{least as planner, play};
+
+/// The chip's own address.
+const OWN: u32 = 0xD4;
+
+/// What the chip waits for.
+enum State {
+    Idle,
+    Address,
+    Subaddress,
+    Data,
+}
+
+/// A chip that is only written to.
+struct Chip {
+    state: State,
+    pointer: usize,
+    image: [u8; REGISTERS],
+}
+
+impl Chip {
+    /// Takes one byte from the master and says whether it is acknowledged.
+    fn byte(&mut self, byte: u8) -> bool {
+        let (state, taken) = match self.state {
+            State::Address if byte as u32 == OWN => (State::Subaddress, true),
+            State::Subaddress if (byte as usize) < REGISTERS => {
+                self.pointer = byte as usize;
+                (State::Data, true)
+            }
+            State::Data if self.pointer < REGISTERS => {
+                if self.pointer != READ_ONLY {
+                    self.image[self.pointer] = byte;
+                }
+                self.pointer += 1;
+                (State::Data, true)
+            }
+            _ => (State::Idle, false),
+        };
+        self.state = state;
+        taken
+    }
+
+    /// One write transaction.
+    fn write(&mut self, address: u32, start: usize, data: &[u8]) -> bool {
+        self.state = State::Address;
+        let mut all = self.byte(address as u8);
+        all &= self.byte(start as u8);
+        for &byte in data {
+            all &= self.byte(byte);
+        }
+        self.state = State::Idle;
+        all
+    }
+}
+
+/// A packed plan, bit by bit.
+fn packed(list: &[(usize, &[u8])]) -> Vec<u8> {
+    let mut bits = format!("{:06b}", list.len());
+    for (start, data) in list {
+        bits += &format!("{:06b}{:06b}", start, data.len());
+        data.iter().for_each(|byte| bits += &format!("{byte:08b}"));
+    }
+    while bits.len() % 8 != 0 {
+        bits.push('0');
+    }
+    let byte = |at: usize| u8::from_str_radix(&bits[at..at + 8], 2).unwrap();
+    (0..bits.len()).step_by(8).map(byte).collect()
+}
+
+/// Plays a list both ways; the answer is playing's refusal.
+fn both(list: &[(usize, &[u8])], used: u32) -> u32 {
+    let image: [u8; REGISTERS] = std::array::from_fn(|place| place as u8 ^ 0xA5);
+    let mut chip = Chip {
+        state: State::Idle,
+        pointer: 0,
+        image,
+    };
+    let mut all = true;
+    for (start, data) in list {
+        all &= chip.write(used, *start, data);
+    }
+    let mut played = image;
+    let answer = play(&mut played, used, OWN, &packed(list));
+    if answer.refusal == 0 {
+        assert_eq!((played, answer.acknowledged), (chip.image, all as u32));
+    } else {
+        assert_eq!((played, answer.acknowledged), (image, 0));
+    }
+    answer.refusal
+}
+
+#[test]
+fn lists() {
+    for used in [OWN, OWN + 2] {
+        assert_eq!(both(&[], used), 0);
+        assert_eq!(both(&[(0x20, &[0x97])], used), 0);
+        assert_eq!(both(&[(0x00, &[1, 2]), (0x02, &[3])], used), 0);
+        assert_eq!(both(&[(0x0B, &[1, 2, 3, 4, 5, 6]), (0x35, &[9])], used), 0);
+        // Empty, descending, overlapping, past the end.
+        assert_eq!(both(&[(0x20, &[])], used), 9);
+        assert_eq!(both(&[(0x20, &[1]), (0x1F, &[1])], used), 9);
+        assert_eq!(both(&[(0x1F, &[1, 2]), (0x20, &[1])], used), 9);
+        assert_eq!(both(&[(0x35, &[1, 2])], used), 9);
+        assert_eq!(both(&[(0x36, &[1])], used), 9);
+        // The read-only register, captions, part of the word.
+        assert_eq!(both(&[(0x33, &[1, 2])], used), 9);
+        assert_eq!(both(&[(0x10, &[1, 2])], used), 9);
+        assert_eq!(both(&[(0x14, &[1, 2])], used), 9);
+        assert_eq!(both(&[(0x0B, &[1, 2])], used), 9);
+        assert_eq!(both(&[(0x0F, &[1, 2])], used), 9);
+    }
+}
+
+#[test]
+fn bytes_that_break_the_packing() {
+    let mut image = [0; REGISTERS];
+    let mut refusal = |plan: &[u8]| play(&mut image, OWN, OWN, plan).refusal;
+    assert_eq!(refusal(&[0x06, 0x00, 0x65, 0xC0]), 0);
+    assert_eq!(refusal(&[0x06, 0x00, 0x65]), 9);
+    assert_eq!(refusal(&[0x06, 0x00, 0x65, 0xC0, 0x00]), 9);
+    assert_eq!(refusal(&[0x06, 0x00, 0x65, 0xC1]), 9);
+    assert_eq!(refusal(&[0x00]), 0);
+    assert_eq!(refusal(&[0x01]), 9);
+    assert_eq!(refusal(&[]), 9);
+}
+
+/// What the planner's map costs.
+fn planned(needed: u64) -> Cost {
+    let map = planner::written(needed);
+    let transactions = planner::runs(map);
+    Cost {
+        bytes: planner::bus_bytes(transactions, map.count_ones()),
+        transactions,
+    }
+}
+
+#[test]
+fn planner_is_least() {
+    let all = spans(0, REGISTERS - 1);
+    let windows = [
+        (0x00, 0x05),
+        (0x0A, 0x11),
+        (0x15, 0x24),
+        (0x19, 0x1E),
+        (0x31, 0x35),
+    ];
+    for (first, last) in windows {
+        let covers = every_cover(first, last);
+        if spans(first, last).len() <= plain::search::MOST_SPANS {
+            let lists = every_list(first, last);
+            let costs = lists.iter().map(|least| least.map(|least| least.cost));
+            assert!(covers.iter().copied().eq(costs));
+            // The least list is the only one, and it is the planner's.
+            for (set, least) in lists.iter().enumerate() {
+                let only = least.is_none_or(|least| {
+                    least.lists == 1 && least.touched == planner::written((set as u64) << first)
+                });
+                assert!(only);
+            }
+        }
+        for (set, cost) in covers.into_iter().enumerate() {
+            let needed = (set as u64) << first;
+            let reachable = needed & BARRED_MAP == 0;
+            // A window that cuts the word cannot hold it.
+            let whole = needed & span(WORD, WORD_BYTES) == 0 || first <= WORD;
+            assert_eq!(cost.is_some(), reachable && whole);
+            if let Some(cost) = cost {
+                assert_eq!(cost, planned(needed), "{needed:x}");
+                assert_eq!(Some(cost), least(needed, &all));
+            }
+        }
+    }
+}
