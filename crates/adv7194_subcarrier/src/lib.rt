@@ -76,11 +76,34 @@ impl Standard {
 const CYCLE_STEPS: u64 = 4294967296;
 
 // The subcarrier word: the steps of the phase accumulator at each clock.
-pub fn word(standard: Standard, square: bool) -> u32
+fn nearest_word(standard: Standard, square: bool) -> u32
     ensures answer { λ r. ⌜ r ≡ wordOf standard square ⌝ }
     ensures nearest { λ r. ⌜ Nearest (2 ^ 32 * cyclesOf standard) (divisorOf standard * clocksOf standard square) r ⌝ }
 {
     let steps = CYCLE_STEPS * standard.cycles();
     let clocks = standard.divisor() * standard.clocks_per_line(square);
     rounding::nearest(steps, clocks) as u32
+}
+
+// The subcarrier word: each by a call of its own, so that the compiler can work it out.
+pub fn word(standard: Standard, square: bool) -> u32
+    ensures answer { λ r. ⌜ r ≡ wordOf standard square ⌝ }
+    ensures nearest { λ r. ⌜ Nearest (2 ^ 32 * cyclesOf standard) (divisorOf standard * clocksOf standard square) r ⌝ }
+{
+    match standard {
+        Standard::Ntsc => {
+            if square {
+                nearest_word(Standard::Ntsc, true)
+            } else {
+                nearest_word(Standard::Ntsc, false)
+            }
+        }
+        Standard::Pal => {
+            if square {
+                nearest_word(Standard::Pal, true)
+            } else {
+                nearest_word(Standard::Pal, false)
+            }
+        }
+    }
 }
