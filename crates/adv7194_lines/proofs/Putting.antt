@@ -1,0 +1,78 @@
+-- Laws of texts written one after the other into a line that has room for them. Assumes nothing.
+use mathlib.Core.Path.{_≡_, refl, sym, ap, _∙_, subst}
+use mathlib.Core.List.{List, [], _∷_, _++_}
+use Prim.Native.Nat.{ℕ, _+_, _-_, _^_, _≤_, _<_}
+use native.Mathlib.Omega.{arith}
+use lib.IntN.{ℤ}
+use lib.ListN.{length, take, length-append}
+use lib.Signed.{mag}
+use mir.Syntax.{w32}
+use mir.ValLaws.{toZ-ofZ}
+use Rattle.rounding.proofs.Range.{back}
+use Rattle.text.specs.Line.{placeAfter, appended}
+use Rattle.text.specs.declared.Place.the-variants.{After, TooShort}
+use Rattle.text.proofs.Appending.{front, in-a-row, length-appended, nothing, after-fits, short-over}
+use Rattle.adv7194_lines.specs.Put.{Put}
+
+module _ {line : List ℕ} {at : ℕ} {text after : List ℕ} {place : ℕ} where
+  -- a text that was put
+  pub put : place ≡ at + length text → after ≡ appended line at text → Put (length text) line at text after place
+  put a m = record { answer = a; memory = m; most = omega arith }
+
+  -- a text whose append answered a place
+  pub placed : {n : ℕ} → length text ≤ n → placeAfter line at text ≡ After place → after ≡ appended line at text → Put n line at text after place
+  placed h e m = let a = after-fits line at text place e .1 in record { answer = a; memory = m; most = omega arith }
+
+  -- a text has no more bytes than a wider one may have
+  pub wider : {n : ℕ} (k : ℕ) → n ≤ k → Put n line at text after place → Put k line at text after place
+  wider k h p = record { answer = p .answer; memory = p .memory; most = omega arith }
+
+  -- the same text, told otherwise
+  pub told : {n : ℕ} {same : List ℕ} → text ≡ same → Put n line at text after place → Put n line at same after place
+  told {n} e p = subst (λ (t : List ℕ). Put n line at t after place) e p
+
+  -- the line keeps its length
+  pub kept : {n : ℕ} → Put n line at text after place → length after ≡ length line
+  kept p = ap length (p .memory) ∙ length-appended line at text
+
+  -- a further text
+  pub more : {n m : ℕ} {second after' : List ℕ} {place' : ℕ} → Put n line at text after place → Put m after place second after' place'
+      → at + (n + m) ≤ length line → Put (n + m) line at (text ++ second) after' place'
+  more {n} {m} {second} {after'} {place'} p q h =
+      let both : length (text ++ second) ≡ length text + length second = length-append text second in
+      let a = p .answer in
+      let b = q .answer in
+      record {
+        answer = omega arith;
+        memory =
+            q .memory
+            ∙ ap (λ (l : List ℕ). appended l place second) (p .memory)
+            ∙ ap (λ (k : ℕ). appended (appended line at text) k second) a
+            ∙ in-a-row line at text second (omega (arith, p .most, q .most));
+        most = omega (arith, p .most, q .most);
+      }
+
+-- the part that holds a text put at the front
+pub part : {n : ℕ} {line text after : List ℕ} {place : ℕ} → Put n line 0 text after place → n ≤ length line → take (place - 0) after ≡ text
+part {n} {line} {text} {after} {place} p h =
+    let a = p .answer in
+    let m = p .most in
+    let k : place - 0 ≡ length text = omega arith in
+    ap (λ (j : ℕ). take j after) k ∙ ap (take (length text)) (p .memory) ∙ front line text (omega arith)
+
+-- nothing was put
+pub none : (line : List ℕ) {n : ℕ} → Put n line 0 [] line 0
+none line = record { answer = refl; memory = sym (nothing line 0 (omega arith)); most = omega arith }
+
+-- a text that has room is not answered to have none
+pub roomy : (line : List ℕ) (at : ℕ) (text : List ℕ) {n : ℕ} → length text ≤ n → at + n ≤ length line → placeAfter line at text ≡ TooShort → ⊥
+roomy line at text h r e = omega (arith, short-over line at text e)
+
+-- a number as the machine passes it
+pub same : (z : ℤ) → mag z < 2 ^ 31 → back w32 z ≡ z
+same z h = toZ-ofZ w32 z (record { sfits = h })
+
+-- a number that was passed is the setting
+pub passed : {n : ℕ} {line : List ℕ} {at : ℕ} {after : List ℕ} {place : ℕ} (text : ℤ → List ℕ) (z : ℤ) → mag z < 2 ^ 31
+    → Put n line at (text (back w32 z)) after place → Put n line at (text z) after place
+passed text z h p = told (ap text (same z h)) p

@@ -1,0 +1,42 @@
+-- Document 01, "Promises with no slack": what a text written into a lent line that has room for it leaves there.
+use mathlib.Core.Path.{_≡_}
+use mathlib.Core.List.{List}
+use Prim.Native.Nat.{ℕ, _+_, _≤_}
+use lib.ListN.{length}
+use Rattle.text.specs.Line.{appended}
+
+-- the text is written at a place, the answer is the place after it, and it is at most `width` bytes long
+pub record Put (width : ℕ) (line : List ℕ) (at : ℕ) (text after : List ℕ) (place : ℕ) : Type 0 where
+  pub answer : place ≡ at + length text
+  pub memory : after ≡ appended line at text
+  pub most : place ≤ at + width
+
+-- ---- the most bytes of each part of a line
+
+-- a signed number of 32 bits: a sign and ten digits
+abbrev pub numberWidth : ℕ
+numberWidth = 11
+
+-- signalling: the words of CGMS and four numbers
+abbrev pub signallingWidth : ℕ
+signallingWidth = 72
+
+-- four numbers that stand for a curve's bytes
+abbrev pub fourWidth : ℕ
+fourWidth = 47
+
+-- all seven
+abbrev pub curveWidth : ℕ
+curveWidth = 83
+
+-- a field's number and name
+abbrev pub nameWidth : ℕ
+nameWidth = 24
+
+-- a unit
+abbrev pub unitWidth : ℕ
+unitWidth = 20
+
+-- any line
+abbrev pub lineWidth : ℕ
+lineWidth = 128
