@@ -1,0 +1,86 @@
+-- What the text of the house setting is: an image that isn't 54 bytes is refused, any other is planned; and the text is short. Assumes nothing.
+use mathlib.Core.Path.{_≡_, refl, sym, ap, _∙_}
+use mathlib.Core.Bool.{Bool, true, false, xor}
+use mathlib.Core.List.{List}
+use Prim.Native.Nat.{ℕ, _≤_, _^_, _<_}
+use native.Mathlib.Omega.{arith}
+use lib.Dec.{eqb}
+use lib.ListN.{length, getD}
+use borrow.Author.Tests.{eqb-true, eqb-false}
+use Rattle.bits.specs.Strings.{lsbFirst}
+use Rattle.bus.specs.Transactions.{busBytes}
+use Rattle.bus.proofs.CostLaws.{bytes-count}
+use Rattle.packing.proofs.PackedLaws.{packedBits-length}
+use Rattle.text.proofs.Numerals.{decimal-most}
+use Rattle.text.specs.Text.{leading, decimal}
+use Rattle.listing.specs.Lines.{countsLine, refusedLine}
+use Rattle.plan_listing.specs.PlanText.{planText}
+use Rattle.plan_listing.proofs.TextLaws.{first-length, text-length}
+use Rattle.adv7194_bus.specs.Kind.{registerCount}
+use Rattle.adv7194_fields.specs.Coding.{encode}
+use Rattle.adv7194_fields.specs.Fields.{fields}
+use Rattle.adv7194_gamma.specs.Curve.{curveOf}
+use Rattle.adv7194_signalling.specs.Cgms.{cgmsOf}
+use Rattle.adv7194_signalling.specs.Wss.{wssOf, oddOnes}
+use Rattle.adv7194_settings.specs.Order.{good, firstOf, placesAt, placesOf, order}
+use Rattle.adv7194_settings.specs.Rows.{together, signallingOf, gammaOf, bytesSet, numberCodings, codings, codingIn, codingAt, rowHolds}
+use Rattle.adv7194_settings.specs.House.{house}
+use Rattle.adv7194_settings.specs.Codes.{codesOf, checkOf}
+use Rattle.adv7194_least.specs.Demands.{mostBytes}
+use Rattle.adv7194_least.proofs.Room.{plan-bits, plan-room}
+use Rattle.adv7194_planning.specs.Rows.{wantedBy, listOf}
+use Rattle.adv7194_planning.proofs.CaseLaws.{wrong-length, no-row}
+use Rattle.adv7194_planning.proofs.Clauses.{change}
+use Rattle.house_listing.specs.HouseText.{boardAddress, answerText, houseTextIn, houseText}
+
+-- the most bytes of a text
+abbrev pub mostText : ℕ
+mostText = 138
+
+-- the house setting is accepted
+house-good : checkOf house ≡ good (codesOf house)
+unfolding checkOf firstOf placesAt placesOf order rowHolds codingAt codings codingIn numberCodings fields together signallingOf gammaOf bytesSet encode cgmsOf wssOf oddOnes lsbFirst curveOf xor
+house-good = refl
+
+-- an image that isn't 54 bytes is refused so
+pub not-an-image : (image : List ℕ) → (length image ≡ registerCount → ⊥) → houseText image ≡ refusedLine 1 0
+unfolding houseTextIn
+not-an-image image h = ap (answerText (listOf image house)) (wrong-length image house boardAddress mostBytes h)
+
+-- that line
+refused-length : length (refusedLine 1 0) ≡ 12
+unfolding countsLine decimal leading
+refused-length = refl
+
+module _ (image : List ℕ) (bytes : (r : ℕ) → getD image r 0 < 2 ^ 8) (h : length image ≡ registerCount) where
+  -- any other image is planned
+  pub an-image : houseText image ≡ planText (listOf image house)
+  unfolding houseTextIn listOf
+  an-image =
+      ap (answerText (listOf image house))
+      (no-row image house boardAddress mostBytes h refl (codesOf house) house-good (plan-room image (wantedBy image house) (change image house bytes h)))
+
+  -- a plan's text is short
+  planned-short : length (planText (listOf image house)) ≤ mostText
+  unfolding listOf
+  planned-short =
+      let ts = listOf image house in
+      let bits = plan-bits image (wantedBy image house) (change image house bytes h) in
+      omega (
+        arith,
+        text-length ts,
+        first-length (length ts) (busBytes ts),
+        decimal-most 1 (length ts) (omega (arith, bits, packedBits-length ts, bytes-count ts)),
+        decimal-most 1 (busBytes ts) (omega (arith, bits, packedBits-length ts, bytes-count ts)),
+        bits,
+        packedBits-length ts,
+        bytes-count ts,
+      )
+
+-- no text is longer
+pub short : (image : List ℕ) → ((r : ℕ) → getD image r 0 < 2 ^ 8) → length (houseText image) ≤ mostText
+short image bytes = split (eqb (length image) registerCount) refl
+  where
+    split : (b : Bool) → eqb (length image) registerCount ≡ b → length (houseText image) ≤ mostText
+    split true e = let h = eqb-true (length image) registerCount e in rw (an-image image bytes h) (planned-short image bytes h)
+    split false e = rw (not-an-image image (eqb-false (length image) registerCount e)) (omega (arith, refused-length))

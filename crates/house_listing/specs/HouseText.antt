@@ -1,0 +1,30 @@
+-- Document 01, "Cases on each side": the program plans the house setting over an image and prints transactions, bus bytes, then a line a
+-- transaction; or the refusal, by its number and its field.
+use mathlib.Core.List.{List}
+use Prim.Native.Nat.{ℕ}
+use Rattle.bus.specs.Transactions.{Transaction}
+use Rattle.listing.specs.Lines.{refusedLine}
+use Rattle.plan_listing.specs.PlanText.{planText}
+use Rattle.planning.specs.Plan.{Counts}
+use Rattle.adv7194_settings.specs.Order.{Verdict, good, refusedAt}
+use Rattle.adv7194_settings.specs.House.{house}
+use Rattle.adv7194_least.specs.Demands.{mostBytes}
+use Rattle.adv7194_planning.specs.Rows.{listOf}
+use Rattle.adv7194_planning.specs.Planning.{planningOf}
+
+-- the bus address of the encoder on the boards
+abbrev pub boardAddress : ℕ
+boardAddress = 0x54
+
+-- the text of an answer: that of the plan's transactions, or the line of the refusal
+abbrev pub answerText : List Transaction → Verdict Counts → List ℕ
+answerText ts (good n) = planText ts
+answerText ts (refusedAt n f) = refusedLine n f
+
+-- the text of the house setting planned over an image, with a lent plan of that many bytes
+unfoldable pub houseTextIn : List ℕ → ℕ → List ℕ
+houseTextIn image room = answerText (listOf image house) (planningOf image house boardAddress room)
+
+-- the text with room for the longest plan: what the program prints
+abbrev pub houseText : List ℕ → List ℕ
+houseText image = houseTextIn image mostBytes
