@@ -1,3 +1,6 @@
+pub mod Checks
 pub mod RuleLaws
+pub mod MapRules
 pub mod KindLaws
 pub mod AddressLaws
+pub mod CopyLaws

@@ -1,4 +1,6 @@
-pub mod EventLaws
 pub mod JudgedLaws
 pub mod Rows
 pub mod Elsewhere
+pub mod WrittenLaws
+pub mod WalkLaws
+pub mod WrittenRun

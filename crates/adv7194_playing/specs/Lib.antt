@@ -1,2 +1,2 @@
 pub mod Playing
-pub mod Progress
+pub mod Written

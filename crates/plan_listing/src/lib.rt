@@ -4,18 +4,20 @@ ghost use Prim.Native.Nat.{_+_, _*_, _^_, _≤_, _<_};
 ghost use lib.ListN.{length};
 ghost use Rattle.bus.specs.Cost.{dataCount};
 ghost use Rattle.unpacking.specs.Unpacking.{unpack};
-ghost use Rattle.unpacking.specs.Left.{left, Within, Further};
+ghost use Rattle.unpacking.specs.Places.{Placed};
 ghost use Rattle.unpacking.specs.Ahead.{headed, listed, Accepted};
 ghost use Rattle.text.specs.Line.{placeAfter, appended};
 ghost use Rattle.listing.specs.Lines.{planLine};
 ghost use Rattle.plan_listing.specs.PlanText.{transactionLine, transactionLines, planText};
 ghost use Rattle.plan_listing.specs.Listing.{listingOf, listingIn, listedAs};
-use packing::BYTE_BITS;
-use packing::Pending;
 use refusals::Refusal;
 use text::Place;
 use unpacking::Checked;
-use unpacking::Header;
+use unpacking::places::FIRST_HELD;
+use unpacking::places::ONE_TRANSACTION;
+use unpacking::places::PlacedHeader;
+use unpacking::places::byte_at;
+use unpacking::places::header_at;
 
 // The digits of a byte.
 const HEX_DIGITS: usize = 2;
@@ -31,28 +33,27 @@ pub enum Listed {
     Refused(Refusal),
 }
 
-// The places after a line: in the text, and in the plan.
-struct Progress {
-    end: usize,
-    next: Pending,
-}
-
 // How many data bytes a well-formed plan has in all.
 fn data_bytes(plan: &[u8]) -> u32
     requires { ⌜ Accepted (now plan) ⌝ }
     ensures answer { λ r. ⌜ r ≡ dataCount (listed (unpack (now (plan .entry)))) ⌝ }
     ensures most { λ r. ⌜ r < 2 ^ 16 ⌝ }
 {
-    let first = unpacking::opened(plan);
-    let transactions = first.value;
-    let mut next = first.next;
+    let transactions = plan[0] / ONE_TRANSACTION;
+    let mut place = unpacking::places::Place {
+        at: 1,
+        held: FIRST_HELD,
+    };
     let mut all: u32 = 0;
     let mut i: u8 = 0;
     while i < transactions {
-        let header = unpacking::take_header(plan, next);
+        let header = header_at(plan, place);
         let count = header.count;
-        let bytes = header.next;
-        next = unpacking::skip(plan, bytes, count as usize);
+        let next = header.next;
+        place = unpacking::places::Place {
+            at: next.at + count as usize,
+            held: next.held,
+        };
         all += count as u32;
         i += 1;
     }
@@ -67,31 +68,30 @@ fn plan_line_length(transactions: u64, bytes: u64) -> usize
     text::decimal_length(transactions) + text::decimal_length(bytes) + PLAN_LINE_FIXED
 }
 
-// Writes the line of the transaction whose header was taken, where there is room for it.
-fn put_line(out: &mut [u8], at: usize, plan: &[u8], header: Header) -> Progress
-    requires { ⌜ Within (now plan) (header .next) × (header .count < 64) × (header .count * 8 ≤ length (left (now plan) (header .next))) × (at + 3 * (header .count + 1) ≤ length (now out)) ⌝ }
-    ensures answer { λ r. ⌜ r .end ≡ at + 3 * (header .count + 1) ⌝ }
+// Writes the line of the transaction whose header was taken, where there is room for it, and answers the place after it.
+fn put_line(out: &mut [u8], at: usize, plan: &[u8], header: PlacedHeader) -> usize
+    requires { ⌜ Placed (now plan) (header .next) × (header .count < 64) × (header .next .at + header .count ≤ length (now plan)) × (at + 3 * (header .count + 1) ≤ length (now out)) ⌝ }
+    ensures answer { λ r. ⌜ r ≡ at + 3 * (header .count + 1) ⌝ }
     ensures memory { λ r. ⌜ now (out .exit) ≡ appended (now (out .entry)) at (transactionLine (headed (now (plan .entry)) header)) ⌝ }
-    ensures further { λ r. ⌜ Further (now (plan .entry)) (header .next) (header .count * 8) (r .next) ⌝ }
 {
     text::hex_byte(out, at, header.subaddress);
     let count = header.count;
+    let next = header.next;
     let mut end = at + HEX_DIGITS;
-    let mut next = header.next;
     let mut i: u8 = 0;
     while i < count {
-        let taken = unpacking::take(plan, next, BYTE_BITS);
+        let datum = unpacking::places::Place {
+            at: next.at + i as usize,
+            held: next.held,
+        };
+        let byte = byte_at(plan, datum);
         out[end] = b' ';
-        text::hex_byte(out, end + 1, taken.value);
+        text::hex_byte(out, end + 1, byte);
         end += BYTE_TEXT;
-        next = taken.next;
         i += 1;
     }
     out[end] = b'\n';
-    Progress {
-        end: end + 1,
-        next: next,
-    }
+    end + 1
 }
 
 // Writes a line a transaction of a well-formed plan, where there is room for them, and answers the place after them.
@@ -100,16 +100,22 @@ fn put_lines(out: &mut [u8], at: usize, plan: &[u8]) -> usize
     ensures answer { λ r. ⌜ r ≡ at + length (transactionLines (listed (unpack (now (plan .entry))))) ⌝ }
     ensures memory { λ r. ⌜ now (out .exit) ≡ appended (now (out .entry)) at (transactionLines (listed (unpack (now (plan .entry))))) ⌝ }
 {
-    let first = unpacking::opened(plan);
-    let transactions = first.value;
-    let mut next = first.next;
+    let transactions = plan[0] / ONE_TRANSACTION;
+    let mut place = unpacking::places::Place {
+        at: 1,
+        held: FIRST_HELD,
+    };
     let mut end = at;
     let mut lines: u8 = 0;
     while lines < transactions {
-        let header = unpacking::take_header(plan, next);
-        let progress = put_line(out, end, plan, header);
-        end = progress.end;
-        next = progress.next;
+        let header = header_at(plan, place);
+        let count = header.count;
+        let next = header.next;
+        end = put_line(out, end, plan, header);
+        place = unpacking::places::Place {
+            at: next.at + count as usize,
+            held: next.held,
+        };
         lines += 1;
     }
     end

@@ -7,8 +7,10 @@ use lib.Dec.{T, eqb}
 use lib.ListN.{length, take, drop}
 use Rattle.bits.specs.Strings.{msbValue, byteBits, bytesOf}
 use Rattle.bus.specs.Transactions.{Transaction}
-use Rattle.refusals.specs.Refusal.{Judged, accepted, refused}
+use Rattle.refusals.specs.Refusal.{Judged, accepted, refused, numberOf}
 use Rattle.packing.specs.Packing.{packed, wellFormed}
+use Rattle.unpacking.specs.declared.Checked.{Checked}
+use Rattle.unpacking.specs.declared.Checked.the-variants.{WellFormed, Refused}
 
 -- what unpacking a plan answers: the well-formed transactions whose packing it is, or, where there are none, refusal 9
 pub data Unpacks (plan : List ℕ) : Judged (List Transaction) → Type 0 where
@@ -45,3 +47,8 @@ unpack plan = cond (wellFormed (candidate plan) && same plan (packed (candidate 
 abbrev pub counted : Judged (List Transaction) → Judged ℕ
 counted (accepted ts) = accepted (length ts)
 counted (refused n) = refused n
+
+-- the answer of a check as document 01 has it
+abbrev pub answerOf : Checked → Judged ℕ
+answerOf (WellFormed n) = accepted n
+answerOf (Refused r) = refused (numberOf r)

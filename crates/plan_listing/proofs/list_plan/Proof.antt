@@ -4,8 +4,7 @@ use mathlib.Core.List.{List}
 use borrow.Author.Needs.{needs}
 use Rattle.refusals.specs.Refusal.{Judged, accepted, numberOf}
 use Rattle.bus.specs.Transactions.{Transaction}
-use Rattle.unpacking.specs.Unpacking.{unpack, counted}
-use Rattle.unpacking.specs.Left.{answerOf}
+use Rattle.unpacking.specs.Unpacking.{unpack, counted, answerOf}
 use Rattle.unpacking.specs.Ahead.{Accepted}
 use Rattle.unpacking.proofs.PlanLaws.{accepted-plan, listed-length, refused-list}
 use Rattle.plan_listing.specs.Listing.{listingOf, listingIn}

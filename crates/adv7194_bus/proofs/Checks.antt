@@ -1,0 +1,35 @@
+-- A fact of every number below a bound, from one test that is computed at each. Assumes nothing.
+use mathlib.Core.Path.{_≡_, refl, subst⁻¹}
+use mathlib.Core.Bool.{Bool, true, false, not, _&&_}
+use Prim.Native.Nat.{ℕ, zero, suc, _<_}
+use native.Mathlib.Omega.{arith}
+use lib.Dec.{T, eqb}
+use borrow.Author.Tests.{eqb-true, eqb-false}
+use Rattle.bits.proofs.FlagLaws.{first, second}
+
+-- two tests have one answer
+unfoldable pub agrees : Bool → Bool → Bool
+agrees true b = b
+agrees false b = not b
+
+pub same-bool : (a b : Bool) → T (agrees a b) → a ≡ b
+unfolding agrees
+same-bool true true h = refl
+same-bool true false h = absurd h
+same-bool false true h = absurd h
+same-bool false false h = refl
+
+-- one test below n
+unfoldable pub below : ℕ → (ℕ → Bool) → Bool
+below zero P = true
+below (suc n) P = P n && below n P
+
+-- holds at each number below n
+pub at-below : (n : ℕ) (P : ℕ → Bool) → T (below n P) → (r : ℕ) → r < n → T (P r)
+unfolding below
+at-below zero P h r k = absurd (omega arith)
+at-below (suc n) P h r k = split (eqb r n) refl (at-below n P (second (P n) (below n P) h) r)
+  where
+    split : (b : Bool) → eqb r n ≡ b → (r < n → T (P r)) → T (P r)
+    split true e ih = subst⁻¹ (λ (m : ℕ). T (P m)) (eqb-true r n e) (first (P n) (below n P) h)
+    split false e ih = let z = eqb-false r n e in ih (omega arith)

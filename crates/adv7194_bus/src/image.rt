@@ -1,0 +1,30 @@
+// An image's bytes: copied, and put back.
+ghost use mathlib.Core.Path.{_≡_};
+ghost use lib.ListN.{length};
+ghost use Rattle.adv7194_bus.specs.Kind.{registerCount};
+
+// An image's bytes, copied.
+pub fn copied(image: &[u8]) -> [u8; 54]
+    requires { ⌜ length (now image) ≡ registerCount ⌝ }
+    ensures answer { λ r. ⌜ r ≡ now (image .entry) ⌝ }
+{
+    let mut copy = [0u8; 54];
+    let mut i = 0;
+    while i < image.len() {
+        copy[i] = image[i];
+        i += 1;
+    }
+    copy
+}
+
+// Puts saved bytes back into an image.
+pub fn restore(image: &mut [u8], saved: &[u8])
+    requires { ⌜ length (now image) ≡ length (now saved) ⌝ }
+    ensures memory { λ r. ⌜ now (image .exit) ≡ now (saved .entry) ⌝ }
+{
+    let mut i = 0;
+    while i < saved.len() {
+        image[i] = saved[i];
+        i += 1;
+    }
+}
