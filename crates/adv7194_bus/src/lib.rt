@@ -14,7 +14,7 @@ pub const REGISTERS: u32 = 0x36;
 pub const DROPPED: u64 = 0x10_0000_0000_0000;
 
 // The map of the registers that no transaction may touch: the captions' 11 to 14 and the read-only 34.
-const BARRED: u64 = 0x10_0000_001E_0000;
+pub const BARRED: u64 = 0x10_0000_001E_0000;
 
 // The map of the subcarrier word's registers, 0C to 0F.
 pub const WORD: u64 = 0xF000;

@@ -1,49 +1,37 @@
--- From the bytes of a ratio, or from a number outside 1 to 3, to both statements of the answer. Assumes nothing.
-use mathlib.Core.Path.{_≡_, refl, sym, ap, _∙_, subst}
-use mathlib.Core.Bool.{Bool, true, false, _&&_}
+-- What p and q of 1 to 3 have; and from the bytes of their ratio, or from a number outside, to both statements of the answer. Assumes nothing.
+use mathlib.Core.Path.{_≡_, refl, sym, subst}
+use mathlib.Core.Bool.{true, false, _&&_}
 use mathlib.Core.List.{List, [], _∷_, map}
 use Prim.Native.Nat.{ℕ, zero, suc, _+_, _-_, _≤_, _<_}
 use native.Mathlib.Nat.{le-of-suc-le-suc, not-suc-le-zero}
 use native.Mathlib.Omega.{arith}
 use lib.Dec.{T, leb, leb→le}
-use lib.IntN.{ℤ, pos, negsuc}
+use lib.IntN.{ℤ, pos, negsuc, natAbs}
 use lib.ListN.{length, getD}
-use mir.Syntax.{w32}
-use mir.Val.{toZ, ofZ, SFits}
-use mir.ValLaws.{toZ-ofZ}
-use borrow.Author.Tests.{le-leb, lt-leb}
+use lib.Signed.{nonNeg}
 use Rattle.refusals.specs.Refusal.{accepted, refused}
-use Rattle.rounding.proofs.Range.{both-l, both-r, below-at, eqZ, eqZ→eq}
+use Rattle.rounding.proofs.Range.{both-l, both-r, below-at}
 use Rattle.adv7194_gamma.specs.Power.{nearestPower, NearestPower}
 use Rattle.adv7194_gamma.specs.Curve.{places, byteAt, bytesOf, inRatio, curveOf, NearestByte, NearestBytes}
 use Rattle.adv7194_gamma.proofs.Nearest.{nearest-power}
 
--- a number that has the bits of none of 1 to 3, as a match leaves it
-abbrev pub Left : ℤ → Type 0
-Left z = ((Unit {0} × (ofZ w32 z ≡ 1 → ⊥)) × (ofZ w32 z ≡ 2 → ⊥)) × (ofZ w32 z ≡ 3 → ⊥)
+-- what a number of 1 to 3 has: no sign, and its magnitude is 1 to 3
+pub record Inside (z : ℤ) : Type 0 where
+  pub sign : T (nonNeg z)
+  pub low : 0 < natAbs z
+  pub high : natAbs z ≤ 3
 
-outside : (z : ℤ) → Left z → inRatio z ≡ false
-outside (negsuc n) h = refl
-outside (pos zero) h = refl
-outside (pos (suc zero)) h = absurd (h .0 .0 .1 refl)
-outside (pos (suc (suc zero))) h = absurd (h .0 .1 refl)
-outside (pos (suc (suc (suc zero)))) h = absurd (h .1 refl)
-outside (pos (suc (suc (suc (suc n))))) h =
-    let z = suc (suc (suc (suc n))) in
-    rw (le-leb 1 z (omega arith), lt-leb z 3 (omega arith))
+inside : (z : ℤ) → T (inRatio z) → Inside z
+inside (pos n) t = record { sign = tt; low = leb→le 1 n (both-l (leb 1 n) _ t); high = leb→le n 3 (both-r (leb 1 n) _ t) }
+inside (negsuc n) t = absurd t
 
-and-false : (b : Bool) → b && false ≡ false
-and-false true = refl
-and-false false = refl
+-- p and q that both are
+module _ (p q : ℤ) (e : inRatio p && inRatio q ≡ true) where
+  pub p-inside : Inside p
+  p-inside = inside p (both-l (inRatio p) _ (subst T (sym e) tt))
 
--- the answer where p is outside, and where q is
-pub refusing-p : (p q : ℤ) → Left p → refused 3 ≡ curveOf p q
-unfolding curveOf
-refusing-p p q h = rw (outside p h)
-
-pub refusing-q : (p q : ℤ) → Left q → refused 3 ≡ curveOf p q
-unfolding curveOf
-refusing-q p q h = rw (outside q h, and-false (inRatio p))
+  pub q-inside : Inside q
+  q-inside = inside q (both-r (inRatio p) _ (subst T (sym e) tt))
 
 -- an element of a list's images
 at-map : (f : ℕ → ℕ) (l : List ℕ) (k : ℕ) → k < length l → getD (map f l) k 0 ≡ f (getD l k 0)
@@ -58,37 +46,18 @@ nearest-byte p q n h hq =
     let same : r ≡ 16 + r - 16 = omega arith in
     record { base = omega arith; nearest = subst (λ (k : ℕ). NearestPower (n - 16) p q k) same (nearest-power (n - 16) p q (omega arith) hq) }
 
-true-of : (b : Bool) → T b → b ≡ true
-true-of true t = refl
-true-of false t = absurd t
-
--- k is 1 to 3, and as a signed number has the bits of k
-abbrev pub literal : ℕ → Bool
-literal k = eqZ (toZ w32 k) (pos k) && inRatio (pos k)
-
-inside : (k : ℕ) → T (literal k) → inRatio (pos k) ≡ true
-inside k t = true-of (inRatio (pos k)) (both-r (eqZ (toZ w32 k) (pos k)) _ t)
-
--- a number that a match found to be k
-found : (k : ℕ) (z : ℤ) → T (literal k) → SFits w32 z → ofZ w32 z ≡ k → z ≡ pos k
-found k z t f e = sym (toZ-ofZ w32 z f) ∙ ap (toZ w32) e ∙ eqZ→eq (toZ w32 k) (pos k) (both-l (eqZ (toZ w32 k) (pos k)) _ t)
-
--- the answer where a match found p and q, from the ratio's bytes
-pub accepting : (p q : ℕ) (zp zq : ℤ) (bytes : List ℕ) → T (literal p && literal q) → SFits w32 zp → SFits w32 zq → ofZ w32 zp ≡ p → ofZ w32 zq ≡ q → bytes ≡ bytesOf p q
-    → (accepted bytes ≡ curveOf zp zq) × NearestBytes zp zq (accepted bytes)
+-- the answer where p and q are 1 to 3, from the ratio's bytes
+pub accepting : (p q : ℤ) (bytes : List ℕ) → inRatio p && inRatio q ≡ true → bytes ≡ bytesOf (natAbs p) (natAbs q)
+    → (accepted bytes ≡ curveOf p q) × NearestBytes p q (accepted bytes)
 unfolding curveOf bytesOf
-accepting p q zp zq bytes t fp fq kp kq e = rw (found p zp tp fp kp, found q zq tq fq kq, e) (rw (inside p tp, inside q tq), nearest)
+accepting p q bytes both e = rw e (rw both, nearest)
   where
-    tp : T (literal p)
-    tp = both-l (literal p) _ t
-
-    tq : T (literal q)
-    tq = both-r (literal p) _ t
-
-    q-low : 0 < q
-    q-low = leb→le 1 q (both-l (leb 1 q) _ (both-r (eqZ (toZ w32 q) (pos q)) _ tq))
-
-    nearest : (k : ℕ) → k < length places → NearestByte p q (getD places k 0) (getD (map (byteAt p q) places) k 0)
+    nearest : (k : ℕ) → k < length places → NearestByte (natAbs p) (natAbs q) (getD places k 0) (getD (map (byteAt (natAbs p) (natAbs q)) places) k 0)
     nearest k h =
-        rw (at-map (byteAt p q) places k h)
-        (nearest-byte p q (getD places k 0) (leb→le _ 240 (below-at (λ k. leb (getD places k 0) 240) 7 tt k h)) q-low)
+        rw (at-map (byteAt (natAbs p) (natAbs q)) places k h)
+        (nearest-byte (natAbs p) (natAbs q) (getD places k 0) (leb→le _ 240 (below-at (λ k. leb (getD places k 0) 240) 7 tt k h)) (q-inside p q both .low))
+
+-- the answer where one of them is not
+pub refusing : (p q : ℤ) → inRatio p && inRatio q ≡ false → refused 3 ≡ curveOf p q
+unfolding curveOf
+refusing p q e = rw e

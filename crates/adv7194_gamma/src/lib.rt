@@ -1,7 +1,8 @@
 // The gamma curves of the ADV7194 that a ratio gives.
 ghost use mathlib.Core.Path.{_≡_};
+ghost use Prim.Native.Nat.{ℕ, _+_, _*_};
 ghost use Rattle.adv7194_gamma.specs.Power.{Ratio};
-ghost use Rattle.adv7194_gamma.specs.Curve.{bytesOf, curveOf, NearestBytes};
+ghost use Rattle.adv7194_gamma.specs.Curve.{byteAt, bytesOf, inRatio, curveOf, NearestBytes};
 ghost use Rattle.adv7194_gamma.specs.Answer.{bytesIn, judged};
 use refusals::Refusal;
 
@@ -24,16 +25,25 @@ pub enum Coded {
     Refused(Refusal),
 }
 
-// The curve of a ratio, each point searched for from the one before.
-fn of_ratio(p: u64, q: u64) -> Points
-    requires { ⌜ Ratio p q ⌝ }
+// The least number of a ratio, and the greatest.
+const FIRST: i32 = 1;
+
+const LAST: i32 = 3;
+
+// How far the pairs of a p lie from those of the next: a number for each q.
+const ROW: u32 = 3;
+
+// The curve of a ratio, each point searched for from the one before; the upper three from the byte at 128, which is given as a number of its own, so that
+// the compiler can work out both halves.
+fn of_ratio(p: u64, q: u64, middle: u8) -> Points
+    requires { ⌜ Ratio p q × (middle ≡ byteAt p q 128) ⌝ }
     ensures answer { λ r. ⌜ bytesIn r ≡ bytesOf p q ⌝ }
 {
     let b0 = search::byte_from(32, p, q, search::LEAST);
     let b1 = search::byte_from(64, p, q, b0);
     let b2 = search::byte_from(96, p, q, b1);
     let b3 = search::byte_from(128, p, q, b2);
-    let b4 = search::byte_from(160, p, q, b3);
+    let b4 = search::byte_from(160, p, q, middle);
     let b5 = search::byte_from(192, p, q, b4);
     let b6 = search::byte_from(224, p, q, b5);
     Points {
@@ -47,30 +57,37 @@ fn of_ratio(p: u64, q: u64) -> Points
     }
 }
 
-// The curve of the ratio p / q: each ratio by a call of its own, so that the compiler can work it out.
+// The curve of p and q, given as the number 3p + q: each pair by a call of its own, so that the compiler can work it out.
+fn of_pair(pair: u32) -> Points
+    ensures answer { λ r. ⌜ ((p q : ℕ) → Ratio p q → pair ≡ 3 * p + q → bytesIn r ≡ bytesOf p q) ⌝ }
+{
+    match pair {
+        4 => of_ratio(1, 1, 0x80),
+        5 => of_ratio(1, 2, 0xAE),
+        6 => of_ratio(1, 3, 0xC2),
+        7 => of_ratio(2, 1, 0x48),
+        8 => of_ratio(2, 2, 0x80),
+        9 => of_ratio(2, 3, 0x9D),
+        10 => of_ratio(3, 1, 0x2C),
+        11 => of_ratio(3, 2, 0x5F),
+        _ => of_ratio(3, 3, 0x80),
+    }
+}
+
+// Whether a number is one of 1 to 3.
+fn inside(n: i32) -> bool
+    ensures answer { λ b. ⌜ b ≡ inRatio n ⌝ }
+{
+    (FIRST <= n) & (n <= LAST)
+}
+
+// The curve of the ratio p / q.
 pub fn curve(p: i32, q: i32) -> Coded
     ensures answer { λ r. ⌜ judged r ≡ curveOf p q ⌝ }
     ensures nearest { λ r. ⌜ NearestBytes p q (judged r) ⌝ }
 {
-    match p {
-        1 => match q {
-            1 => Coded::Curve(of_ratio(1, 1)),
-            2 => Coded::Curve(of_ratio(1, 2)),
-            3 => Coded::Curve(of_ratio(1, 3)),
-            _ => Coded::Refused(Refusal::OutOfRange),
-        },
-        2 => match q {
-            1 => Coded::Curve(of_ratio(2, 1)),
-            2 => Coded::Curve(of_ratio(2, 2)),
-            3 => Coded::Curve(of_ratio(2, 3)),
-            _ => Coded::Refused(Refusal::OutOfRange),
-        },
-        3 => match q {
-            1 => Coded::Curve(of_ratio(3, 1)),
-            2 => Coded::Curve(of_ratio(3, 2)),
-            3 => Coded::Curve(of_ratio(3, 3)),
-            _ => Coded::Refused(Refusal::OutOfRange),
-        },
-        _ => Coded::Refused(Refusal::OutOfRange),
+    if inside(p) & inside(q) {
+        return Coded::Curve(of_pair(ROW * p as u32 + q as u32));
     }
+    Coded::Refused(Refusal::OutOfRange)
 }

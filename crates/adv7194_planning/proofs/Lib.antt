@@ -3,3 +3,4 @@ pub mod ExactLaws
 pub mod RegisterMaps
 pub mod Clauses
 pub mod MapPlan
+pub mod ComparedLaws

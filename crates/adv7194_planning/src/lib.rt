@@ -11,6 +11,7 @@ ghost use Rattle.adv7194_least.specs.Demands.{Played, Counted, Least, Only, mos
 ghost use Rattle.adv7194_planning.specs.Rows.{wantedBy, listOf};
 ghost use Rattle.adv7194_planning.specs.Planning.{planningOf, planLeft, withoutField, done, answerOf};
 use crate::image::wanted_image;
+use crate::registers::changed_registers;
 use crate::registers::needed_registers;
 use crate::registers::writable_registers;
 use adv7194_bus::REGISTERS;
@@ -19,7 +20,6 @@ use adv7194_settings::Checked;
 use adv7194_settings::check;
 use adv7194_settings::codes::Codes;
 use adv7194_settings::settings::Settings;
-use planning::maps::differing;
 use planning::plan::Packed;
 use planning::plan::pack;
 use refusals::Refusal;
@@ -49,7 +49,7 @@ fn plan_change(image: &[u8], wanted: &[u8], plan: &mut [u8]) -> Planned
     ensures answer { λ r. ⌜ answerOf r ≡ withoutField (packingOf (planOf (now (image .entry)) (now (wanted .entry))) (length (now (plan .entry)))) ⌝ }
     ensures memory { λ r. ⌜ now (plan .exit) ≡ planAfter (planOf (now (image .entry)) (now (wanted .entry))) (now (plan .entry)) ⌝ }
 {
-    let needed = needed_registers(differing(image, wanted));
+    let needed = needed_registers(changed_registers(image, wanted));
     let writable = writable_registers();
     match pack(plan, needed, writable, wanted) {
         Packed::TooShort => Planned::Refused {

@@ -73,7 +73,7 @@ signallingOfWss z = record { kind = pos 2; number = z; odd = pos 0; even = pos 0
 
 module _ (image : List ℕ) (a : byteAt image 0x1A < 256) (b : byteAt image 0x1B < 256) where
   -- it is the lowest 14 bits of the word
-  word-number : wordNumber image ≡ pos (joinedOf (byteAt image 0x19) (byteAt image 0x1A) (byteAt image 0x1B) % 0x4000)
+  pub word-number : wordNumber image ≡ pos (joinedOf (byteAt image 0x19) (byteAt image 0x1A) (byteAt image 0x1B) % 0x4000)
   unfolding wordNumber
   word-number =
       let low = lsbFirst 8 (byteAt image 0x1B) in

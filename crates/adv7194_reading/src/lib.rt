@@ -3,6 +3,7 @@ mod curves;
 pub mod reading;
 mod refusal;
 mod signal;
+mod signal_word;
 mod word;
 
 use adv7194_settings::settings::Settings;

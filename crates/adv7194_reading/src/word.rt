@@ -24,7 +24,7 @@ fn standard_of(standard: i32) -> Standard
 }
 
 // The word in four bytes, lowest first.
-fn joined(b0: u8, b1: u8, b2: u8, b3: u8) -> u32
+pub fn joined(b0: u8, b1: u8, b2: u8, b3: u8) -> u32
     ensures answer { λ r. ⌜ r ≡ b0 + b1 * 2 ^ 8 + b2 * 2 ^ 16 + b3 * 2 ^ 24 ⌝ }
 {
     b0 as u32 + b1 as u32 * 0x100 + b2 as u32 * 0x1_0000 + b3 as u32 * 0x100_0000

@@ -1,4 +1,4 @@
-// What the fields' readers share: the code in a field's bits, the must-be-zero bits of a register, and a setting compared.
+// What the fields' readers share: the code in a field's bits, a yes/no in one bit, the must-be-zero bits of a register, and a setting compared.
 ghost use mathlib.Core.Path.{_≡_};
 ghost use mathlib.Core.Bool.{not};
 ghost use Prim.Native.Nat.{_+_, _≤_, _<_};
@@ -6,9 +6,14 @@ ghost use lib.Bits.{bitAnd};
 ghost use lib.Dec.{eqb};
 ghost use lib.ListN.{length};
 ghost use Rattle.bits.specs.Fields.{field};
+ghost use Rattle.adv7194_fields.specs.Answers.{decoded};
+ghost use Rattle.adv7194_fields.specs.Coding.{decode};
+ghost use Rattle.adv7194_fields.specs.Fields.{yesNo};
 ghost use Rattle.adv7194_image.specs.Masks.{zeroMask};
 ghost use Rattle.adv7194_settings.specs.Rows.{is as isOf};
 ghost use Rattle.adv7194_reading_groups.specs.Held.{byteAt};
+use adv7194_fields::Decoded;
+use adv7194_fields::plain::Plain;
 
 // The registers of an image.
 pub const REGISTERS: usize = 54;
@@ -26,6 +31,14 @@ pub fn code(image: &[u8], register: usize, place: u8, width: u8) -> u8
     ensures answer { λ r. ⌜ r ≡ field place width (byteAt (now (image .entry)) register) ⌝ }
 {
     bits::fields::field(image[register], place, width)
+}
+
+// The reading of a yes/no in one bit of a register.
+pub fn yes_no(image: &[u8], register: usize, place: u8) -> Decoded
+    requires { ⌜ (register < length (now image)) × (place + 1 ≤ 8) ⌝ }
+    ensures answer { λ r. ⌜ decoded r ≡ decode yesNo (field place 1 (byteAt (now (image .entry)) register)) ⌝ }
+{
+    Plain::YesNo.setting(code(image, register, place, 1))
 }
 
 // Whether a must-be-zero bit of a register is set.

@@ -8,6 +8,7 @@ ghost use Rattle.adv7194_reading_groups.specs.Groups.{gainsAs, partOf};
 use crate::Fault;
 use crate::faults::refused;
 use crate::field::code;
+use crate::field::yes_no;
 use adv7194_fields::Decoded;
 use adv7194_fields::plain::Plain;
 use adv7194_settings::settings::Gains;
@@ -35,11 +36,11 @@ pub fn read_gains(image: &[u8]) -> GainsRead
     let Decoded::Setting(threshold) = threshold_read else {
         return GainsRead::Refused(refused(threshold_read, 20));
     };
-    let area_read = Plain::YesNo.setting(code(image, 0x24, 6, 1));
+    let area_read = yes_no(image, 0x24, 6);
     let Decoded::Setting(border_area) = area_read else {
         return GainsRead::Refused(refused(area_read, 21));
     };
-    let size_read = Plain::YesNo.setting(code(image, 0x24, 7, 1));
+    let size_read = yes_no(image, 0x24, 7);
     let Decoded::Setting(block_size) = size_read else {
         return GainsRead::Refused(refused(size_read, 22));
     };

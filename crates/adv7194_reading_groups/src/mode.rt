@@ -8,6 +8,7 @@ ghost use Rattle.adv7194_reading_groups.specs.Groups.{modeAs, partOf};
 use crate::Fault;
 use crate::faults::refused;
 use crate::field::code;
+use crate::field::yes_no;
 use adv7194_fields::Decoded;
 use adv7194_fields::plain::Plain;
 use adv7194_settings::settings::Mode;
@@ -27,7 +28,7 @@ pub fn read_mode(image: &[u8]) -> ModeRead
     let Decoded::Setting(dnr_input) = input_read else {
         return ModeRead::Refused(refused(input_read, 23));
     };
-    let mode_read = Plain::YesNo.setting(code(image, 0x25, 3, 1));
+    let mode_read = yes_no(image, 0x25, 3);
     let Decoded::Setting(dnr_mode) = mode_read else {
         return ModeRead::Refused(refused(mode_read, 24));
     };

@@ -8,6 +8,7 @@ ghost use Rattle.adv7194_reading_groups.specs.Groups.{outputAs, partOf};
 use crate::Fault;
 use crate::faults::refused;
 use crate::field::code;
+use crate::field::yes_no;
 use adv7194_fields::Decoded;
 use adv7194_fields::plain::Plain;
 use adv7194_settings::settings::Output;
@@ -24,7 +25,7 @@ pub fn read_output(image: &[u8]) -> OutputRead
     requires { ⌜ length (now image) ≡ registers ⌝ }
     ensures answer { λ r. ⌜ outputAs r ≡ partOf (now (image .entry)) (5 ∷ 6 ∷ 7 ∷ 8 ∷ 9 ∷ 10 ∷ []) (settingsHeld (now (image .entry)) .output) ⌝ }
 {
-    let y_read = Plain::YesNo.setting(code(image, 0x05, 0, 1));
+    let y_read = yes_no(image, 0x05, 0);
     let Decoded::Setting(y_level) = y_read else {
         return OutputRead::Refused(refused(y_read, 5));
     };
@@ -32,7 +33,7 @@ pub fn read_output(image: &[u8]) -> OutputRead
     let Decoded::Setting(uv_level) = uv_read else {
         return OutputRead::Refused(refused(uv_read, 6));
     };
-    let sync_read = Plain::YesNo.setting(code(image, 0x05, 3, 1));
+    let sync_read = yes_no(image, 0x05, 3);
     let Decoded::Setting(rgb_sync) = sync_read else {
         return OutputRead::Refused(refused(sync_read, 7));
     };
@@ -40,7 +41,7 @@ pub fn read_output(image: &[u8]) -> OutputRead
     let Decoded::Setting(clamp_delay) = delay_read else {
         return OutputRead::Refused(refused(delay_read, 8));
     };
-    let porch_read = Plain::YesNo.setting(code(image, 0x05, 7, 1));
+    let porch_read = yes_no(image, 0x05, 7);
     let Decoded::Setting(back_porch) = porch_read else {
         return OutputRead::Refused(refused(porch_read, 9));
     };

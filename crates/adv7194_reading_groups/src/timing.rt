@@ -7,14 +7,17 @@ ghost use Rattle.adv7194_reading_groups.specs.Rows.{registers};
 ghost use Rattle.adv7194_reading_groups.specs.Groups.{timingAs, partOf};
 use crate::Fault;
 use crate::faults::refused;
-use crate::field::PAL;
 use crate::field::YES;
 use crate::field::code;
 use crate::field::is;
+use crate::field::yes_no;
 use adv7194_fields::Decoded;
 use adv7194_fields::plain::Plain;
 use adv7194_settings::settings::Timing;
 use refusals::Refusal;
+
+// What the pedestal's yes and PAL add up to, and no other settings of the two.
+const BOTH: u8 = 2;
 
 // These fields' settings, or the first fault among them.
 pub enum TimingRead {
@@ -31,11 +34,11 @@ pub fn read_timing(image: &[u8]) -> TimingRead
     let Decoded::Setting(standard) = standard_read else {
         return TimingRead::Refused(refused(standard_read, 1));
     };
-    let square_read = Plain::YesNo.setting(code(image, 0x02, 4, 1));
+    let square_read = yes_no(image, 0x02, 4);
     let Decoded::Setting(square_pixel) = square_read else {
         return TimingRead::Refused(refused(square_read, 2));
     };
-    let oversampling_read = Plain::YesNo.setting(code(image, 0x01, 6, 1));
+    let oversampling_read = yes_no(image, 0x01, 6);
     let Decoded::Setting(oversampling) = oversampling_read else {
         return TimingRead::Refused(refused(oversampling_read, 3));
     };
@@ -45,11 +48,11 @@ pub fn read_timing(image: &[u8]) -> TimingRead
             field: 3,
         });
     }
-    let pedestal_read = Plain::YesNo.setting(code(image, 0x02, 3, 1));
+    let pedestal_read = yes_no(image, 0x02, 3);
     let Decoded::Setting(pedestal) = pedestal_read else {
         return TimingRead::Refused(refused(pedestal_read, 4));
     };
-    if is(pedestal, YES) & is(standard, PAL) {
+    if is(pedestal + standard, BOTH) {
         return TimingRead::Refused(Fault {
             refusal: Refusal::PedestalWithPal,
             field: 4,

@@ -2,20 +2,21 @@
 use mathlib.Core.Path.{_≡_, refl, sym, ap, _∙_, subst}
 use mathlib.Core.Bool.{Bool, true, false, _||_, _&&_}
 use mathlib.Core.Logic.{_⊎_, inl, inr}
-use Prim.Native.Nat.{ℕ, zero, suc, _+_, _-_, _*_, _^_, _≤_, _<_}
+use Prim.Native.Nat.{ℕ, zero, suc, _+_, _-_, _*_, _/_, _^_, _≤_, _<_}
 use native.Mathlib.Nat.{lt-of-not-le, eq-or-lt-of-le, add-zero, zero-add, sub-zero}
 use native.Mathlib.Omega.{arith}
 use lib.Dec.{T, ltb}
 use lib.IntN.{ℤ, pos, negsuc, negℤ, natAbs, _+ℤ_, _-ℤ_}
 use lib.Signed.{ltZ, nonNeg}
 use borrow.Author.Tests.{le-ltb, ltb-false}
+use Rattle.refusals.specs.Refusal.{accepted}
 use Rattle.rounding.specs.Nearest.{nearest, Nearest, LeastMultiple}
 use Rattle.rounding.proofs.Rounding.{nearest-is, nearest-only, nearestb, nearest-by}
 use Rattle.rounding.proofs.Range.{both-l, both-r, eqZ, eqZ→eq}
-use Rattle.adv7194_fields.specs.Coding.{Format, nearestTimes, outside, codeOf, codeBy, has}
+use Rattle.adv7194_fields.specs.Coding.{Format, nearestTimes, outside, codeOf, codeBy, has, decode}
 use Rattle.adv7194_fields.specs.Fields.{hue, contrast, scale, thousandths}
 use Rattle.adv7194_fields.proofs.Judging.{neither-l, neither-r}
-use Rattle.adv7194_fields.proofs.Decoding.{NearestZero, has-inside, has-code, code-has, no-code}
+use Rattle.adv7194_fields.proofs.Decoding.{NearestZero, has-inside, has-code, code-has, no-code, decode-found}
 
 -- the number k below b
 minus : (b k : ℕ) → k ≤ b → natAbs (pos b +ℤ negℤ (pos k)) ≡ b - k
@@ -64,11 +65,8 @@ code-above : (n : ℕ) → codeOf hue (pos n) ≡ 128 + nearest (256 * n) 450
 unfolding codeBy
 code-above n = refl
 
--- the least hue of any number of steps up to 128 is in the range
-pub hue-small : (q r : ℕ) → q ≤ 128 → LeastMultiple 256 450 q r → r ≤ 225
-hue-small q r h l = omega (arith, l .rounds, steps r .under)
-
-pub hue-up : (c r : ℕ) → 128 ≤ c → c < 256 → LeastMultiple 256 450 (c - 128) r → NearestZero hue c (pos r)
+-- the least hue of the steps of a code, above the middle and below it, is nearest zero of those that have the code
+hue-up : (c r : ℕ) → 128 ≤ c → c < 256 → LeastMultiple 256 450 (c - 128) r → NearestZero hue c (pos r)
 hue-up c r lo hi l = record {
   coded = code-has hue c (pos r) (le-ltb 224 r small) (code-above r ∙ omega (arith, l .rounds));
   only = only;
@@ -82,7 +80,7 @@ hue-up c r lo hi l = record {
     only (negsuc m) h =
         absurd (omega (arith, code-below m (below m (has-inside hue c (negsuc m) h)), has-code hue c (negsuc m) h, steps (suc m) .under))
 
-pub hue-down : (c r : ℕ) → c < 128 → LeastMultiple 256 450 (128 - c) r → NearestZero hue c (negℤ (pos r))
+hue-down : (c r : ℕ) → c < 128 → LeastMultiple 256 450 (128 - c) r → NearestZero hue c (negℤ (pos r))
 hue-down c zero hi l = absurd (omega (arith, l .rounds, steps 0 .over))
 hue-down c (suc r) hi l = record {
   coded = code-has hue c (negsuc r) (rw (le-ltb 224 r small)) (code-below r small ∙ omega (arith, l .rounds));
@@ -104,6 +102,30 @@ hue-down c (suc r) hi l = record {
     only (negsuc m) h =
         let q : m ≤ 224 = below m (has-inside hue c (negsuc m) h) in
         same m (l .least (suc m) (omega (arith, code-below m q, has-code hue c (negsuc m) h, steps (suc m) .over)))
+
+-- the least hue of a number of steps, in one division
+least-hue : (q : ℕ) → LeastMultiple 256 450 q ((900 * q + 61) / 512)
+least-hue q = record {
+  rounds = nearest-only (256 * ((900 * q + 61) / 512)) 450 q (omega arith) (record { under = omega arith; over = omega arith });
+  least = λ j e. omega (arith, e, steps j .over);
+}
+
+-- with the steps' sign
+abbrev pub leastHue : ℤ → ℤ
+leastHue (pos q) = pos ((900 * q + 61) / 512)
+leastHue (negsuc q) = negℤ (pos ((900 * suc q + 61) / 512))
+
+-- it is what the code of that many steps from the middle is read as
+pub hue-at : (s : ℤ) → (ltZ s (negℤ (pos 128)) || ltZ (pos 127) s) ≡ false → accepted (leastHue s) ≡ decode hue (natAbs (pos 128 +ℤ s))
+hue-at (pos q) o =
+    let small : q ≤ 127 = ltb-false 127 q o in
+    let e : 128 + q - 128 ≡ q = omega arith in
+    decode-found hue (128 + q) (leastHue (pos q)) (hue-up (128 + q) ((900 * q + 61) / 512) (omega arith) (omega arith) (rw e (least-hue q)))
+hue-at (negsuc q) o =
+    let small : q ≤ 127 = ltb-false 127 q (neither-l (ltb 127 q) false o) in
+    let e : 128 - (128 - suc q) ≡ suc q = omega arith in
+    rw (minus 128 (suc q) (omega arith))
+    (decode-found hue (128 - suc q) (leastHue (negsuc q)) (hue-down (128 - suc q) ((900 * suc q + 61) / 512) (omega arith) (rw e (least-hue (suc q)))))
 
 -- ---- thousandths
 

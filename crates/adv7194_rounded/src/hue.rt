@@ -1,10 +1,11 @@
 // Field 15, hue: -225 to 224 tenths of a degree, coded as 128 plus the whole number nearest to 256 / 450 of it.
 ghost use mathlib.Core.Path.{_≡_};
+ghost use Rattle.refusals.specs.Refusal.{accepted};
 ghost use Rattle.adv7194_fields.specs.Answers.{coded, decoded};
 ghost use Rattle.adv7194_fields.specs.Coding.{encode, decode, nearestTimes, outside as outsideFormat};
 ghost use Rattle.adv7194_fields.specs.Fields.{hue};
 ghost use mathlib.Core.Bool.{_||_, false};
-ghost use lib.IntN.{pos, negℤ};
+ghost use lib.IntN.{pos, negℤ, natAbs, _+ℤ_};
 ghost use lib.Signed.{ltZ};
 use adv7194_fields::Coded;
 use adv7194_fields::Decoded;
@@ -22,6 +23,12 @@ const DENOMINATOR: i32 = 450;
 const HALF: i32 = 225;
 
 const MIDDLE: i32 = 128;
+// Both doubled, so that half a step is a whole number, DENOMINATOR.
+const TWICE_NUMERATOR: i32 = 2 * NUMERATOR;
+
+const TWICE_DENOMINATOR: i32 = 2 * DENOMINATOR;
+// What is added before a division by TWICE_NUMERATOR: its rest at most, to round up, less half a step.
+const NUDGE: i32 = TWICE_NUMERATOR - 1 - DENOMINATOR;
 
 // The number of steps nearest to a hue in the range, by signed division.
 fn steps(tenths: i32) -> i32
@@ -30,10 +37,8 @@ fn steps(tenths: i32) -> i32
     ensures small { λ r. ⌜ (ltZ r (negℤ (pos 128)) || ltZ (pos 127) r) ≡ false ⌝ }
 {
     let product = NUMERATOR * tenths;
-    if product < 0 {
-        return (product - HALF) / DENOMINATOR;
-    }
-    (product + HALF) / DENOMINATOR
+    let half = if product < 0 { -HALF } else { HALF };
+    (product + half) / DENOMINATOR
 }
 
 // The code of a hue.
@@ -46,15 +51,19 @@ pub fn hue_code(tenths: i32) -> Coded
     Coded::Code((MIDDLE + steps(tenths)) as u8)
 }
 
+// The tenths nearest zero that are rounded to a number of steps from the middle, by signed division.
+fn tenths(steps: i32) -> i32
+    requires { ⌜ (ltZ steps (negℤ (pos 128)) || ltZ (pos 127) steps) ≡ false ⌝ }
+    ensures answer { λ r. ⌜ accepted r ≡ decode hue (natAbs (pos 128 +ℤ steps)) ⌝ }
+{
+    let product = TWICE_DENOMINATOR * steps;
+    let nudge = if product < 0 { -NUDGE } else { NUDGE };
+    (product + nudge) / TWICE_NUMERATOR
+}
+
 // The hue of a code: every code has one.
 pub fn hue_setting(code: u8) -> Decoded
     ensures answer { λ r. ⌜ decoded r ≡ decode hue code ⌝ }
 {
-    if code < MIDDLE as u8 {
-        let steps = (MIDDLE as u8 - code) as u32;
-        let tenths = rounding::least_multiple(NUMERATOR as u32, DENOMINATOR as u32, steps);
-        return Decoded::Setting(-(tenths as i32));
-    }
-    let steps = (code - MIDDLE as u8) as u32;
-    Decoded::Setting(rounding::least_multiple(NUMERATOR as u32, DENOMINATOR as u32, steps) as i32)
+    Decoded::Setting(tenths(code as i32 - MIDDLE))
 }

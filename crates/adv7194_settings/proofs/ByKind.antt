@@ -1,14 +1,8 @@
 -- The codings of signalling and of a curve, by their kinds. Assumes nothing.
-use mathlib.Core.Path.{_≡_, refl}
+use mathlib.Core.Path.{_≡_}
 use mathlib.Core.Bool.{true, false}
 use mathlib.Core.List.{[]}
-use Prim.Native.Nat.{ℕ, _^_, _<_}
-use lib.IntN.{ℤ}
-use lib.Signed.{mag}
-use mir.Syntax.{w32}
-use mir.ValLaws.{toZ-ofZ}
-use Rattle.rounding.proofs.Range.{back}
-use Rattle.refusals.specs.Refusal.{Judged, accepted, refused}
+use Rattle.refusals.specs.Refusal.{accepted, refused}
 use Rattle.adv7194_signalling.specs.Cgms.{cgmsOf}
 use Rattle.adv7194_signalling.specs.Wss.{wssOf}
 use Rattle.adv7194_gamma.specs.Curve.{curveOf}

@@ -1,5 +1,5 @@
 -- The first fault, met field by field. Assumes nothing.
-use mathlib.Core.Path.{_≡_, refl, sym, ap, ap₂, _∙_, subst}
+use mathlib.Core.Path.{_≡_, refl, sym, ap, _∙_, subst}
 use mathlib.Core.Bool.{Bool, true, false, cond, not, _&&_, _||_}
 use mathlib.Core.List.{List, [], _∷_, _++_}
 use Prim.Native.Nat.{ℕ}
@@ -7,8 +7,8 @@ use lib.Dec.{T, eqb, eqb→eq}
 use Rattle.refusals.specs.Refusal.{Judged, accepted, refused}
 use Rattle.adv7194_settings.specs.declared.settings.Settings.{Settings}
 use Rattle.adv7194_settings.specs.Order.{Verdict, good, refusedAt, Place, firstOf, placesAt, placesOf, rowsAt}
-use Rattle.adv7194_settings.specs.Rows.{before, together, codingAt, refusedWith, rowHolds}
-use Rattle.adv7194_settings.specs.Codes.{codesIn, codeAt}
+use Rattle.adv7194_settings.specs.Rows.{together, codingAt, refusedWith, rowHolds}
+use Rattle.adv7194_settings.specs.Codes.{codeAt}
 use Rattle.adv7194_settings.specs.Answers.{after, faultOf, faultWhere, codeIn, faultIn}
 use Rattle.adv7194_settings.specs.Groups.{inTurn}
 use Rattle.adv7194_settings.proofs.Codings.{Sound, coding-sound}
@@ -70,7 +70,7 @@ abbrev pub Coded : Settings → List Number → Type 0
 Coded s [] = Unit {0}
 Coded s (n ∷ ns) = (T (alone (n .field)) × (codingAt s (n .field) ≡ together (n .code ∷ []))) × Coded s ns
 
--- the faults of some fields, after an earlier one
+-- the first fault of some fields, after an earlier one
 abbrev pub noting : Found → List Number → Found
 noting v [] = v
 noting v (n ∷ ns) = noting (after v (faultOf (n .field) (n .code))) ns
@@ -97,7 +97,7 @@ alone-fault s f h = by (eqb f 3) (eqb f 4) (eqb f 11) refl refl refl h
     by false true d p q r t = absurd t
     by false false true p q r t = absurd t
 
--- the first fault of some fields is what is noted of them in turn
+-- it is that of their places of the checking order
 pub noted-faults : (s : Settings) (ns : List Number) (v : Found) → Coded s ns → noting v ns ≡ after v (faultIn s (numbersOf ns))
 unfolding faultIn firstOf placesOf
 noted-faults s [] v h = sym (after-good v)
@@ -114,15 +114,7 @@ unfolding codeAt together
 number-code s f (accepted c) e = rw e
 number-code s f (refused n) e = rw e
 
--- ---- faults noted in turn
-
--- one more
-pub in-turn : {u v w : Found} {i j : Judged ℕ} (f : ℕ) → w ≡ after u (faultOf f i) → u ≡ v → i ≡ j → w ≡ after v (faultOf f j)
-in-turn f e p q = e ∙ ap₂ (λ (x : Found) (k : Judged ℕ). after x (faultOf f k)) p q
-
--- one more, where a row holds
-pub in-turn-where : {u v w : Found} {a b : Bool} (n f : ℕ) → w ≡ after u (faultWhere a n f) → u ≡ v → a ≡ b → w ≡ after v (faultWhere b n f)
-in-turn-where n f e p q = e ∙ ap₂ (λ (x : Found) (t : Bool). after x (faultWhere t n f)) p q
+-- ---- faults in turn
 
 -- faults in turn after an earlier one
 pub turn-after : (v : Found) (ws : List Found) → inTurn v ws ≡ after v (inTurn (good tt) ws)

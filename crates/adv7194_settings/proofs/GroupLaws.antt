@@ -1,22 +1,21 @@
--- Each group of fields: the faults that its check notes are those of its places of the checking order, and its codes are those of
--- the field table. Assumes nothing.
+-- Each group of fields: its first fault is that of its places of the checking order, and its codes are those of the field table. Assumes
+-- nothing.
 use mathlib.Core.Path.{_≡_, refl, sym, ap, ap₂, _∙_}
 use mathlib.Core.Bool.{Bool, cond}
 use mathlib.Core.List.{List, [], _∷_, _++_, append-assoc, append-nil}
 use Prim.Native.Nat.{ℕ}
 use lib.Dec.{T}
-use lib.IntN.{ℤ}
 use Rattle.refusals.specs.Refusal.{Judged}
-use Rattle.adv7194_fields.specs.Coding.{Format, encode}
+use Rattle.adv7194_fields.specs.Coding.{encode}
 use Rattle.adv7194_fields.specs.Fields.{fields, blockOffset, brightness, clampDelay, contrast, dnrInput, gain, hue, phase, scale, sharpness, standard, threshold, uvLevel, yesNo}
 use Rattle.adv7194_settings.specs.declared.settings.Settings.{Settings}
 use Rattle.adv7194_settings.specs.Order.{Verdict, good, refusedAt, Place, firstOf, placesAt, placesOf, rowsAt}
 use Rattle.adv7194_settings.specs.Rows.{together, signallingOf, gammaOf, numberCodings, codings, codingIn, codingAt, refusedWith, squareWithOversampling, pedestalWithPal, conflict, rowHolds}
-use Rattle.adv7194_settings.specs.Codes.{codesIn, codeAt, standardBy, signalBy, pointsBy, timingOf, outputOf, signalOf, pictureOf, gainsOf, modeOf, pointsOf}
-use Rattle.adv7194_settings.specs.Answers.{after, faultOf, faultWhere, codeIn, faultIn}
+use Rattle.adv7194_settings.specs.Codes.{codesIn, signalBy, timingOf, outputOf, signalOf, pictureOf, gainsOf, modeOf}
+use Rattle.adv7194_settings.specs.Answers.{after, faultOf, faultWhere, faultIn}
 use Rattle.adv7194_settings.specs.Groups.{inTurn, timingFaults, timingCodes, outputFaults, outputCodes, pictureFaults, pictureCodes, gainsFaults, gainsCodes, modeFaults, modeCodes, signalFaults}
-use Rattle.adv7194_settings.proofs.Codings.{Sound, coding-sound}
-use Rattle.adv7194_settings.proofs.Faults.{after-good, after-assoc, chosen, first-append, coding-rows, Number, Coded, noted-faults, number-code, one-fault, alone, alone-fault, turn-after}
+use Rattle.adv7194_settings.proofs.Codings.{coding-sound}
+use Rattle.adv7194_settings.proofs.Faults.{after-good, chosen, first-append, coding-rows, noted-faults, number-code, one-fault, alone, alone-fault, turn-after}
 
 abbrev Found : Type 0
 Found = Verdict (Unit {0})

@@ -2,7 +2,10 @@ pub mod Numbers
 pub mod Codings
 pub mod ByKind
 pub mod Faults
-pub mod Together
+pub mod ByteLaws
+pub mod Turns
+pub mod TimingLaws
 pub mod GroupLaws
+pub mod CheckLaws
 pub mod OrderLaws
 pub mod Cases

@@ -4,4 +4,3 @@ pub mod House
 pub mod Codes
 pub mod Answers
 pub mod Groups
-pub mod Parts

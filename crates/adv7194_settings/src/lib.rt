@@ -1,14 +1,13 @@
 // A whole set of settings of the ADV7194, and its check: the codes of every field, or the first refusal in document 01's order.
-mod back;
 mod checking;
 pub mod codes;
 mod curves;
 mod fault;
-mod front;
 mod gains;
 mod mode;
 mod output;
 mod picture;
+mod refusal;
 pub mod settings;
 mod signal;
 mod timing;

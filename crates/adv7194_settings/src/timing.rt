@@ -1,23 +1,30 @@
 // The check of fields 1 to 4.
 ghost use mathlib.Core.Path.{_≡_};
-ghost use Rattle.adv7194_settings.specs.Order.{good};
 ghost use Rattle.adv7194_settings.specs.Codes.{standardBy};
-ghost use Rattle.adv7194_settings.specs.Answers.{faultAs};
+ghost use Rattle.adv7194_settings.specs.Order.{good};
+ghost use Rattle.adv7194_settings.specs.Answers.{after, timingAs};
 ghost use Rattle.adv7194_settings.specs.Groups.{inTurn, timingFaults, timingCodes};
 use crate::codes::TimingCodes;
 use crate::fault::Fault;
-use crate::fault::code_in;
 use crate::fault::is;
-use crate::fault::noted;
-use crate::fault::noted_where;
+use crate::fault::refused;
 use crate::settings::Timing;
+use adv7194_fields::Coded;
 use adv7194_fields::plain::Plain;
 use adv7194_subcarrier::Standard;
 use refusals::Refusal;
 
+// The codes of a pedestal and of PAL, added.
+const BOTH: u8 = 2;
+
+// A yes.
 const YES: u32 = 1;
 
-const PAL: u32 = 1;
+// The codes of these fields, or the first fault among them.
+pub enum TimingChecked {
+    Refused(Fault),
+    Codes(TimingCodes),
+}
 
 // The standard by its code.
 fn standard_of(code: u8) -> Standard
@@ -29,35 +36,42 @@ fn standard_of(code: u8) -> Standard
     Standard::Pal
 }
 
-// The first fault of these fields, and their codes.
-pub struct TimingChecked {
-    pub fault: Fault,
-    pub codes: TimingCodes,
-}
-
-// The check of these fields.
+// The check of these fields, with square pixel set against 4x, and pedestal against PAL.
 pub fn checked_timing(timing: Timing) -> TimingChecked
-    ensures answer { λ r. ⌜ (faultAs (r .fault) ≡ inTurn (good tt) (timingFaults timing)) × (r .codes ≡ timingCodes timing) ⌝ }
+    ensures answer { λ r. ⌜ timingAs r ≡ after (inTurn (good tt) (timingFaults timing)) (good (timingCodes timing)) ⌝ }
 {
-    let standard = Plain::Standard.code(timing.standard);
-    let square_pixel = Plain::YesNo.code(timing.square_pixel);
-    let oversampling = Plain::YesNo.code(timing.oversampling);
-    let pedestal = Plain::YesNo.code(timing.pedestal);
-    let to1 = noted(Fault::Nothing, standard, 1);
-    let to2 = noted(to1, square_pixel, 2);
-    let to3 = noted(to2, oversampling, 3);
-    let both = is(timing.square_pixel, YES) & is(timing.oversampling, YES);
-    let past3 = noted_where(to3, both, Refusal::SquarePixelWithOversampling, 3);
-    let to4 = noted(past3, pedestal, 4);
-    let both = is(timing.pedestal, YES) & is(timing.standard, PAL);
-    let past4 = noted_where(to4, both, Refusal::PedestalWithPal, 4);
-    TimingChecked {
-        fault: past4,
-        codes: TimingCodes {
-            standard: standard_of(code_in(standard)),
-            square_pixel: code_in(square_pixel),
-            oversampling: code_in(oversampling),
-            pedestal: code_in(pedestal),
-        },
+    let standard_coded = Plain::Standard.code(timing.standard);
+    let Coded::Code(standard) = standard_coded else {
+        return TimingChecked::Refused(refused(standard_coded, 1));
+    };
+    let square_pixel_coded = Plain::YesNo.code(timing.square_pixel);
+    let Coded::Code(square_pixel) = square_pixel_coded else {
+        return TimingChecked::Refused(refused(square_pixel_coded, 2));
+    };
+    let oversampling_coded = Plain::YesNo.code(timing.oversampling);
+    let Coded::Code(oversampling) = oversampling_coded else {
+        return TimingChecked::Refused(refused(oversampling_coded, 3));
+    };
+    if is(timing.square_pixel, YES) & is(timing.oversampling, YES) {
+        return TimingChecked::Refused(Fault {
+            refusal: Refusal::SquarePixelWithOversampling,
+            field: 3,
+        });
     }
+    let pedestal_coded = Plain::YesNo.code(timing.pedestal);
+    let Coded::Code(pedestal) = pedestal_coded else {
+        return TimingChecked::Refused(refused(pedestal_coded, 4));
+    };
+    if pedestal + standard == BOTH {
+        return TimingChecked::Refused(Fault {
+            refusal: Refusal::PedestalWithPal,
+            field: 4,
+        });
+    }
+    TimingChecked::Codes(TimingCodes {
+        standard: standard_of(standard),
+        square_pixel,
+        oversampling,
+        pedestal,
+    })
 }

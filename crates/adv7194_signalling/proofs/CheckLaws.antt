@@ -1,33 +1,97 @@
--- The check register: one computed test over its 64 values and the two of a payload bit, and what follows for any bits. Assumes nothing.
+-- The check register: it keeps within its six bits; what some payload bits make of it turned round, from one computed test over its 64 values
+-- and theirs; and the payload's fourteen bits in steps of five, five and four. Assumes nothing.
+use mathlib.Core.Path.{_≡_, refl, sym, ap, _∙_}
 use mathlib.Core.Bool.{Bool, true, false, xor}
-use mathlib.Core.List.{List, [], _∷_}
-use Prim.Native.Nat.{ℕ, _<_}
-use lib.Dec.{T, eqb, ltb, ltb→lt, lit<}
-use Rattle.bits.specs.Strings.{lsbFirst}
+use mathlib.Core.List.{List, [], _∷_, _++_}
+use Prim.Native.Nat.{ℕ, _/_, _%_, _^_, _<_}
+use native.Mathlib.Nat.{mod-lt, mod-mod}
+use lib.Bits.{bitXor, xor-mod}
+use lib.Dec.{T, eqb, eqb→eq, ltb, ltb→lt, lit<}
+use lib.Pow.{pow-pos, shr-shr}
+use Rattle.bits.specs.Strings.{lsbFirst, msbFirst, lsbValue}
+use Rattle.bits.proofs.StringLaws.{lsb-cat, msb-length, lsbValue-lt}
 use Rattle.rounding.proofs.Range.{below, below-at}
-use Rattle.adv7194_signalling.specs.Check.{afterBit, afterBits, feedback, checkOf, sixOnes}
+use Rattle.adv7194_signalling.specs.Check.{afterBit, afterBits, feedback, checkOf, sixOnes, turned}
+use Rattle.adv7194_signalling.proofs.WordLaws.{lsb-low}
 
--- a test at each register and each bit
-abbrev pub each : (ℕ → ℕ → Bool) → Bool
-each P = below (λ r. below (P r) 2) 64
+-- a test at each register and each number below n
+abbrev each : ℕ → (ℕ → ℕ → Bool) → Bool
+each n P = below (λ r. below (P r) n) 64
 
-pub at : (P : ℕ → ℕ → Bool) → T (each P) → (r b : ℕ) → r < 64 → b < 2 → T (P r b)
-at P t r b hr hb = below-at (P r) 2 (below-at (λ r. below (P r) 2) 64 t r hr) b hb
+at : (n : ℕ) (P : ℕ → ℕ → Bool) → T (each n P) → (r b : ℕ) → r < 64 → b < n → T (P r b)
+at n P t r b hr hb = below-at (P r) n (below-at (λ r. below (P r) n) 64 t r hr) b hb
 
--- the register keeps within its six bits
+-- ---- the register keeps within its six bits
+
 small : (r b : ℕ) → r < 64 → b < 2 → afterBit r (eqb b 1) < 64
 unfolding afterBit feedback xor
-small r b hr hb = ltb→lt _ _ (at (λ r b. ltb (afterBit r (eqb b 1)) 64) tt r b hr hb)
+small r b hr hb = ltb→lt _ _ (at 2 (λ r b. ltb (afterBit r (eqb b 1)) 64) tt r b hr hb)
 
-pub afterBit-lt : (r : ℕ) (b : Bool) → r < 64 → afterBit r b < 64
+afterBit-lt : (r : ℕ) (b : Bool) → r < 64 → afterBit r b < 64
 afterBit-lt r true h = small r 1 h (lit< tt)
 afterBit-lt r false h = small r 0 h (lit< tt)
 
-pub afterBits-lt : (bs : List Bool) (r : ℕ) → r < 64 → afterBits r bs < 64
+afterBits-lt : (bs : List Bool) (r : ℕ) → r < 64 → afterBits r bs < 64
 unfolding afterBits
 afterBits-lt [] r h = h
 afterBits-lt (b ∷ bs) r h = afterBits-lt bs (afterBit r b) (afterBit-lt r b h)
 
-pub check-lt : (payload : ℕ) → checkOf payload < 64
+-- ---- the register turned round
+
+-- it has six bits
+pub turned-lt : (r : ℕ) → turned r < 64
+turned-lt r = rw (msb-length 6 r) at (lsbValue-lt (msbFirst 6 r))
+
+-- twice is as it was
+turned-twice : (r : ℕ) → r < 64 → turned (turned r) ≡ r
+unfolding msbFirst lsbValue
+turned-twice r h = eqb→eq _ _ (below-at (λ r. eqb (turned (turned r)) r) 64 tt r h)
+
+-- six ones are as they were at once
+turned-ones : turned sixOnes ≡ sixOnes
+unfolding msbFirst lsbValue
+turned-ones = refl
+
+-- whether w payload bits make of a register turned round what f makes of it and their feedback
+abbrev goes-at : ℕ → (ℕ → ℕ → ℕ) → ℕ → ℕ → Bool
+goes-at w f check bits = eqb (f check (bitXor check bits % 2 ^ w)) (turned (afterBits (turned check) (lsbFirst w bits)))
+
+-- they do at each register
+abbrev pub Goes : ℕ → (ℕ → ℕ → ℕ) → Type 0
+Goes w f = T (each (2 ^ w) (goes-at w f))
+
+-- and so do the w lowest bits of any number
+pub by-feedback : (w : ℕ) (f : ℕ → ℕ → ℕ) → Goes w f → (check bits : ℕ) → check < 64
+    → f check (bitXor check bits % 2 ^ w) ≡ turned (afterBits (turned check) (lsbFirst w bits))
+by-feedback w f t check bits h =
+    let low : bitXor check bits % 2 ^ w ≡ bitXor check (bits % 2 ^ w) % 2 ^ w =
+    xor-mod check bits w ∙ ap (λ (b : ℕ). bitXor (check % 2 ^ w) b) (sym (mod-mod bits (2 ^ w))) ∙ sym (xor-mod check (bits % 2 ^ w) w) in
+    ap (λ (feedback : ℕ). f check feedback) low
+    ∙ eqb→eq _ _ (at (2 ^ w) (goes-at w f) t check (bits % 2 ^ w) h (mod-lt bits (pow-pos w)))
+    ∙ ap (λ (bs : List Bool). turned (afterBits (turned check) bs)) (lsb-low w bits)
+
+-- ---- the payload's bits in steps
+
+afterBits-append : (xs ys : List Bool) (r : ℕ) → afterBits r (xs ++ ys) ≡ afterBits (afterBits r xs) ys
+unfolding afterBits
+afterBits-append [] ys r = refl
+afterBits-append (x ∷ xs) ys r = afterBits-append xs ys (afterBit r x)
+
+-- the payload's fourteen are five, five and four
+steps : (payload : ℕ) → checkOf payload ≡ afterBits (afterBits (afterBits sixOnes (lsbFirst 5 payload)) (lsbFirst 5 (payload / 32))) (lsbFirst 4 (payload / 1024))
 unfolding checkOf
-check-lt payload = afterBits-lt (lsbFirst 14 payload) sixOnes (lit< tt)
+steps payload = rw (lsb-cat 5 9 payload, lsb-cat 5 4 (payload / 32), afterBits-append, afterBits-append, shr-shr payload 5 5)
+
+-- the register's turned form after some bits, turned back for the next
+turned-back : (check r : ℕ) (bs : List Bool) → turned check ≡ r → r < 64 → turned (turned (afterBits (turned check) bs)) ≡ afterBits r bs
+turned-back check r bs e h = rw e (turned-twice (afterBits r bs) (afterBits-lt bs r h))
+
+-- the steps with the register turned round between them
+pub check-turned : (payload five ten : ℕ) → five ≡ turned (afterBits (turned sixOnes) (lsbFirst 5 payload))
+    → ten ≡ turned (afterBits (turned five) (lsbFirst 5 (payload / 32)))
+    → turned (afterBits (turned ten) (lsbFirst 4 (payload / 1024))) ≡ turned (checkOf payload)
+check-turned payload five ten e f =
+    let one = afterBits sixOnes (lsbFirst 5 payload) in
+    let at-five : turned five ≡ one = ap turned e ∙ turned-back sixOnes sixOnes (lsbFirst 5 payload) turned-ones (lit< tt) in
+    let at-ten = ap turned f ∙ turned-back five one (lsbFirst 5 (payload / 32)) at-five (afterBits-lt (lsbFirst 5 payload) sixOnes (lit< tt)) in
+    rw (at-ten, steps payload)

@@ -1,7 +1,7 @@
 pub mod FlagLaws
 pub mod NumberLaws
-pub mod CheckLaws
 pub mod WordLaws
+pub mod CheckLaws
 pub mod CgmsLaws
 pub mod CgmsReadLaws
 pub mod WssLaws

@@ -11,7 +11,7 @@ use lib.Dec.{eqb, lit<}
 use lib.IntN.{ℤ, natAbs}
 use lib.ListN.{replicate}
 use Rattle.bits.specs.Strings.{lsbFirst, lsbValue}
-use Rattle.bits.proofs.StringLaws.{lsb-length, lsb-value, lsb-mod, lsb-bits}
+use Rattle.bits.proofs.StringLaws.{lsb-length, lsb-value}
 use Rattle.rounding.proofs.First.{flag}
 use Rattle.rounding.proofs.Range.{below-at}
 use Rattle.refusals.specs.Refusal.{accepted, refused}
@@ -19,7 +19,7 @@ use Rattle.adv7194_signalling.specs.Numbers.{within, numberTop}
 use Rattle.adv7194_signalling.specs.Wss.{oddOnes, wssBits, wssOf}
 use Rattle.adv7194_signalling.proofs.FlagLaws.{same}
 use Rattle.adv7194_signalling.proofs.NumberLaws.{Within, is-within, within-only}
-use Rattle.adv7194_signalling.proofs.WordLaws.{value-append, wordBytes, bytes-of-value, bytes-only}
+use Rattle.adv7194_signalling.proofs.WordLaws.{value-append, lsb-low, wordBytes, bytes-of-value, bytes-only}
 
 -- the number of a WSS word
 pub wss-value : (number : ℕ) → number < 2 ^ 14 → lsbValue (wssBits number) ≡ number + 0x800000
@@ -30,15 +30,11 @@ wss-value number h =
     rw (lsb-length 14 number) at (value-append (lsbFirst 14 number) upper) in
     omega (arith, whole, lsb-value 14 number h)
 
--- the four lowest bits are those of the remainder by 16
-lowest : (n : ℕ) → lsbFirst 4 (n % 16) ≡ lsbFirst 4 n
-lowest n = rw (lsb-length 4 n, lsb-mod 4 n) at (lsb-bits (lsbFirst 4 n))
-
 -- the count of ones is the definition's
 pub odd-count : (n : ℕ) → eqb (ones (n % 16) % 2) 1 ≡ oddOnes (lsbFirst 4 n)
 unfolding ones oddOnes lsbFirst xor
 odd-count n =
-    same _ _ (below-at (λ m. Bool·beq (eqb (ones m % 2) 1) (oddOnes (lsbFirst 4 m))) 16 tt (n % 16) (mod-lt n (lit< tt))) ∙ ap oddOnes (lowest n)
+    same _ _ (below-at (λ m. Bool·beq (eqb (ones m % 2) 1) (oddOnes (lsbFirst 4 m))) 16 tt (n % 16) (mod-lt n (lit< tt))) ∙ ap oddOnes (lsb-low 4 n)
 
 -- the coding of a number in its range whose four lowest bits hold an odd number of ones
 pub wss-coded : (z : ℤ) → within numberTop z ≡ true → oddOnes (lsbFirst 4 (natAbs z)) ≡ true → wssOf z ≡ accepted (wordBytes (natAbs z + 0x800000))

@@ -6,7 +6,7 @@ use Prim.Native.Nat.{ℕ, _*_, _%_}
 use lib.Bits.{bitXor}
 use lib.Dec.{eqb}
 use Rattle.bits.specs.Fields.{bit}
-use Rattle.bits.specs.Strings.{lsbFirst}
+use Rattle.bits.specs.Strings.{lsbFirst, msbFirst, lsbValue}
 
 -- top bit xor payload bit
 unfoldable pub feedback : ℕ → Bool → Bool
@@ -36,3 +36,7 @@ sixOnes = 0b111111
 -- the check register of a payload, after C0 to C13
 unfoldable pub checkOf : ℕ → ℕ
 checkOf payload = afterBits sixOnes (lsbFirst 14 payload)
+
+-- a register turned round, its top bit lowest: C14 is the register's top bit, C19 its last
+abbrev pub turned : ℕ → ℕ
+turned register = lsbValue (msbFirst 6 register)

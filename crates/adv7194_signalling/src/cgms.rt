@@ -5,8 +5,7 @@ ghost use lib.Dec.{eqb};
 ghost use Rattle.bits.specs.Strings.{lsbValue};
 ghost use Rattle.adv7194_signalling.specs.Word.{threeBytes, codedAs};
 ghost use Rattle.adv7194_signalling.specs.Cgms.{cgmsBits, cgmsOf, CgmsHeld, cgmsReadAs};
-use crate::check::check_register;
-use crate::check::reversed;
+use crate::check::check_bits;
 use crate::numbers::NUMBER_TOP;
 use crate::numbers::YES_TOP;
 use crate::numbers::within;
@@ -44,12 +43,12 @@ const ODD_FIELD: u32 = 0x20_0000;
 const EVEN_FIELD: u32 = 0x40_0000;
 
 // The word of a setting that is in its range.
-fn cgms_word(payload: u32, odd: u32, even: u32, chip: u32) -> u32
+pub fn cgms_word(payload: u32, odd: u32, even: u32, chip: u32) -> u32
     requires { ⌜ (payload < 2 ^ 14) × (odd < 2) × (even < 2) × (chip < 2) ⌝ }
     ensures answer { λ r. ⌜ r ≡ lsbValue (cgmsBits payload (eqb odd 1) (eqb even 1) (eqb chip 1)) ⌝ }
 {
     payload
-        + reversed(check_register(payload)) * FIRST_CHECK
+        + check_bits(payload) * FIRST_CHECK
         + chip * CHIP_CHECK
         + odd * ODD_FIELD
         + even * EVEN_FIELD

@@ -1,54 +1,36 @@
-// The six check bits of CGMS, in a register of six bits.
+// The six check bits of CGMS. They are kept with C14, the register's top bit, lowest, as the word has them: so the register stands turned round
+// and shifts down.
 ghost use mathlib.Core.Path.{_≡_};
-ghost use Prim.Native.Nat.{_^_, _<_};
-ghost use lib.Dec.{eqb};
-ghost use Rattle.bits.specs.Strings.{lsbValue, msbFirst};
-ghost use Rattle.adv7194_signalling.specs.Check.{afterBit, checkOf};
+ghost use Prim.Native.Nat.{_<_};
+ghost use Rattle.bits.specs.Strings.{lsbFirst};
+ghost use Rattle.adv7194_signalling.specs.Check.{afterBits, checkOf, turned};
 
-// What the register starts from.
-const SIX_ONES: u32 = 0b111111;
+// What the register starts from: six ones.
+const START: u32 = 0b111111;
 
-// What is xored in where the feedback is 1.
-const TAPS: u32 = 0b000011;
-
-// The register after one payload bit.
-fn after_bit(register: u32, bit: u32) -> u32
-    requires { ⌜ (register < 64) × (bit < 2) ⌝ }
-    ensures answer { λ r. ⌜ r ≡ afterBit register (eqb bit 1) ⌝ }
+// The turned register after five payload bits, lowest first: of five bits the feedback of each depends on none of the others.
+fn after_five(check: u32, bits: u32) -> u32
+    requires { ⌜ check < 64 ⌝ }
+    ensures answer { λ r. ⌜ r ≡ turned (afterBits (turned check) (lsbFirst 5 bits)) ⌝ }
 {
-    let feedback = (register / 32) ^ bit;
-    let shifted = register * 2 % 64;
-    if feedback == 1 {
-        shifted ^ TAPS
-    } else {
-        shifted
-    }
+    let feedback = (check ^ bits) % 32;
+    (check / 32) ^ feedback ^ (feedback * 2)
 }
 
-// The register after the payload's bits, C0 first.
-pub fn check_register(payload: u32) -> u32
-    ensures answer { λ r. ⌜ r ≡ checkOf payload ⌝ }
+// The turned register after four payload bits.
+fn after_four(check: u32, bits: u32) -> u32
+    requires { ⌜ check < 64 ⌝ }
+    ensures answer { λ r. ⌜ r ≡ turned (afterBits (turned check) (lsbFirst 4 bits)) ⌝ }
 {
-    let mut register = SIX_ONES;
-    let mut rest = payload;
-    let mut left: u32 = 14;
-    while 0 < left {
-        register = after_bit(register, rest % 2);
-        rest = rest / 2;
-        left -= 1;
-    }
-    register
+    let feedback = (check ^ bits) % 16;
+    (check / 16) ^ (feedback * 2) ^ (feedback * 4)
 }
 
-// The register's bits with the top bit lowest, as the word has them: C14 is the register's top bit, C19 its last.
-pub fn reversed(register: u32) -> u32
-    requires { ⌜ register < 64 ⌝ }
-    ensures answer { λ r. ⌜ r ≡ lsbValue (msbFirst 6 register) ⌝ }
+// The check bits of a payload, C14 lowest.
+pub fn check_bits(payload: u32) -> u32
+    ensures answer { λ r. ⌜ r ≡ turned (checkOf payload) ⌝ }
 {
-    register / 32
-        + register / 16 % 2 * 2
-        + register / 8 % 2 * 4
-        + register / 4 % 2 * 8
-        + register / 2 % 2 * 16
-        + register % 2 * 32
+    let five = after_five(START, payload);
+    let ten = after_five(five, payload / 32);
+    after_four(ten, payload / 1024)
 }

@@ -62,11 +62,11 @@ pub fn brightness_setting(code: u8) -> Decoded
     if HIGHEST_CODE < code {
         return Decoded::Unreadable(Refusal::OutOfRange);
     }
-    if code <= HIGHEST_POSITIVE {
-        return Decoded::Setting(least_tenths(code as u32) as i32);
-    }
-    if code < LOWEST_NEGATIVE {
+    if HIGHEST_POSITIVE < code && code < LOWEST_NEGATIVE {
         return Decoded::Unreadable(Refusal::OutOfRange);
     }
-    Decoded::Setting(-(least_tenths((CODES - code) as u32) as i32))
+    let negative = LOWEST_NEGATIVE <= code;
+    let level = if negative { CODES - code } else { code };
+    let tenths = least_tenths(level as u32) as i32;
+    Decoded::Setting(if negative { -tenths } else { tenths })
 }

@@ -3,12 +3,12 @@ use mathlib.Core.Path.{_≡_, refl, sym, ap, ap₂, _∙_, subst}
 use mathlib.Core.Bool.{Bool, false}
 use mathlib.Core.List.{List, [], _++_, append-assoc, append-nil}
 use Prim.Native.Nat.{ℕ, _+_, _-_, _*_, _/_, _%_, _^_, _≤_, _<_}
-use native.Mathlib.Nat.{mod-lt}
+use native.Mathlib.Nat.{add-zero, add-comm, mod-lt, mod-eq-of-lt}
 use native.Mathlib.Numerals.{add-one}
 use native.Mathlib.Omega.{arith}
 use lib.Arith.{digits-lt}
 use lib.ListN.{length, take, drop, set, getD, replicate, length-append, length-drop, drop-of-length-le}
-use lib.Pow.{pow-pos, pow-add, pow-mono, shr-lt}
+use lib.Pow.{pow-pos, pow-add, pow-mono, shr-lt, split, low, field, mod-mod-pow}
 use lib.Seq.{drop-set-lt, drop-drop, take-all, take-append-add, drop-append-add, length-take-le, take-suc}
 use borrow.Rule.Slice.PartMut.{putMid}
 use Rattle.bits.specs.Strings.{msbFirst, byteBits, bytesOf}
@@ -49,7 +49,7 @@ put-then {a} {b} {c} {p} {q} {r} {xs} {ys} h k =
 
 -- ---- into a part of a plan
 
--- what was put into the part of a plan from p's full bytes on, encodable-facts of the whole plan
+-- what was put into the part of a plan from p's full bytes on, holds of the whole plan
 pub put-part : (plan last : List ℕ) (p r : Pending) (bs : List Bool) → p .at ≤ length plan
     → Put (take (length plan - p .at) (drop (p .at) plan)) last (record { at = 0; count = p .count; bits = p .bits }) bs r
     → Put plan (putMid (p .at) (length plan - p .at) plan last) p bs (record { at = p .at + r .at; count = r .count; bits = r .bits })
@@ -126,6 +126,44 @@ put-full plan p w v s hw hv h room =
     }
 
 -- ---- bytes
+
+-- bits above the n pending do not count in the byte that these and a byte after them fill
+byte-cut : (n before v : ℕ) → v < 2 ^ 8 → (before % 2 ^ n * 2 ^ 8 + v) / 2 ^ n ≡ (before * 0x100 + v) / 2 ^ n % 0x100
+byte-cut n before v h =
+    let a = before / 2 ^ n in
+    let x = before % 2 ^ n * 2 ^ 8 + v in
+    let fits : x < 2 ^ (8 + n) = subst (λ (k : ℕ). x < 2 ^ k) (add-comm n 8) (joined-lt n 8 (mod-lt before (pow-pos n)) h) in
+    let whole : a * 2 ^ (8 + n) + x ≡ before * 0x100 + v = omega (arith, ap (λ (k : ℕ). a * k) (pow-add 2 8 n), split before n) in
+    ap (λ (y : ℕ). y / 2 ^ n) (sym (low a (8 + n) fits)) ∙ ap (λ (y : ℕ). y % 2 ^ (8 + n) / 2 ^ n) whole ∙ field (before * 0x100 + v) 8 n
+
+-- nor do those before a byte in what it leaves
+byte-left : (n a v : ℕ) → n < 8 → v < 2 ^ 8 → (a * 2 ^ 8 + v) % 2 ^ n ≡ v % 2 ^ n
+byte-left n a v few h =
+    let x = a * 2 ^ 8 + v in
+    let e : 8 - n + n ≡ 8 = omega arith in
+    sym (mod-mod-pow x (8 - n) n) ∙ ap (λ (k : ℕ). x % 2 ^ k % 2 ^ n) e ∙ ap (λ (y : ℕ). y % 2 ^ n) (low a 8 h)
+
+-- no byte yet: the pending bits are the lowest of their number
+pub put-no-byte : (plan : List ℕ) (p : Pending) → Sound p → Put plan plan p [] (record { at = p .at + 0; count = p .count; bits = p .bits % 2 ^ p .count })
+put-no-byte plan p s =
+    subst (λ (k : ℕ). Put plan plan p [] (record { at = k; count = p .count; bits = p .bits % 2 ^ p .count })) (sym (add-zero (p .at)))
+    (subst (λ (b : ℕ). Put plan plan p [] (record { at = p .at; count = p .count; bits = b })) (sym (mod-eq-of-lt (s .low))) (put-none plan p s))
+
+-- a byte more: the pending bits are the lowest of a number before it
+pub put-byte : (plan : List ℕ) (at i count before v : ℕ) → count < 8 → v < 2 ^ 8 → at + i < length plan
+    → Put plan (set plan (at + i) ((before * 0x100 + v) / 2 ^ count % 0x100)) (record { at = at + i; count = count; bits = before % 2 ^ count }) (msbFirst 8 v)
+    (record { at = at + (i + 1); count = count; bits = v % 2 ^ count })
+put-byte plan at i count before v few h room =
+    let x = before % 2 ^ count * 2 ^ 8 + v in
+    let p : Pending = record { at = at + i; count = count; bits = before % 2 ^ count } in
+    let e : count + 8 - 8 ≡ count = omega arith in
+    let on : at + i + 1 ≡ at + (i + 1) = omega arith in
+    let byte : x / 2 ^ (count + 8 - 8) ≡ (before * 0x100 + v) / 2 ^ count % 0x100 = cc (byte-cut count before v h) in
+    let next : _≡_ {A = Pending} (record { at = at + i + 1; count = count + 8 - 8; bits = x % 2 ^ (count + 8 - 8) }) (record { at = at + (i + 1); count = count; bits = v % 2 ^ count }) =
+    cc (byte-left count (before % 2 ^ count) v few h) in
+    subst (λ (y : ℕ). Put plan (set plan (at + i) y) p (msbFirst 8 v) (record { at = at + (i + 1); count = count; bits = v % 2 ^ count })) byte
+    (subst (λ (r : Pending). Put plan (set plan (at + i) (x / 2 ^ (count + 8 - 8))) p (msbFirst 8 v) r) next
+    (put-full plan p 8 v (record { few = few; low = mod-lt before (pow-pos count) }) (omega arith) h (omega arith) room))
 
 -- one byte more of a list
 pub byteBits-more : (l : List ℕ) (i : ℕ) → i < length l → byteBits (take (i + 1) l) ≡ byteBits (take i l) ++ msbFirst 8 (getD l i 0)

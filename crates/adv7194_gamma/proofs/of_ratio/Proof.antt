@@ -1,4 +1,4 @@
--- `of_ratio` meets its contract: each byte is not above the next, from which that one is searched. Assumes nothing.
+-- `of_ratio` meets its contract: each byte is not above the next, from which that one is searched, and the byte given is the one at 128. Assumes nothing.
 use borrow.Author.Needs.{needs}
 use Rattle.adv7194_gamma.specs.Curve.{bytesOf}
 use Rattle.adv7194_gamma.proofs.Nearest.{next}
@@ -16,10 +16,10 @@ of-ratio-spec =
     tie.close
     (tie.spec
     (λ c κs. search needs)
-    (λ c κs. next 32 64 _ _ _ tt (c .before .pre) (c .byte-from .ensures))
-    (λ c κs. next 64 96 _ _ _ tt (c .before .before .pre) (c .byte-from2 .ensures))
-    (λ c κs. next 96 128 _ _ _ tt (c .before .before .before .pre) (c .byte-from3 .ensures))
-    (λ c κs. next 128 160 _ _ _ tt (c .before .before .before .before .pre) (c .byte-from4 .ensures))
-    (λ c κs. next 160 192 _ _ _ tt (c .before .before .before .before .before .pre) (c .byte-from5 .ensures))
-    (λ c κs. next 192 224 _ _ _ tt (c .before .before .before .before .before .before .pre) (c .byte-from6 .ensures))
+    (λ c κs. next 32 64 _ _ _ tt (c .before .pre .0) (c .byte-from .ensures))
+    (λ c κs. next 64 96 _ _ _ tt (c .before .before .pre .0) (c .byte-from2 .ensures))
+    (λ c κs. next 96 128 _ _ _ tt (c .before .before .before .pre .0) (c .byte-from3 .ensures))
+    (λ c κs. next 128 160 _ _ _ tt (c .before .before .before .before .pre .0) (c .before .before .before .before .pre .1))
+    (λ c κs. next 160 192 _ _ _ tt (c .before .before .before .before .before .pre .0) (c .byte-from5 .ensures))
+    (λ c κs. next 192 224 _ _ _ tt (c .before .before .before .before .before .before .pre .0) (c .byte-from6 .ensures))
     returns)

@@ -6,7 +6,7 @@ use mir.Syntax.{w32}
 use Rattle.rounding.proofs.Range.{back}
 use Rattle.adv7194_fields.specs.Answers.{decoded}
 use Rattle.adv7194_fields.specs.Coding.{decode}
-use Rattle.adv7194_fields.specs.Fields.{fields, gain, threshold, yesNo}
+use Rattle.adv7194_fields.specs.Fields.{fields, gain, threshold}
 use Rattle.adv7194_settings.specs.declared.settings.Gains.{Gains}
 use Rattle.adv7194_settings.specs.Order.{Verdict}
 use Rattle.adv7194_reading_groups.specs.Held.{readings, readingIn, readingAt, settingAt, settingsHeld}
@@ -92,53 +92,53 @@ to20 c = to19 (c .before .before .before .before .before)
 
 -- ---- field 21
 
-reading21 : (c : tie.After-setting4) → decoded (c .setting4 .result) ≡ readingAt (image3 (c .before .before)) 21
+reading21 : (c : tie.After-yes-no) → decoded (c .yes-no .result) ≡ readingAt (image3 (c .before)) 21
 unfolding readingAt readings readingIn fields
-reading21 c = c .setting4 .ensures ∙ ap (decode yesNo) (c .before .code4 .ensures)
+reading21 c = c .yes-no .ensures
 
 returns-4 : tie.Need-returns-4
 returns-4 c =
     let r = c .before .before .before in
-    halted _ 21 (reading21 r) (22 ∷ []) (part (image3 (r .before .before))) (c .before .enum-told4 .given .0 .0) refl (c .refused4 .ensures) (c .before .enum-told4 .given .1) ∙ sym (to20 (r .before .before))
+    halted _ 21 (reading21 r) (22 ∷ []) (part (image3 (r .before))) (c .before .enum-told4 .given .0 .0) refl (c .refused4 .ensures) (c .before .enum-told4 .given .1) ∙ sym (to20 (r .before))
 
-held21 : (c : tie.After-known-told4) → back w32 (c .before .area-read .given .0 .0) ≡ settingAt (image3 (c .before .before .before .before .before)) 21
+held21 : (c : tie.After-known-told4) → back w32 (c .before .area-read .given .0 .0) ≡ settingAt (image3 (c .before .before .before .before)) 21
 held21 c = kept-back _ 21 (reading21 (c .before .before .before)) (c .before .area-read .given .0 .0) (c .before .area-read .given .1) (c .known-told4 .given .0 .1)
 
 abbrev image4 : tie.After-known-told4 → List ℕ
-image4 c = image3 (c .before .before .before .before .before)
+image4 c = image3 (c .before .before .before .before)
 
 to21 : (c : tie.After-known-told4) → whole (image4 c) ≡ partOf (image4 c) (22 ∷ []) (part (image4 c))
-to21 c = to20 (c .before .before .before .before .before)
-    ∙ passed _ 21 (reading21 (c .before .before .before)) (22 ∷ []) (part (image3 (c .before .before .before .before .before))) (c .before .area-read .given .0 .0) refl (c .before .area-read .given .1)
+to21 c = to20 (c .before .before .before .before)
+    ∙ passed _ 21 (reading21 (c .before .before .before)) (22 ∷ []) (part (image3 (c .before .before .before .before))) (c .before .area-read .given .0 .0) refl (c .before .area-read .given .1)
 
 -- ---- field 22
 
-reading22 : (c : tie.After-setting5) → decoded (c .setting5 .result) ≡ readingAt (image4 (c .before .before)) 22
+reading22 : (c : tie.After-yes-no2) → decoded (c .yes-no2 .result) ≡ readingAt (image4 (c .before)) 22
 unfolding readingAt readings readingIn fields
-reading22 c = c .setting5 .ensures ∙ ap (decode yesNo) (c .before .code5 .ensures)
+reading22 c = c .yes-no2 .ensures
 
 returns-5 : tie.Need-returns-5
 returns-5 c =
     let r = c .before .before .before in
-    halted _ 22 (reading22 r) ([]) (part (image4 (r .before .before))) (c .before .enum-told5 .given .0 .0) refl (c .refused5 .ensures) (c .before .enum-told5 .given .1) ∙ sym (to21 (r .before .before))
+    halted _ 22 (reading22 r) ([]) (part (image4 (r .before))) (c .before .enum-told5 .given .0 .0) refl (c .refused5 .ensures) (c .before .enum-told5 .given .1) ∙ sym (to21 (r .before))
 
-held22 : (c : tie.After-known-told5) → back w32 (c .before .size-read .given .0 .0) ≡ settingAt (image4 (c .before .before .before .before .before)) 22
+held22 : (c : tie.After-known-told5) → back w32 (c .before .size-read .given .0 .0) ≡ settingAt (image4 (c .before .before .before .before)) 22
 held22 c = kept-back _ 22 (reading22 (c .before .before .before)) (c .before .size-read .given .0 .0) (c .before .size-read .given .1) (c .known-told5 .given .0 .1)
 
 abbrev image5 : tie.After-known-told5 → List ℕ
-image5 c = image4 (c .before .before .before .before .before)
+image5 c = image4 (c .before .before .before .before)
 
 to22 : (c : tie.After-known-told5) → whole (image5 c) ≡ partOf (image5 c) ([]) (part (image5 c))
-to22 c = to21 (c .before .before .before .before .before)
-    ∙ passed _ 22 (reading22 (c .before .before .before)) ([]) (part (image4 (c .before .before .before .before .before))) (c .before .size-read .given .0 .0) refl (c .before .size-read .given .1)
+to22 c = to21 (c .before .before .before .before)
+    ∙ passed _ 22 (reading22 (c .before .before .before)) ([]) (part (image4 (c .before .before .before .before))) (c .before .size-read .given .0 .0) refl (c .before .size-read .given .1)
 
 -- ---- all of them
 
 returns-6 : tie.Need-returns-6
 unfolding settingsHeld
 returns-6 c =
-    let c4 = c .before .before .before .before .before in
-    let c3 = c4 .before .before .before .before .before in
+    let c4 = c .before .before .before .before in
+    let c3 = c4 .before .before .before .before in
     let c2 = c3 .before .before .before .before .before in
     let c1 = c2 .before .before .before .before .before in
     rw (held18 c1, held19 c2, held20 c3, held21 c4, held22 c) (sym (to22 c ∙ all-read (image5 c) (part (image5 c))))
@@ -166,13 +166,11 @@ read-gains-spec =
     (λ c κs. tt)
     returns-3
     (λ c κs. in-image (image3 c) 0x24 6 1 tt tt (c .before .before .before .before .before .before .before .before .before .before .before .before .before .before .before .before .pre))
-    (λ c κs. tt)
     (λ c. c .match4 .keys1)
     (λ c. c .match4 .keys2)
     (λ c κs. tt)
     returns-4
-    (λ c κs. in-image (image4 c) 0x24 7 1 tt tt (c .before .before .before .before .before .before .before .before .before .before .before .before .before .before .before .before .before .before .before .before .before .pre))
-    (λ c κs. tt)
+    (λ c κs. in-image (image4 c) 0x24 7 1 tt tt (c .before .before .before .before .before .before .before .before .before .before .before .before .before .before .before .before .before .before .before .before .pre))
     (λ c. c .match5 .keys1)
     (λ c. c .match5 .keys2)
     (λ c κs. tt)

@@ -6,7 +6,7 @@ use mir.Syntax.{w32}
 use Rattle.rounding.proofs.Range.{back}
 use Rattle.adv7194_fields.specs.Answers.{decoded}
 use Rattle.adv7194_fields.specs.Coding.{decode}
-use Rattle.adv7194_fields.specs.Fields.{fields, blockOffset, dnrInput, yesNo}
+use Rattle.adv7194_fields.specs.Fields.{fields, blockOffset, dnrInput}
 use Rattle.adv7194_settings.specs.declared.settings.Mode.{Mode}
 use Rattle.adv7194_settings.specs.Order.{Verdict}
 use Rattle.adv7194_reading_groups.specs.Held.{readings, readingIn, readingAt, settingAt, settingsHeld}
@@ -50,30 +50,30 @@ to23 c = passed _ 23 (reading23 (c .before .before .before)) (24 ∷ 25 ∷ []) 
 
 -- ---- field 24
 
-reading24 : (c : tie.After-setting2) → decoded (c .setting2 .result) ≡ readingAt (image1 (c .before .before)) 24
+reading24 : (c : tie.After-yes-no) → decoded (c .yes-no .result) ≡ readingAt (image1 (c .before)) 24
 unfolding readingAt readings readingIn fields
-reading24 c = c .setting2 .ensures ∙ ap (decode yesNo) (c .before .code2 .ensures)
+reading24 c = c .yes-no .ensures
 
 returns-2 : tie.Need-returns-2
 returns-2 c =
     let r = c .before .before .before in
-    halted _ 24 (reading24 r) (25 ∷ []) (part (image1 (r .before .before))) (c .before .enum-told2 .given .0 .0) refl (c .refused2 .ensures) (c .before .enum-told2 .given .1) ∙ sym (to23 (r .before .before))
+    halted _ 24 (reading24 r) (25 ∷ []) (part (image1 (r .before))) (c .before .enum-told2 .given .0 .0) refl (c .refused2 .ensures) (c .before .enum-told2 .given .1) ∙ sym (to23 (r .before))
 
-held24 : (c : tie.After-known-told2) → back w32 (c .before .mode-read .given .0 .0) ≡ settingAt (image1 (c .before .before .before .before .before)) 24
+held24 : (c : tie.After-known-told2) → back w32 (c .before .mode-read .given .0 .0) ≡ settingAt (image1 (c .before .before .before .before)) 24
 held24 c = kept-back _ 24 (reading24 (c .before .before .before)) (c .before .mode-read .given .0 .0) (c .before .mode-read .given .1) (c .known-told2 .given .0 .1)
 
 abbrev image2 : tie.After-known-told2 → List ℕ
-image2 c = image1 (c .before .before .before .before .before)
+image2 c = image1 (c .before .before .before .before)
 
 to24 : (c : tie.After-known-told2) → whole (image2 c) ≡ partOf (image2 c) (25 ∷ []) (part (image2 c))
-to24 c = to23 (c .before .before .before .before .before)
-    ∙ passed _ 24 (reading24 (c .before .before .before)) (25 ∷ []) (part (image1 (c .before .before .before .before .before))) (c .before .mode-read .given .0 .0) refl (c .before .mode-read .given .1)
+to24 c = to23 (c .before .before .before .before)
+    ∙ passed _ 24 (reading24 (c .before .before .before)) (25 ∷ []) (part (image1 (c .before .before .before .before))) (c .before .mode-read .given .0 .0) refl (c .before .mode-read .given .1)
 
 -- ---- field 25
 
-reading25 : (c : tie.After-setting3) → decoded (c .setting3 .result) ≡ readingAt (image2 (c .before .before)) 25
+reading25 : (c : tie.After-setting2) → decoded (c .setting2 .result) ≡ readingAt (image2 (c .before .before)) 25
 unfolding readingAt readings readingIn fields
-reading25 c = c .setting3 .ensures ∙ ap (decode blockOffset) (c .before .code3 .ensures)
+reading25 c = c .setting2 .ensures ∙ ap (decode blockOffset) (c .before .code2 .ensures)
 
 returns-3 : tie.Need-returns-3
 returns-3 c =
@@ -96,7 +96,7 @@ returns-4 : tie.Need-returns-4
 unfolding settingsHeld
 returns-4 c =
     let c2 = c .before .before .before .before .before in
-    let c1 = c2 .before .before .before .before .before in
+    let c1 = c2 .before .before .before .before in
     rw (held23 c1, held24 c2, held25 c) (sym (to25 c ∙ all-read (image3 c) (part (image3 c))))
 
 pub read-mode-spec : {M : Type 1} → statement M
@@ -110,12 +110,11 @@ read-mode-spec =
     (λ c κs. tt)
     returns
     (λ c κs. in-image (image1 c) 0x25 3 1 tt tt (c .before .before .before .before .before .before .pre))
-    (λ c κs. tt)
     (λ c. c .match2 .keys1)
     (λ c. c .match2 .keys2)
     (λ c κs. tt)
     returns-2
-    (λ c κs. in-image (image2 c) 0x25 4 4 tt tt (c .before .before .before .before .before .before .before .before .before .before .before .pre))
+    (λ c κs. in-image (image2 c) 0x25 4 4 tt tt (c .before .before .before .before .before .before .before .before .before .before .pre))
     (λ c κs. tt)
     (λ c. c .match3 .keys1)
     (λ c. c .match3 .keys2)

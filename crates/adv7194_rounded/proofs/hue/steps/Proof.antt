@@ -1,11 +1,16 @@
 -- `adv7194_rounded::hue::steps` meets its contract: one test, computed at each hue of the range. Assumes nothing.
-use mathlib.Core.Bool.{Bool, not, _||_}
+use mathlib.Core.Path.{_≡_}
+use mathlib.Core.Bool.{Bool, not, _||_, cond}
+use mathlib.Core.Logic.{⊎-elim}
+use Prim.Native.Nat.{ℕ}
 use lib.IntN.{ℤ, pos, negℤ, _+ℤ_, _-ℤ_, _*ℤ_}
 use lib.Signed.{quotZ, ltZ}
 use lib.Dec.{T, lit<}
 use mir.Syntax.{w32}
+use mir.Val.{toZ, ofZ}
+use borrow.Author.Needs.{needs}
 use borrow.Author.Tests.{not-true}
-use Rattle.rounding.proofs.Range.{everywhere, back, sfitsb, fits→, T→true, imp, imp→, imp→not}
+use Rattle.rounding.proofs.Range.{everywhere, back, sfitsb, fits→, T→true}
 use Rattle.adv7194_fields.proofs.Judging.{in-range}
 use Rattle.adv7194_rounded.proofs.Rounded.{rounds, rounds→}
 use Rattle.adv7194_rounded.proofs.hue.steps.Statement.{statement}
@@ -19,47 +24,38 @@ at P t c = in-range 225 224 P t (c .args .tenths) (c .pre)
 abbrev product : ℤ → ℤ
 product t = pos 256 *ℤ back w32 t
 
-abbrev negative : ℤ → Bool
-negative t = ltZ (back w32 (product t)) (pos 0)
+abbrev half : ℤ → ℕ
+half t = cond (ltZ (back w32 (product t)) (pos 0)) (ofZ w32 (pos 0 -ℤ pos 225)) 225
 
-abbrev less : ℤ → ℤ
-less t = back w32 (product t) -ℤ pos 225
+abbrev sum : ℤ → ℤ
+sum t = back w32 (product t) +ℤ toZ w32 (half t)
 
-abbrev down : ℤ → ℤ
-down t = quotZ (back w32 (less t)) (pos 450)
-
-abbrev more : ℤ → ℤ
-more t = back w32 (product t) +ℤ pos 225
-
-abbrev up : ℤ → ℤ
-up t = quotZ (back w32 (more t)) (pos 450)
+abbrev quotient : ℤ → ℤ
+quotient t = quotZ (back w32 (sum t)) (pos 450)
 
 -- what both ends of the range leave of the number of steps
 abbrev wide : ℤ → Bool
 wide r = ltZ r (negℤ (pos 128)) || ltZ (pos 127) r
 
+-- the half that either arm chose
+halved : (c : tie.Joined1) → c .if1 .half ≡ half (c .before .args .tenths)
+halved c = ⊎-elim (λ w. rw (w .0 .taken) (w .1)) (λ w. rw (w .0 .left) (w .1)) (c .if1 .came)
+
+add-result : tie.Need-add-result
+add-result c = rw (halved c) (fits→ w32 _ (at (λ t. sfitsb w32 (sum t)) tt (c .before)))
+
+div-result : tie.Need-div-result
+div-result c = rw (halved c) (lit< tt, fits→ w32 _ (at (λ t. sfitsb w32 (quotient t)) tt (c .before)))
+
 returns : tie.Need-returns
 returns c =
-    let t = c .before .args .tenths in (
-      rounds→ 256 450 t (back w32 (down t)) (lit< tt) (imp→ _ _ (at (λ t. imp (negative t) (rounds 256 450 t (back w32 (down t)))) tt (c .before)) (c .if1 .taken)),
-      not-true _ (T→true _ (at (λ t. not (wide (back w32 (down t)))) tt (c .before))),
-    )
-
-returns-2 : tie.Need-returns-2
-returns-2 c =
-    let t = c .before .args .tenths in (
-      rounds→ 256 450 t (back w32 (up t)) (lit< tt) (imp→not _ _ (at (λ t. imp (not (negative t)) (rounds 256 450 t (back w32 (up t)))) tt (c .before)) (c .if1 .left)),
-      not-true _ (T→true _ (at (λ t. not (wide (back w32 (up t)))) tt (c .before))),
+    let t = c .before .args .tenths in
+    rw (halved c) (
+      rounds→ 256 450 t (back w32 (quotient t)) (lit< tt) (at (λ t. rounds 256 450 t (back w32 (quotient t))) tt (c .before)),
+      not-true (wide (back w32 (quotient t))) (T→true _ (at (λ t. not (wide (back w32 (quotient t)))) tt (c .before))),
     )
 
 pub steps-spec : {M : Type 1} → statement M
 steps-spec =
     tie.close
-    (tie.spec
-    (λ c. fits→ w32 _ (at (λ t. sfitsb w32 (product t)) tt c))
-    (λ c. fits→ w32 _ (at (λ t. sfitsb w32 (less t)) tt (c .before)))
-    (λ c. (lit< tt, fits→ w32 _ (at (λ t. sfitsb w32 (down t)) tt (c .before))))
-    returns
-    (λ c. fits→ w32 _ (at (λ t. sfitsb w32 (more t)) tt (c .before)))
-    (λ c. (lit< tt, fits→ w32 _ (at (λ t. sfitsb w32 (up t)) tt (c .before))))
-    returns-2)
+    (tie.spec (λ c. fits→ w32 _ (at (λ t. sfitsb w32 (product t)) tt c)) (λ c. search needs) add-result div-result returns)

@@ -1,111 +1,206 @@
--- `curves::bytes_coded` meets its contract: the seven bytes are noted in turn, and taken where none is refused. Assumes nothing.
-use mathlib.Core.Path.{_≡_, sym, ap, ap₂, _∙_}
-use mathlib.Core.List.{List, [], _∷_}
+-- `curves::bytes_coded` meets its contract: a byte after the other, and the first that is refused is refused with 3. Assumes nothing.
+use mathlib.Core.Path.{_≡_, sym, ap, _∙_}
 use borrow.Author.Needs.{needs}
-use Rattle.refusals.specs.Refusal.{Judged, accepted}
+use Rattle.refusals.specs.Refusal.{accepted}
 use Rattle.adv7194_fields.specs.Answers.{coded}
 use Rattle.adv7194_fields.specs.Coding.{encode}
 use Rattle.adv7194_settings.specs.declared.settings.Curve.{Curve}
-use Rattle.adv7194_settings.specs.Rows.{curveByte, bytesSet}
-use Rattle.adv7194_settings.specs.Answers.{faultAs, faultOf, codeIn}
+use Rattle.adv7194_settings.specs.Rows.{curveByte, together, bytesSet}
 use Rattle.adv7194_settings.proofs.Numbers.{passed}
-use Rattle.adv7194_settings.proofs.Faults.{in-turn}
-use Rattle.adv7194_settings.proofs.Together.{bytes-fault, bytes-good, refused-is}
+use Rattle.adv7194_settings.proofs.ByteLaws.{no-byte}
 use Rattle.adv7194_settings.proofs.curves.bytes_coded.Statement.{statement}
 use Rattle.adv7194_settings.proofs.curves.bytes_coded.Tie as tie
+
+-- Of each byte: its coding; the curve, from its stage on; its code where it is one; the answer where it is none.
+
+-- ---- byte 0
 
 b0-coded : (c : tie.After-code) → coded (c .code .result) ≡ encode curveByte (c .before .before .args .curve .b0)
 b0-coded c = passed (encode curveByte) (c .before .before .args .curve .b0) (c .code .ensures) (c .before .struct-told .given .1 .1 .1 .0 .1)
 
-b1-coded : (c : tie.After-code2) → coded (c .code2 .result) ≡ encode curveByte (c .before .before .before .before .args .curve .b1)
-b1-coded c = passed (encode curveByte) (c .before .before .before .before .args .curve .b1) (c .code2 .ensures) (c .before .struct-told2 .given .1 .1 .1 .1 .0 .1)
+abbrev curve0 : tie.After-known-told → Curve
+curve0 c = c .before .before .before .before .before .args .curve
 
-b2-coded : (c : tie.After-code3) → coded (c .code3 .result) ≡ encode curveByte (c .before .before .before .before .before .before .args .curve .b2)
-b2-coded c = passed (encode curveByte) (c .before .before .before .before .before .before .args .curve .b2) (c .code3 .ensures) (c .before .struct-told3 .given .1 .1 .1 .1 .1 .0 .1)
-
-b3-coded : (c : tie.After-code4) → coded (c .code4 .result) ≡ encode curveByte (c .before .before .before .before .before .before .before .before .args .curve .b3)
-b3-coded c = passed (encode curveByte) (c .before .before .before .before .before .before .before .before .args .curve .b3) (c .code4 .ensures) (c .before .struct-told4 .given .1 .1 .1 .1 .1 .1 .0 .1)
-
-b4-coded : (c : tie.After-code5) → coded (c .code5 .result) ≡ encode curveByte (c .before .before .before .before .before .before .before .before .before .before .args .curve .b4)
-b4-coded c = passed (encode curveByte) (c .before .before .before .before .before .before .before .before .before .before .args .curve .b4) (c .code5 .ensures) (c .before .struct-told5 .given .1 .1 .1 .1 .1 .1 .1 .0 .1)
-
-b5-coded : (c : tie.After-code6) → coded (c .code6 .result) ≡ encode curveByte (c .before .before .before .before .before .before .before .before .before .before .before .before .args .curve .b5)
-b5-coded c = passed (encode curveByte) (c .before .before .before .before .before .before .before .before .before .before .before .before .args .curve .b5) (c .code6 .ensures) (c .before .struct-told6 .given .1 .1 .1 .1 .1 .1 .1 .1 .0 .1)
-
-b6-coded : (c : tie.After-code7) → coded (c .code7 .result) ≡ encode curveByte (c .before .before .before .before .before .before .before .before .before .before .before .before .before .before .args .curve .b6)
-b6-coded c = passed (encode curveByte) (c .before .before .before .before .before .before .before .before .before .before .before .before .before .before .args .curve .b6) (c .code7 .ensures) (c .before .struct-told7 .given .1 .1 .1 .1 .1 .1 .1 .1 .1 .0 .1)
-
--- what was noted is the fault of the seven bytes
-all-noted : (c : tie.After-noted7) → faultAs (c .noted7 .result) ≡ faultOf 0 (bytesSet (c .before .before .before .before .before .before .before .before .before .before .before .before .before .before .before .before .before .before .before .before .before .args .curve))
-all-noted c =
-    let n6 = c .before in
-    let n5 = n6 .before in
-    let n4 = n5 .before in
-    let n3 = n4 .before in
-    let n2 = n3 .before in
-    let n1 = n2 .before in
-    let k7 = n1 .before in
-    let k6 = k7 .before .before in
-    let k5 = k6 .before .before in
-    let k4 = k5 .before .before in
-    let k3 = k4 .before .before in
-    let k2 = k3 .before .before in
-    let k1 = k2 .before .before in
-    in-turn 0 (c .noted7 .ensures) (in-turn 0 (n6 .noted6 .ensures) (in-turn 0 (n5 .noted5 .ensures) (in-turn 0 (n4 .noted4 .ensures) (in-turn 0 (n3 .noted3 .ensures) (in-turn 0 (n2 .noted2 .ensures) (n1 .noted .ensures ∙ ap (faultOf 0) (b0-coded k1)) (b1-coded k2)) (b2-coded k3)) (b3-coded k4)) (b4-coded k5)) (b5-coded k6)) (b6-coded k7) ∙ bytes-fault (c .before .before .before .before .before .before .before .before .before .before .before .before .before .before .before .before .before .before .before .before .before .args .curve)
+b0-is : (c : tie.After-known-told) → encode curveByte (curve0 c .b0) ≡ accepted (c .before .b0 .given .0 .0)
+b0-is c = sym (b0-coded (c .before .before .before)) ∙ ap coded (c .before .b0 .given .1)
 
 returns : tie.Need-returns
-returns c =
-    let e = c .before .before .before .before .before .before .before in
-    let n7 = e .before .before in
-    let k7 = n7 .before .before .before .before .before .before .before in
-    let k6 = k7 .before .before in
-    let k5 = k6 .before .before in
-    let k4 = k5 .before .before in
-    let k3 = k4 .before .before in
-    let k2 = k3 .before .before in
-    let k1 = k2 .before .before in
-    rw (
-      c .before .before .before .before .before .before .code-in .ensures ∙ ap codeIn (b0-coded k1),
-      c .before .before .before .before .before .code-in2 .ensures ∙ ap codeIn (b1-coded k2),
-      c .before .before .before .before .code-in3 .ensures ∙ ap codeIn (b2-coded k3),
-      c .before .before .before .code-in4 .ensures ∙ ap codeIn (b3-coded k4),
-      c .before .before .code-in5 .ensures ∙ ap codeIn (b4-coded k5),
-      c .before .code-in6 .ensures ∙ ap codeIn (b5-coded k6),
-      c .code-in7 .ensures ∙ ap codeIn (b6-coded k7),
-    )
-    (sym (bytes-good (k1 .before .before .args .curve) (sym (all-noted n7) ∙ ap faultAs (e .enum-told .given .1))))
+unfolding bytesSet together
+returns c = rw (no-byte _ (b0-coded (c .before .before .before)) (c .before .enum-told .given .1)) (c .no-bytes .ensures)
+
+-- ---- byte 1
+
+b1-coded : (c : tie.After-code2) → coded (c .code2 .result) ≡ encode curveByte (curve0 (c .before .before) .b1)
+b1-coded c = passed (encode curveByte) (curve0 (c .before .before) .b1) (c .code2 .ensures) (c .before .struct-told2 .given .1 .1 .1 .1 .0 .1)
+
+abbrev curve1 : tie.After-known-told2 → Curve
+curve1 c = curve0 (c .before .before .before .before .before)
+
+b1-is : (c : tie.After-known-told2) → encode curveByte (curve1 c .b1) ≡ accepted (c .before .b1 .given .0 .0)
+b1-is c = sym (b1-coded (c .before .before .before)) ∙ ap coded (c .before .b1 .given .1)
 
 returns-2 : tie.Need-returns-2
+unfolding bytesSet together
 returns-2 c =
-    let n7 = c .before .before .before in
-    refused-is 0 _ _ _ (sym (all-noted n7) ∙ ap faultAs (c .before .to6 .given .1))
+    let r = c .before .before .before in
+    let c0 = r .before .before in
+    rw (b0-is c0, no-byte _ (b1-coded r) (c .before .enum-told2 .given .1)) (c .no-bytes2 .ensures)
+
+-- ---- byte 2
+
+b2-coded : (c : tie.After-code3) → coded (c .code3 .result) ≡ encode curveByte (curve1 (c .before .before) .b2)
+b2-coded c = passed (encode curveByte) (curve1 (c .before .before) .b2) (c .code3 .ensures) (c .before .struct-told3 .given .1 .1 .1 .1 .1 .0 .1)
+
+abbrev curve2 : tie.After-known-told3 → Curve
+curve2 c = curve1 (c .before .before .before .before .before)
+
+b2-is : (c : tie.After-known-told3) → encode curveByte (curve2 c .b2) ≡ accepted (c .before .b2 .given .0 .0)
+b2-is c = sym (b2-coded (c .before .before .before)) ∙ ap coded (c .before .b2 .given .1)
+
+returns-3 : tie.Need-returns-3
+unfolding bytesSet together
+returns-3 c =
+    let r = c .before .before .before in
+    let c1 = r .before .before in
+    let c0 = c1 .before .before .before .before .before in
+    rw (b0-is c0, b1-is c1, no-byte _ (b2-coded r) (c .before .enum-told3 .given .1)) (c .no-bytes3 .ensures)
+
+-- ---- byte 3
+
+b3-coded : (c : tie.After-code4) → coded (c .code4 .result) ≡ encode curveByte (curve2 (c .before .before) .b3)
+b3-coded c = passed (encode curveByte) (curve2 (c .before .before) .b3) (c .code4 .ensures) (c .before .struct-told4 .given .1 .1 .1 .1 .1 .1 .0 .1)
+
+abbrev curve3 : tie.After-known-told4 → Curve
+curve3 c = curve2 (c .before .before .before .before .before)
+
+b3-is : (c : tie.After-known-told4) → encode curveByte (curve3 c .b3) ≡ accepted (c .before .b3 .given .0 .0)
+b3-is c = sym (b3-coded (c .before .before .before)) ∙ ap coded (c .before .b3 .given .1)
+
+returns-4 : tie.Need-returns-4
+unfolding bytesSet together
+returns-4 c =
+    let r = c .before .before .before in
+    let c2 = r .before .before in
+    let c1 = c2 .before .before .before .before .before in
+    let c0 = c1 .before .before .before .before .before in
+    rw (b0-is c0, b1-is c1, b2-is c2, no-byte _ (b3-coded r) (c .before .enum-told4 .given .1)) (c .no-bytes4 .ensures)
+
+-- ---- byte 4
+
+b4-coded : (c : tie.After-code5) → coded (c .code5 .result) ≡ encode curveByte (curve3 (c .before .before) .b4)
+b4-coded c = passed (encode curveByte) (curve3 (c .before .before) .b4) (c .code5 .ensures) (c .before .struct-told5 .given .1 .1 .1 .1 .1 .1 .1 .0 .1)
+
+abbrev curve4 : tie.After-known-told5 → Curve
+curve4 c = curve3 (c .before .before .before .before .before)
+
+b4-is : (c : tie.After-known-told5) → encode curveByte (curve4 c .b4) ≡ accepted (c .before .b4 .given .0 .0)
+b4-is c = sym (b4-coded (c .before .before .before)) ∙ ap coded (c .before .b4 .given .1)
+
+returns-5 : tie.Need-returns-5
+unfolding bytesSet together
+returns-5 c =
+    let r = c .before .before .before in
+    let c3 = r .before .before in
+    let c2 = c3 .before .before .before .before .before in
+    let c1 = c2 .before .before .before .before .before in
+    let c0 = c1 .before .before .before .before .before in
+    rw (b0-is c0, b1-is c1, b2-is c2, b3-is c3, no-byte _ (b4-coded r) (c .before .enum-told5 .given .1)) (c .no-bytes5 .ensures)
+
+-- ---- byte 5
+
+b5-coded : (c : tie.After-code6) → coded (c .code6 .result) ≡ encode curveByte (curve4 (c .before .before) .b5)
+b5-coded c = passed (encode curveByte) (curve4 (c .before .before) .b5) (c .code6 .ensures) (c .before .struct-told6 .given .1 .1 .1 .1 .1 .1 .1 .1 .0 .1)
+
+abbrev curve5 : tie.After-known-told6 → Curve
+curve5 c = curve4 (c .before .before .before .before .before)
+
+b5-is : (c : tie.After-known-told6) → encode curveByte (curve5 c .b5) ≡ accepted (c .before .b5 .given .0 .0)
+b5-is c = sym (b5-coded (c .before .before .before)) ∙ ap coded (c .before .b5 .given .1)
+
+returns-6 : tie.Need-returns-6
+unfolding bytesSet together
+returns-6 c =
+    let r = c .before .before .before in
+    let c4 = r .before .before in
+    let c3 = c4 .before .before .before .before .before in
+    let c2 = c3 .before .before .before .before .before in
+    let c1 = c2 .before .before .before .before .before in
+    let c0 = c1 .before .before .before .before .before in
+    rw (b0-is c0, b1-is c1, b2-is c2, b3-is c3, b4-is c4, no-byte _ (b5-coded r) (c .before .enum-told6 .given .1)) (c .no-bytes6 .ensures)
+
+-- ---- byte 6
+
+b6-coded : (c : tie.After-code7) → coded (c .code7 .result) ≡ encode curveByte (curve5 (c .before .before) .b6)
+b6-coded c = passed (encode curveByte) (curve5 (c .before .before) .b6) (c .code7 .ensures) (c .before .struct-told7 .given .1 .1 .1 .1 .1 .1 .1 .1 .1 .0 .1)
+
+abbrev curve6 : tie.After-known-told7 → Curve
+curve6 c = curve5 (c .before .before .before .before .before)
+
+b6-is : (c : tie.After-known-told7) → encode curveByte (curve6 c .b6) ≡ accepted (c .before .b6 .given .0 .0)
+b6-is c = sym (b6-coded (c .before .before .before)) ∙ ap coded (c .before .b6 .given .1)
+
+returns-7 : tie.Need-returns-7
+unfolding bytesSet together
+returns-7 c =
+    let r = c .before .before .before in
+    let c5 = r .before .before in
+    let c4 = c5 .before .before .before .before .before in
+    let c3 = c4 .before .before .before .before .before in
+    let c2 = c3 .before .before .before .before .before in
+    let c1 = c2 .before .before .before .before .before in
+    let c0 = c1 .before .before .before .before .before in
+    rw (b0-is c0, b1-is c1, b2-is c2, b3-is c3, b4-is c4, b5-is c5, no-byte _ (b6-coded r) (c .before .enum-told7 .given .1)) (c .no-bytes7 .ensures)
+
+-- ---- all of them
+
+returns-8 : tie.Need-returns-8
+unfolding bytesSet together
+returns-8 c =
+    let c5 = c .before .before .before .before .before in
+    let c4 = c5 .before .before .before .before .before in
+    let c3 = c4 .before .before .before .before .before in
+    let c2 = c3 .before .before .before .before .before in
+    let c1 = c2 .before .before .before .before .before in
+    let c0 = c1 .before .before .before .before .before in
+    rw (b0-is c0, b1-is c1, b2-is c2, b3-is c3, b4-is c4, b5-is c5, b6-is c)
 
 pub bytes-coded-spec : {M : Type 1} → statement M
 bytes-coded-spec =
     tie.close
     (tie.spec
     (λ c κs. search needs)
-    (λ c κs. search needs)
-    (λ c κs. search needs)
-    (λ c κs. search needs)
-    (λ c κs. search needs)
-    (λ c κs. search needs)
-    (λ c κs. search needs)
-    (λ c κs. search needs)
-    (λ c κs. search needs)
-    (λ c κs. search needs)
-    (λ c κs. search needs)
-    (λ c κs. search needs)
-    (λ c κs. search needs)
-    (λ c κs. search needs)
+    (λ c. search needs)
     (λ c. search needs)
     (λ c κs. search needs)
-    (λ c κs. search needs)
-    (λ c κs. search needs)
-    (λ c κs. search needs)
-    (λ c κs. search needs)
-    (λ c κs. search needs)
-    (λ c κs. search needs)
-    (λ c. search needs)
     returns
-    returns-2)
+    (λ c κs. search needs)
+    (λ c. search needs)
+    (λ c. search needs)
+    (λ c κs. search needs)
+    returns-2
+    (λ c κs. search needs)
+    (λ c. search needs)
+    (λ c. search needs)
+    (λ c κs. search needs)
+    returns-3
+    (λ c κs. search needs)
+    (λ c. search needs)
+    (λ c. search needs)
+    (λ c κs. search needs)
+    returns-4
+    (λ c κs. search needs)
+    (λ c. search needs)
+    (λ c. search needs)
+    (λ c κs. search needs)
+    returns-5
+    (λ c κs. search needs)
+    (λ c. search needs)
+    (λ c. search needs)
+    (λ c κs. search needs)
+    returns-6
+    (λ c κs. search needs)
+    (λ c. search needs)
+    (λ c. search needs)
+    (λ c κs. search needs)
+    returns-7
+    returns-8)

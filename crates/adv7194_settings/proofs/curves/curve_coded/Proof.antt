@@ -1,5 +1,5 @@
 -- `curves::curve_coded` meets its contract: the kind chooses the coding. Assumes nothing.
-use mathlib.Core.Path.{_≡_, sym, ap, _∙_}
+use mathlib.Core.Path.{_≡_, sym, _∙_}
 use borrow.Author.Needs.{needs}
 use Rattle.adv7194_gamma.specs.Curve.{curveOf}
 use Rattle.adv7194_settings.specs.Rows.{is}

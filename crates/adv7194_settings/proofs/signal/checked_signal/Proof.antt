@@ -1,12 +1,8 @@
 -- `signal::checked_signal` meets its contract: the row of conflicts, then the coding. Assumes nothing.
-use mathlib.Core.Path.{_≡_, sym, ap, ap₂, _∙_}
-use mathlib.Core.Bool.{Bool, _&&_, _||_}
+use mathlib.Core.Path.{_≡_, sym, ap₂, _∙_}
+use mathlib.Core.Bool.{_&&_, _||_}
 use borrow.Author.Needs.{needs}
-use mir.Syntax.{w32}
-use mir.ValLaws.{toZ-ofZ}
-use Rattle.adv7194_settings.specs.Order.{Verdict}
-use Rattle.adv7194_settings.specs.Rows.{is, conflict, signallingOf}
-use Rattle.adv7194_settings.specs.Answers.{after, faultWhere}
+use Rattle.adv7194_settings.specs.Rows.{is, conflict}
 use Rattle.adv7194_settings.proofs.Numbers.{passed}
 use Rattle.adv7194_settings.proofs.signal.checked_signal.Statement.{statement}
 use Rattle.adv7194_settings.proofs.signal.checked_signal.Tie as tie
@@ -33,11 +29,10 @@ flag c =
     (ap₂ _&&_ (passed (is 2) (g .kind) (s5 .is5 .ensures) (s5 .before .struct-told4 .given .0 .1)) (passed (is 0) (a .standard) (c .is6 .ensures) fits))
 
 returns : tie.Need-returns
-returns c = (
-  c .first .ensures
-      ∙ ap₂ after (c .before .before .noted-where .ensures ∙ ap (λ b. faultWhere b 7 11) (flag (c .before .before .before))) (c .before .coded-signal .ensures .0),
-  c .before .coded-signal .ensures .1,
-)
+returns c = rw (sym (flag (c .before)) ∙ c .if1 .taken)
+
+returns-2 : tie.Need-returns-2
+returns-2 c = rw (sym (flag (c .before .before)) ∙ c .before .if1 .left) (c .coded-signal .ensures)
 
 pub checked-signal-spec : {M : Type 1} → statement M
 checked-signal-spec =
@@ -49,7 +44,6 @@ checked-signal-spec =
     (λ c κs. search needs)
     (λ c κs. search needs)
     (λ c κs. search needs)
+    returns
     (λ c κs. search needs)
-    (λ c κs. search needs)
-    (λ c κs. search needs)
-    returns)
+    returns-2)

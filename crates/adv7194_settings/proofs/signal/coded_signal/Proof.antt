@@ -1,12 +1,12 @@
 -- `signal::coded_signal` meets its contract: the kind chooses the coding. Assumes nothing.
 use mathlib.Core.Path.{_≡_, sym, ap, _∙_}
-use mathlib.Core.Bool.{true, false}
 use borrow.Author.Needs.{needs}
 use Rattle.adv7194_signalling.specs.Cgms.{cgmsOf}
 use Rattle.adv7194_signalling.specs.Wss.{wssOf}
+use Rattle.adv7194_settings.specs.Order.{good}
 use Rattle.adv7194_settings.specs.Rows.{is}
 use Rattle.adv7194_settings.specs.Codes.{signalBy, codesIn}
-use Rattle.adv7194_settings.specs.Answers.{faultOf}
+use Rattle.adv7194_settings.specs.Answers.{after, faultOf}
 use Rattle.adv7194_settings.proofs.Numbers.{passed, passed4}
 use Rattle.adv7194_settings.proofs.ByKind.{off-is, cgms-is, wss-is, no-kind-is}
 use Rattle.adv7194_settings.proofs.signal.coded_signal.Statement.{statement}
@@ -23,9 +23,7 @@ wss-test : (c : tie.After-is3) → c .is3 .result ≡ is 2 (c .before .before .b
 wss-test c = passed (is 2) (c .before .before .before .before .before .before .before .before .args .signalling .kind) (c .is3 .ensures) (c .before .struct-told7 .given .0 .1)
 
 returns : tie.Need-returns
-returns c =
-    let e = off-is (c .before .before .before .args .signalling) (sym (off-test (c .before)) ∙ c .if1 .taken) in
-    (rw e, rw e)
+returns c = rw (off-is (c .before .before .before .args .signalling) (sym (off-test (c .before)) ∙ c .if1 .taken))
 
 returns-2 : tie.Need-returns-2
 returns-2 c =
@@ -35,7 +33,7 @@ returns-2 c =
     let told = c .before .before .struct-told6 .given in
     let e = cgms-is g (sym (off-test (s .before)) ∙ s .if1 .left) (sym (cgms-test (t .before)) ∙ t .if2 .taken) in
     let r = passed4 cgmsOf (g .number) (g .odd) (g .even) (g .«chip_check») (c .before .cgms-code .ensures) (told .1 .0 .1) (told .1 .1 .0 .1) (told .1 .1 .1 .0 .1) (told .1 .1 .1 .1 .0 .1) in
-    (c .sent .ensures .0 ∙ ap (faultOf 11) (r ∙ sym e), c .sent .ensures .1 ∙ ap (λ j. signalBy (codesIn j)) (r ∙ sym e))
+    c .sent .ensures ∙ ap (λ j. after (faultOf 11 j) (good (signalBy (codesIn j)))) (r ∙ sym e)
 
 returns-3 : tie.Need-returns-3
 returns-3 c =
@@ -45,15 +43,14 @@ returns-3 c =
     let g = s .before .before .before .args .signalling in
     let e = wss-is g (sym (off-test (s .before)) ∙ s .if1 .left) (sym (cgms-test (u .before)) ∙ u .if2 .left) (sym (wss-test (t .before)) ∙ t .if3 .taken) in
     let r = passed wssOf (g .number) (c .before .wss-code .ensures) (c .before .before .struct-told8 .given .1 .0 .1) in
-    (c .sent2 .ensures .0 ∙ ap (faultOf 11) (r ∙ sym e), c .sent2 .ensures .1 ∙ ap (λ j. signalBy (codesIn j)) (r ∙ sym e))
+    c .sent2 .ensures ∙ ap (λ j. after (faultOf 11 j) (good (signalBy (codesIn j)))) (r ∙ sym e)
 
 returns-4 : tie.Need-returns-4
 returns-4 c =
     let u = c .before .before .before in
     let s = u .before .before .before in
     let g = s .before .before .before .args .signalling in
-    let e = no-kind-is g (sym (off-test (s .before)) ∙ s .if1 .left) (sym (cgms-test (u .before)) ∙ u .if2 .left) (sym (wss-test (c .before)) ∙ c .if3 .left) in
-    (rw e, rw e)
+    rw (no-kind-is g (sym (off-test (s .before)) ∙ s .if1 .left) (sym (cgms-test (u .before)) ∙ u .if2 .left) (sym (wss-test (c .before)) ∙ c .if3 .left))
 
 pub coded-signal-spec : {M : Type 1} → statement M
 coded-signal-spec =

@@ -1,14 +1,13 @@
 -- `signal::sent` meets its contract. Assumes nothing.
-use mathlib.Core.Path.{_≡_}
 use borrow.Author.Needs.{needs}
 use Rattle.adv7194_settings.proofs.signal.sent.Statement.{statement}
 use Rattle.adv7194_settings.proofs.signal.sent.Tie as tie
 
 returns : tie.Need-returns
-returns c = (rw (c .before .coded .given .1), rw (c .before .coded .given .1))
+returns c = rw (c .before .coded .given .1)
 
 returns-2 : tie.Need-returns-2
-returns-2 c = (rw (c .before .coded2 .given .1), rw (c .before .coded2 .given .1))
+returns-2 c = rw (c .before .coded2 .given .1)
 
 pub sent-spec : {M : Type 1} → statement M
 sent-spec = tie.close (tie.spec (λ c. search needs) (λ c. search needs) returns returns-2)

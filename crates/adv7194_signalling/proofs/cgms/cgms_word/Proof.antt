@@ -1,23 +1,15 @@
 -- `cgms::cgms_word` meets its contract: the parts of the word add up to the number of its bits. Assumes nothing.
-use mathlib.Core.Path.{_≡_}
 use Prim.Native.Nat.{_<_}
 use native.Mathlib.Omega.{arith}
 use lib.Dec.{eqb}
 use borrow.Author.Needs.{needs}
-use Rattle.adv7194_signalling.proofs.CheckLaws.{check-lt}
 use Rattle.adv7194_signalling.proofs.WordLaws.{bit-value}
-use Rattle.adv7194_signalling.proofs.CgmsLaws.{checkPart, checkPart-lt, cgms-value}
+use Rattle.adv7194_signalling.proofs.CgmsLaws.{checkPart-lt, cgms-value}
 use Rattle.adv7194_signalling.proofs.cgms.cgms_word.Statement.{statement}
 use Rattle.adv7194_signalling.proofs.cgms.cgms_word.Tie as tie
 
-reversed-requires : tie.Need-reversed-requires
-reversed-requires c κs = rw (c .check-register .ensures) (check-lt (c .before .args .payload))
-
-part : (c : tie.After-reversed) → c .reversed .result ≡ checkPart (c .before .before .args .payload)
-part c = rw (c .before .check-register .ensures) at (c .reversed .ensures)
-
-small : (c : tie.After-reversed) → c .reversed .result < 64
-small c = rw (part c) (checkPart-lt (c .before .before .args .payload))
+small : (c : tie.After-check-bits) → c .check-bits .result < 64
+small c = rw (c .check-bits .ensures) (checkPart-lt (c .before .args .payload))
 
 mul-result : tie.Need-mul-result
 mul-result c = record { fits = omega (arith, small c) }
@@ -36,11 +28,11 @@ add-result-4 c = record { fits = omega (arith, small c) }
 
 returns : tie.Need-returns
 returns c =
-    let s = c .before .before in
+    let s = c .before in
     let a = s .args in
     omega (
       arith,
-      part c,
+      c .check-bits .ensures,
       cgms-value (a .payload) (eqb (a .odd) 1) (eqb (a .even) 1) (eqb (a .chip) 1) (s .pre .0),
       bit-value (a .odd) (s .pre .1),
       bit-value (a .even) (s .pre .2),
@@ -52,7 +44,6 @@ cgms-word-spec =
     tie.close
     (tie.spec
     (λ c κs. search needs)
-    reversed-requires
     mul-result
     add-result
     (λ c. search needs)

@@ -1,26 +1,24 @@
 -- `adv7194_signed::brightness::brightness_setting` meets its contract: one test for each answer, computed at its codes. Assumes nothing.
-use mathlib.Core.Path.{_≡_, subst}
-use mathlib.Core.Bool.{Bool, false, not, _||_, _&&_}
+use mathlib.Core.Path.{_≡_, ap, _∙_, subst}
+use mathlib.Core.Bool.{Bool, false, not, cond, _||_, _&&_}
+use mathlib.Core.Logic.{⊎-elim}
 use Prim.Native.Nat.{ℕ, _+_, _-_, _*_, _/_}
 use native.Mathlib.Omega.{arith}
-use lib.Dec.{T, leb, T-not}
+use lib.Dec.{T, leb, leb→le, T-not}
 use Rattle.refusals.specs.Refusal.{refused}
 use lib.IntN.{ℤ, pos, _-ℤ_}
 use mir.Syntax.{w32}
 use mir.Val.{toZ}
 use borrow.Author.Needs.{needs}
+use borrow.Author.Tests.{ltb-true, ltb-false}
 use Rattle.rounding.specs.First.{firstFrom}
-use Rattle.rounding.proofs.Range.{from-at, back, sfitsb, fits→}
+use Rattle.rounding.proofs.Range.{below, below-at, from-at, back, sfitsb, fits→, imp, imp→, imp→not}
 use Rattle.adv7194_fields.specs.Coding.{outside, codeOf, codeBy, decode}
 use Rattle.adv7194_fields.specs.Fields.{brightness}
 use Rattle.adv7194_fields.proofs.Judging.{in-range, isSetting, isSetting→}
 use Rattle.adv7194_fields.proofs.Decoding.{no-code, decode-none}
 use Rattle.adv7194_signed.proofs.brightness.brightness_setting.Statement.{statement}
 use Rattle.adv7194_signed.proofs.brightness.brightness_setting.Tie as tie
-
--- the least magnitude of a level
-abbrev least : ℕ → ℕ
-least level = (level * 10000000 + 2015630) / 2015631
 
 -- every code of a setting is up to 1E or from 71 to 7F
 abbrev used : ℕ → Bool
@@ -39,43 +37,69 @@ returns : tie.Need-returns
 returns c = unused (c .before .args .code) (from-at (λ k. not (used k)) 128 128 tt (c .before .args .code) (omega arith) (omega arith))
 
 returns-2 : tie.Need-returns-2
-unfolding decode codeBy firstFrom
 returns-2 c =
-    rw (c .least-tenths .ensures)
-    (isSetting→ _ _ (from-at (λ k. isSetting (toZ w32 (least k)) (decode brightness k)) 0 31 tt (c .before .before .before .args .code) (omega arith) (omega arith)))
+    let code = c .before .before .before .args .code in
+    unused code (from-at (λ k. not (used k)) 31 82 tt code (omega arith) (omega (arith, ltb-true)))
+
+-- what is computed at each code that a setting has
+at : (P : ℕ → Bool) → T (below P 31) → T (below (λ k. P (113 + k)) 15) → (c : tie.Joined2) → T (P (c .before .before .args .code))
+at P low high c =
+    let code = c .before .before .args .code in
+    ⊎-elim
+    (λ w. from-at P 113 15 high code (ltb-false code 113 (w .1 .left)) (omega arith))
+    (λ w. below-at P 31 low code (omega arith))
+    (c .if2 .came)
+
+-- the code's values
+abbrev negative : ℕ → Bool
+negative k = leb 113 k
+
+abbrev level : ℕ → ℕ
+level k = cond (negative k) (128 - k) k
+
+abbrev least : ℕ → ℕ
+least k = (level k * 10000000 + 2015630) / 2015631
+
+abbrev negated : ℕ → ℤ
+negated k = pos 0 -ℤ toZ w32 (least k)
+
+-- the level that either arm chose
+levelled : (c : tie.Joined4) → c .if4 .level ≡ level (c .before .before .before .args .code)
+levelled c = ⊎-elim (λ w. rw (w .0 .taken) (w .1)) (λ w. rw (w .0 .left) (w .1)) (c .if4 .came)
+
+least-tenths-requires : tie.Need-least-tenths-requires
+least-tenths-requires c κs = rw (levelled (c .before)) (leb→le _ _ (at (λ k. leb (level k) 30) tt tt (c .before .before)))
+
+-- the magnitude that was found
+found : (c : tie.After-least-tenths) → c .least-tenths .result ≡ least (c .before .before .before .before .before .args .code)
+found c = c .least-tenths .ensures ∙ ap (λ (l : ℕ). (l * 10000000 + 2015630) / 2015631) (levelled (c .before .before))
+
+sub-t22 : tie.Need-sub-t22
+sub-t22 c = rw (found (c .before)) (fits→ w32 _ (at (λ k. sfitsb w32 (negated k)) tt tt (c .before .before .before .before)))
 
 returns-3 : tie.Need-returns-3
+unfolding decode codeBy firstFrom
 returns-3 c =
-    let code = c .before .before .before .args .code in
-    unused code (from-at (λ k. not (used k)) 31 82 tt code (omega arith) (omega arith))
-
--- the setting of a code of a negative level
-abbrev negated : ℕ → ℤ
-negated k = pos 0 -ℤ toZ w32 (least (128 - k))
-
-sub-t12 : tie.Need-sub-t12
-sub-t12 c =
-    rw (c .least-tenths2 .ensures)
-    (fits→ w32 _ (from-at (λ k. sfitsb w32 (negated k)) 113 15 tt (c .before .before .before .before .args .code) (omega arith) (omega arith)))
+    rw (found (c .before))
+    (isSetting→ _ _
+    (imp→ _ _ (at (λ k. imp (negative k) (isSetting (back w32 (negated k)) (decode brightness k))) tt tt (c .before .before .before .before)) (c .if5 .taken)))
 
 returns-4 : tie.Need-returns-4
 unfolding decode codeBy firstFrom
 returns-4 c =
-    rw (c .least-tenths2 .ensures)
-    (isSetting→ _ _ (from-at (λ k. isSetting (back w32 (negated k)) (decode brightness k)) 113 15 tt (c .before .before .before .before .args .code) (omega arith) (omega arith)))
+    rw (found (c .before))
+    (isSetting→ _ _
+    (imp→not _ _ (at (λ k. imp (not (negative k)) (isSetting (toZ w32 (least k)) (decode brightness k))) tt tt (c .before .before .before .before)) (c .if5 .left)))
 
 pub brightness-setting-spec : {M : Type 1} → statement M
 brightness-setting-spec =
     tie.close
     (tie.spec
     returns
-    (λ c κs. search needs)
-    (λ c. search needs)
     returns-2
+    (λ c. search needs)
+    least-tenths-requires
+    (λ c. search needs)
+    sub-t22
     returns-3
-    (λ c. search needs)
-    (λ c. search needs)
-    (λ c κs. search needs)
-    (λ c. search needs)
-    sub-t12
     returns-4)

@@ -1,0 +1,13 @@
+-- `signal_word::choose` meets its contract. Assumes nothing.
+use mathlib.Core.Path.{_≡_}
+use Rattle.adv7194_reading.proofs.signal_word.choose.Statement.{statement}
+use Rattle.adv7194_reading.proofs.signal_word.choose.Tie as tie
+
+returns : tie.Need-returns
+returns c = rw (c .if1 .taken)
+
+returns-2 : tie.Need-returns-2
+returns-2 c = rw (c .if1 .left)
+
+pub choose-spec : {M : Type 1} → statement M
+choose-spec = tie.close (tie.spec returns returns-2)

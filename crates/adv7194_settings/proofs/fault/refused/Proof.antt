@@ -1,0 +1,14 @@
+-- `fault::refused` meets its contract. Assumes nothing.
+use mathlib.Core.Path.{_≡_}
+use borrow.Author.Needs.{needs}
+use Rattle.adv7194_settings.proofs.fault.refused.Statement.{statement}
+use Rattle.adv7194_settings.proofs.fault.refused.Tie as tie
+
+returns : tie.Need-returns
+returns c = rw (c .enum-told .given .1)
+
+returns-2 : tie.Need-returns-2
+returns-2 c = rw (c .before .coded .given .1)
+
+pub refused-spec : {M : Type 1} → statement M
+refused-spec = tie.close (tie.spec (λ c. search needs) (λ c. search needs) returns returns-2)

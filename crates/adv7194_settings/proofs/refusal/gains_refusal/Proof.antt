@@ -1,0 +1,15 @@
+-- `refusal::gains_refusal` meets its contract. Assumes nothing.
+use mathlib.Core.Path.{_≡_, sym, ap, _∙_}
+use borrow.Author.Needs.{needs}
+use Rattle.adv7194_settings.specs.Answers.{gainsAs, checkedAs, refusalOf}
+use Rattle.adv7194_settings.proofs.refusal.gains_refusal.Statement.{statement}
+use Rattle.adv7194_settings.proofs.refusal.gains_refusal.Tie as tie
+
+returns : tie.Need-returns
+returns c = c .no-fault .ensures ∙ sym (ap (λ r. refusalOf (gainsAs r)) (c .before .enum-told .given .1))
+
+returns-2 : tie.Need-returns-2
+returns-2 c = ap checkedAs (c .answer .ensures) ∙ sym (ap (λ r. refusalOf (gainsAs r)) (c .before .before .checked .given .1))
+
+pub gains-refusal-spec : {M : Type 1} → statement M
+gains-refusal-spec = tie.close (tie.spec (λ c. search needs) (λ c κs. search needs) (λ c. search needs) (λ c κs. search needs) returns returns-2)
