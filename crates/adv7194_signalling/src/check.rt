@@ -8,13 +8,20 @@ ghost use Rattle.adv7194_signalling.specs.Check.{afterBits, checkOf, tur
 // What the register starts from: six ones.
 const START: u32 = 0b111111;
 
+// The values of four, five and ten bits.
+const FOUR_BITS: u32 = 16;
+
+const FIVE_BITS: u32 = 32;
+
+const TEN_BITS: u32 = 1024;
+
 // The turned register after five payload bits, lowest first: of five bits the feedback of each depends on none of the others.
 fn after_five(check: u32, bits: u32) -> u32
     requires { ⌜ check < 64 ⌝ }
     ensures answer { λ r. ⌜ r ≡ turned (afterBits (turned check) (lsbFirst 5 bits)) ⌝ }
 {
-    let feedback = (check ^ bits) % 32;
-    (check / 32) ^ feedback ^ (feedback * 2)
+    let feedback = (check ^ bits) % FIVE_BITS;
+    (check / FIVE_BITS) ^ feedback ^ (feedback * 2)
 }
 
 // The turned register after four payload bits.
@@ -22,8 +29,8 @@ fn after_four(check: u32, bits: u32) -> u32
     requires { ⌜ check < 64 ⌝ }
     ensures answer { λ r. ⌜ r ≡ turned (afterBits (turned check) (lsbFirst 4 bits)) ⌝ }
 {
-    let feedback = (check ^ bits) % 16;
-    (check / 16) ^ (feedback * 2) ^ (feedback * 4)
+    let feedback = (check ^ bits) % FOUR_BITS;
+    (check / FOUR_BITS) ^ (feedback * 2) ^ (feedback * 4)
 }
 
 // The check bits of a payload, C14 lowest.
@@ -31,6 +38,6 @@ pub fn check_bits(payload: u32) -> u32
     ensures answer { λ r. ⌜ r ≡ turned (checkOf payload) ⌝ }
 {
     let five = after_five(START, payload);
-    let ten = after_five(five, payload / 32);
-    after_four(ten, payload / 1024)
+    let ten = after_five(five, payload / FIVE_BITS);
+    after_four(ten, payload / TEN_BITS)
 }
