@@ -13,8 +13,8 @@
  * thread at any time, as long as no memory that one call may change is lent to
  * another.
  *
- * After a refusal all lent memory is as it was, and every number answered but
- * the refusal and its field is 0.
+ * After a refusal all lent memory is as it was (what a call wrote meanwhile is
+ * put back), and every number answered but the refusal and its field is 0.
  */
 #ifndef ADV7194_H
 #define ADV7194_H
