@@ -21,7 +21,7 @@ struct Packer<'a> {
     // Full bytes written.
     full: usize,
     // The bits behind them, lowest last; higher bits are already written.
-    pending: u32,
+    pending: u64,
     // How many bits are pending.
     held: u32,
 }
@@ -30,7 +30,7 @@ impl Packer<'_> {
     /// Appends up to 16 bits.
     #[inline(always)]
     fn put(&mut self, bits: u32, width: u32) {
-        self.pending = self.pending << width | bits;
+        self.pending = self.pending << width | bits as u64;
         self.held += width;
         while self.held >= BYTE_BITS {
             self.held -= BYTE_BITS;
@@ -42,12 +42,9 @@ impl Packer<'_> {
     /// Appends data.
     #[inline(always)]
     fn put_data(&mut self, data: &[u8]) {
-        let end = self.full + data.len();
-        for (byte, &datum) in self.plan[self.full..end].iter_mut().zip(data) {
-            self.pending = self.pending << BYTE_BITS | datum as u32;
-            *byte = (self.pending >> self.held) as u8;
-        }
-        self.full = end;
+        let room = &mut self.plan[self.full..][..data.len()];
+        self.full += data.len();
+        shift(room, data, &mut self.pending, self.held);
     }
 
     /// Fills the last byte with zero bits.
@@ -56,6 +53,24 @@ impl Packer<'_> {
         if self.held > 0 {
             self.put(0, BYTE_BITS - self.held);
         }
+    }
+}
+
+/// Moves data to other bit places. `pending` ends in `held` bits that come
+/// before the data of `from`; `to`, as long as `from`, takes those bits and
+/// the data less its last `held` bits, which are then pending. Four bytes at a
+/// time, then one.
+#[inline(always)]
+pub(crate) fn shift(to: &mut [u8], from: &[u8], pending: &mut u64, held: u32) {
+    let (to_words, to_bytes) = to.as_chunks_mut();
+    let (from_words, from_bytes) = from.as_chunks();
+    for (to, from) in to_words.iter_mut().zip(from_words) {
+        *pending = *pending << u32::BITS | u32::from_be_bytes(*from) as u64;
+        *to = ((*pending >> held) as u32).to_be_bytes();
+    }
+    for (to, from) in to_bytes.iter_mut().zip(from_bytes) {
+        *pending = *pending << BYTE_BITS | *from as u64;
+        *to = (*pending >> held) as u8;
     }
 }
 

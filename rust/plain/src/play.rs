@@ -1,6 +1,6 @@
 //! Playing: what a chip holds after a packed plan.
 
-use crate::pack::{BYTE_BITS, HEAD_BITS};
+use crate::pack::{shift, BYTE_BITS, HEAD_BITS};
 use crate::refusal::{self, check_address, Refusal};
 use crate::registers::{span, BARRED_MAP, REGISTERS, WORD_MAP};
 
@@ -55,7 +55,7 @@ struct Unpacker<'a> {
     // The bytes not yet taken.
     rest: &'a [u8],
     // The bits taken out of bytes but not yet given, lowest last.
-    pending: u32,
+    pending: u64,
     // How many bits are pending.
     held: u32,
 }
@@ -67,11 +67,11 @@ impl<'a> Unpacker<'a> {
         if self.held < HEAD_BITS {
             let (&byte, rest) = self.rest.split_first()?;
             self.rest = rest;
-            self.pending = self.pending << BYTE_BITS | byte as u32;
+            self.pending = self.pending << BYTE_BITS | byte as u64;
             self.held += BYTE_BITS;
         }
         self.held -= HEAD_BITS;
-        Some(self.pending >> self.held & ((1 << HEAD_BITS) - 1))
+        Some((self.pending >> self.held) as u32 & ((1 << HEAD_BITS) - 1))
     }
 
     /// Takes a byte for each of `registers`.
@@ -79,10 +79,7 @@ impl<'a> Unpacker<'a> {
     fn data(&mut self, registers: &mut [u8]) -> Option<()> {
         let (bytes, rest) = self.rest.split_at_checked(registers.len())?;
         self.rest = rest;
-        for (register, &byte) in registers.iter_mut().zip(bytes) {
-            self.pending = self.pending << BYTE_BITS | byte as u32;
-            *register = (self.pending >> self.held) as u8;
-        }
+        shift(registers, bytes, &mut self.pending, self.held);
         Some(())
     }
 

@@ -20,24 +20,51 @@ pub const WSS_MIDDLE_BITS: u8 = 0x3F;
 
 /// The bits of a WSS number that hold an odd number of ones.
 const ODD_COUNTED: u32 = 0x0F;
-/// Check bits of CGMS.
-const CHECK_BITS: u32 = 6;
 /// Six ones.
 const CHECK_START: u32 = 0x3F;
 /// The feedback, with the first check bit lowest.
 const CHECK_FEEDBACK: u32 = 0x30;
 
-/// C0 to C19 of a payload, C0 lowest. The check is kept with C14, its top
-/// bit, lowest: so it stands turned round, and shifts to the right.
+/// Payload bits that one table is for.
+const HALF_BITS: u32 = PAYLOAD_BITS / 2;
+/// Entries of such a table.
+const HALF_CODES: usize = 1 << HALF_BITS;
+/// The check bits in their place, by C0 to C6. The check is linear but for its
+/// start, which stands in this table.
+static LOW_CHECKS: [u32; HALF_CODES] = checks(CHECK_START, 0);
+/// What C7 to C13 change in them.
+static HIGH_CHECKS: [u32; HALF_CODES] = checks(0, HALF_BITS);
+
+/// C0 to C19 of a payload, C0 lowest.
 #[inline]
 pub fn cgms_bits(payload: u32) -> u32 {
-    let mut check = CHECK_START;
-    for place in 0..PAYLOAD_BITS {
+    let low = payload as usize % HALF_CODES;
+    let high = (payload >> HALF_BITS) as usize % HALF_CODES;
+    payload | LOW_CHECKS[low] ^ HIGH_CHECKS[high]
+}
+
+/// The check bits in their place for each half of a payload, moved up by `place`.
+const fn checks(start: u32, place: u32) -> [u32; HALF_CODES] {
+    let mut table = [0; HALF_CODES];
+    let mut half = 0;
+    while half < HALF_CODES {
+        table[half] = check(start, (half as u32) << place) << PAYLOAD_BITS;
+        half += 1;
+    }
+    table
+}
+
+/// The check of a payload. It is kept with C14, its top bit, lowest, and so
+/// shifts to the right.
+const fn check(start: u32, payload: u32) -> u32 {
+    let mut check = start;
+    let mut place = 0;
+    while place < PAYLOAD_BITS {
         let feedback = (check ^ (payload >> place)) & 1;
         check = (check >> 1) ^ (feedback * CHECK_FEEDBACK);
+        place += 1;
     }
-    debug_assert!(check < 1 << CHECK_BITS);
-    payload | check << PAYLOAD_BITS
+    check
 }
 
 /// Whether W0 to W3 hold an odd number of ones.
