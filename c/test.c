@@ -1,15 +1,16 @@
 /*
  * Tests each entry point and each refusal through the C interface, with guards
- * around every lent memory. A line a check; the last one counts them.
+ * around every lent memory. Prints one line for each check; the last one counts
+ * them.
  */
 #include "adv7194.h"
 #include "lent.h"
 
 /* An even address, and another. */
-#define ADDRESS 0xD4u
-#define OTHER_ADDRESS 0xD6u
+#define ADDRESS 0x54u
+#define OTHER_ADDRESS 0x56u
 /* Above 254, but even, and right in its lowest byte. */
-#define WIDE_ADDRESS 0x1D4u
+#define WIDE_ADDRESS 0x154u
 /* What lent memory holds before. */
 #define BEFORE_BYTE 0x6B
 #define BEFORE_NUMBER 77

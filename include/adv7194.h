@@ -13,8 +13,11 @@
  * thread at any time, as long as no memory that one call may change is lent to
  * another.
  *
- * After a refusal all lent memory is as it was (what a call wrote meanwhile is
- * put back), and every number answered but the refusal and its field is 0.
+ * A refusal writes nothing: all lent memory is as it was, and every number
+ * answered but the refusal and its field is 0.
+ *
+ * A bus address is the 8-bit byte that starts a write, such as 0x54; tools that
+ * take the 7-bit address, such as i2ctransfer, call the same chip 0x2a.
  */
 #ifndef ADV7194_H
 #define ADV7194_H

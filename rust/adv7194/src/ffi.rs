@@ -1,6 +1,6 @@
 //! The archive's functions, and safe ones with the same numbers around them.
 //!
-//! All `unsafe` of this crate stands here. Each call lends slices for its own
+//! All `unsafe` of this crate is here. Each call lends slices for its own
 //! time only: shared ones are read, mutable ones overlap nothing else.
 #![allow(unsafe_code)]
 

@@ -1,7 +1,7 @@
 //! Plans, plays and reads back the settings of one ADV7194 video encoder.
 //!
 //! The work is done by a proved archive with a C interface; this crate gives it
-//! safe functions and types. All `unsafe` stands in the module [`ffi`].
+//! safe functions and types. All `unsafe` is in the module [`ffi`].
 //!
 //! An image is 54 bytes, one for each register of the chip. [`plan`] works out
 //! the least list of write transactions that brings a chip to given settings,
@@ -18,16 +18,16 @@
 //! settings.hue = 40;
 //!
 //! let mut bytes = [0u8; PLAN_ROOM];
-//! let planned = plan(&image, &settings, 0xD4, &mut bytes).unwrap();
+//! let planned = plan(&image, &settings, 0x54, &mut bytes).unwrap();
 //!
 //! // What the chip holds after the plan.
-//! let acknowledged = play(&mut image, 0xD4, 0xD4, &bytes[..planned.length]).unwrap();
+//! let acknowledged = play(&mut image, 0x54, 0x54, &bytes[..planned.length]).unwrap();
 //! assert!(acknowledged);
 //! assert_eq!(image[0x20], 0x97);
 //!
 //! // Of the settings with the same codes, reading gives those nearest zero.
 //! let found = read(&image).unwrap();
-//! let again = plan(&image, &found, 0xD4, &mut bytes).unwrap();
+//! let again = plan(&image, &found, 0x54, &mut bytes).unwrap();
 //! assert_eq!((again.length, again.transactions, again.bus_bytes), (1, 0, 0));
 //! assert_eq!(bytes[0], 0x00);
 //! ```
@@ -67,12 +67,12 @@ pub struct Planned {
 /// ```
 /// use adv7194::{plan, Reason, Settings};
 ///
-/// let refusal = plan(&[0; 53], &Settings::house(), 0xD4, &mut [0; 44]).unwrap_err();
+/// let refusal = plan(&[0; 53], &Settings::house(), 0x54, &mut [0; 44]).unwrap_err();
 /// assert_eq!((refusal.reason, refusal.field), (Reason::ImageLength, 0));
 ///
 /// let mut settings = Settings::house();
 /// settings.hue = 225;
-/// let refusal = plan(&[0; 54], &settings, 0xD4, &mut [0; 44]).unwrap_err();
+/// let refusal = plan(&[0; 54], &settings, 0x54, &mut [0; 44]).unwrap_err();
 /// assert_eq!((refusal.reason, refusal.field), (Reason::OutOfRange, 15));
 /// ```
 pub fn plan(
@@ -89,7 +89,7 @@ pub fn plan(
 /// ```
 /// use adv7194::{plan_numbers, Reason};
 ///
-/// let refusal = plan_numbers(&[0; 54], &[0; 48], 0xD4, &mut [0; 44]).unwrap_err();
+/// let refusal = plan_numbers(&[0; 54], &[0; 48], 0x54, &mut [0; 44]).unwrap_err();
 /// assert_eq!((refusal.reason, refusal.field), (Reason::OutOfRange, 0));
 /// ```
 pub fn plan_numbers(
@@ -115,14 +115,14 @@ pub fn plan_numbers(
 /// use adv7194::{play, Reason};
 ///
 /// let mut image = [0; 54];
-/// assert_eq!(play(&mut image, 0xD4, 0xD4, &[0x06, 0x00, 0x65, 0xC0]), Ok(true));
+/// assert_eq!(play(&mut image, 0x54, 0x54, &[0x06, 0x00, 0x65, 0xC0]), Ok(true));
 /// assert_eq!(image[0x20], 0x97);
 ///
 /// // Another chip's address: nothing is stored.
-/// assert_eq!(play(&mut image, 0xD6, 0xD4, &[0x06, 0x00, 0x41, 0x00]), Ok(false));
+/// assert_eq!(play(&mut image, 0x56, 0x54, &[0x06, 0x00, 0x41, 0x00]), Ok(false));
 /// assert_eq!(image[0x20], 0x97);
 ///
-/// let refusal = play(&mut image, 0xD4, 0xD4, &[0x06, 0x00]).unwrap_err();
+/// let refusal = play(&mut image, 0x54, 0x54, &[0x06, 0x00]).unwrap_err();
 /// assert_eq!(refusal.reason, Reason::PlanBytes);
 /// ```
 pub fn play(image: &mut [u8], used: u32, own: u32, plan: &[u8]) -> Result<bool, Refusal> {

@@ -8,7 +8,7 @@ pub const NUMBERS: usize = 49;
 /// Settings as numbers, in field order.
 pub type Numbers = [i32; NUMBERS];
 
-/// Which number stands where.
+/// The index of each number.
 #[allow(missing_docs)]
 pub mod index {
     pub const STANDARD: usize = 0;
@@ -104,7 +104,7 @@ impl Settings {
         n
     }
 
-    /// The settings that the numbers stand for, or nothing where a number has
+    /// The settings that the numbers encode, or nothing where a number has
     /// no typed form: a yes or no, a standard, a level or a kind that isn't
     /// one, or a byte that doesn't fit. Numbers that a kind doesn't use are
     /// ignored. Ranges aren't judged here.

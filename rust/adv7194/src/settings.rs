@@ -54,7 +54,7 @@ pub enum Curve {
         /// Below the line.
         q: i32,
     },
-    /// Seven bytes as they stand.
+    /// Seven bytes as given.
     Bytes([u8; CURVE_BYTES]),
 }
 

@@ -6,7 +6,7 @@ use adv7194::{
 };
 
 /// An even address.
-const ADDRESS: u32 = 0xD4;
+const ADDRESS: u32 = 0x54;
 
 /// PAL with WSS and curves of both kinds; every setting nearest zero.
 fn pal() -> Settings {

@@ -12,9 +12,9 @@ use blocks::Block;
 use compare::random::Random;
 use std::process::ExitCode;
 
-/// Rounds unless told otherwise.
+/// Rounds without `--rounds`.
 const ROUNDS: u64 = 101;
-/// The seed unless told otherwise.
+/// The seed without `--seed`.
 const SEED: u64 = 1;
 /// Different blocks, taken in turn.
 const BLOCKS: usize = 4;

@@ -11,13 +11,13 @@ pub type Numbers = [i32; SETTINGS];
 pub type Image = [u8; REGISTERS];
 
 /// An even address.
-pub const ADDRESS: u32 = 0xD4;
+pub const ADDRESS: u32 = 0x54;
 /// More than any packed plan is long.
 pub const ROOM: usize = 64;
 /// What a lent plan holds before.
 pub const BEFORE: u8 = 0x6B;
 
-/// The numbers that stand in one range whatever the others are, with it.
+/// The numbers whose range doesn't depend on the others, with that range.
 const RANGES: [(usize, i32, i32); 18] = [
     (at::Y_LEVEL, 0, 1),
     (at::UV_LEVEL, 0, 2),

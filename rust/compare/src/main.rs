@@ -9,9 +9,9 @@ use compare::seeded::Seeded;
 use compare::{systematic, windows};
 use std::process::ExitCode;
 
-/// Cases unless told otherwise.
+/// Cases without `--cases`.
 const CASES: u64 = 1_000_000;
-/// The seed unless told otherwise.
+/// The seed without `--seed`.
 const SEED: u64 = 1;
 
 /// The number after `name`, or another.

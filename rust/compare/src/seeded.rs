@@ -55,7 +55,7 @@ impl Seeded {
             return 2 * self.random.below(128) as u32;
         }
         let wide = self.random.bits() as u32;
-        self.random.one_of(&[1, 255, 256, 0x1D4, wide, wide & !1])
+        self.random.one_of(&[1, 255, 256, 0x154, wide, wide & !1])
     }
 
     /// A length, seldom another than the right one.

@@ -203,7 +203,7 @@ fn check_dnr(s: &Numbers) -> Result<(), Refusal> {
     )
 }
 
-/// Checks a gamma curve whose kind stands at `kind`.
+/// Checks a gamma curve whose kind is at index `kind`.
 #[inline(always)]
 fn check_curve(s: &Numbers, kind: usize, field: u32) -> Result<(), Refusal> {
     match s[kind] {

@@ -1,4 +1,4 @@
-//! Settings as 49 numbers: which number stands where, and each field's number.
+//! Settings as 49 numbers: the index of each, and each field's number.
 
 /// How many numbers make the settings.
 pub const SETTINGS: usize = 49;

@@ -1,4 +1,4 @@
-//! Where things stand in the chip.
+//! The chip's registers, and the bits of each field in them.
 
 /// Registers of the chip, and bytes of an image.
 pub const REGISTERS: usize = 54;
@@ -24,13 +24,13 @@ pub const SQUARE_BIT: u8 = 0x10;
 pub const MODE_5: usize = 0x05;
 /// The bit of the Y level.
 pub const Y_LEVEL_BIT: u8 = 0x01;
-/// How far up the UV level stands.
+/// The lowest bit of the UV level.
 pub const UV_LEVEL_SHIFT: u32 = 1;
 /// The bits of the UV level, or of the clamp delay's magnitude, moved down.
 pub const TWO_BITS: u8 = 0x03;
 /// The bit of RGB sync.
 pub const RGB_SYNC_BIT: u8 = 0x08;
-/// How far up the clamp delay's magnitude stands.
+/// The lowest bit of the clamp delay's magnitude.
 pub const CLAMP_SHIFT: u32 = 4;
 /// The bit of a negative clamp delay.
 pub const CLAMP_NEGATIVE_BIT: u8 = 0x40;
@@ -71,7 +71,7 @@ pub const BRIGHTNESS_BITS: u8 = 0x7F;
 pub const SHARPNESS: usize = 0x22;
 /// The lower four bits of a register.
 pub const LOW_BITS: u8 = 0x0F;
-/// How far up the upper four bits stand.
+/// The lowest of the upper four bits.
 pub const HIGH_SHIFT: u32 = 4;
 
 /// DNR border gain below, data gain above.

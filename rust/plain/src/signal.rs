@@ -30,7 +30,7 @@ const HALF_BITS: u32 = PAYLOAD_BITS / 2;
 /// Entries of such a table.
 const HALF_CODES: usize = 1 << HALF_BITS;
 /// The check bits in their place, by C0 to C6. The check is linear but for its
-/// start, which stands in this table.
+/// start, which this table has.
 static LOW_CHECKS: [u32; HALF_CODES] = checks(CHECK_START, 0);
 /// What C7 to C13 change in them.
 static HIGH_CHECKS: [u32; HALF_CODES] = checks(0, HALF_BITS);

@@ -93,7 +93,7 @@ fn place_dnr(new: &mut [u8; REGISTERS], s: &[i32; SETTINGS]) {
         | (s[at::BLOCK_OFFSET] as u8) << reg::HIGH_SHIFT;
 }
 
-/// The seven bytes of the curve whose kind stands at `kind`.
+/// The seven bytes of the curve whose kind is at index `kind`.
 #[inline(always)]
 fn curve(s: &[i32; SETTINGS], kind: usize) -> [u8; CURVE_BYTES] {
     if s[kind] == at::RATIO {

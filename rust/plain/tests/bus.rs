@@ -5,7 +5,7 @@ use plain::search::{every_cover, every_list, least, spans, Cost};
 use plain::{least as planner, play};
 
 /// The chip's own address.
-const OWN: u32 = 0xD4;
+const OWN: u32 = 0x54;
 
 /// What the chip waits for.
 enum State {

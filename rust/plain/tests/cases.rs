@@ -6,7 +6,7 @@ use plain::registers as reg;
 use plain::{check, codes, gamma, plan, play, read, refusal, signal, subcarrier};
 
 /// An even address.
-const ADDRESS: u32 = 0xD4;
+const ADDRESS: u32 = 0x54;
 /// Room for any packed plan.
 const ROOM: usize = 64;
 
