@@ -3,17 +3,18 @@ use mathlib.Core.Path.{_≡_, refl, subst⁻¹}
 use mathlib.Core.Logic.{_⊎_, inl, inr, ⊎-elim, _↔_}
 use mathlib.Core.Bool.{Bool, true, false, _&&_, _||_}
 use mathlib.Core.List.{List, [], _∷_}
-use Prim.Native.Nat.{ℕ, _+_, _-_, _≤_, _<_}
+use Prim.Native.Nat.{ℕ, _-_, _≤_, _<_}
 use native.Mathlib.Omega.{arith}
 use lib.Dec.{T, leb, ltb, eqb, leb→le, le→leb, ltb→lt, lt→ltb, eqb→eq}
 use borrow.Author.Tests.{leb-true, leb-false, ltb-false, eqb-false}
 use Rattle.bits.proofs.FlagLaws.{both, first, second, either, left, right}
-use Rattle.bus.specs.Transactions.{Transaction, size, end, Touches, Every}
+use Rattle.bus.specs.Transactions.{Transaction, size, end, Every}
+use Rattle.adv7194_bus.specs.Kind.{registerCount}
 use Rattle.adv7194_bus.specs.Rules.{Rules, apart, ruled, keepsRules, allKeepRules}
 
 -- ---- one transaction
 
--- what stands apart: the end is at the first of them or before, or the start past the last
+-- data that are for none of the registers a to z end at a or before, or start past z
 apart-of : (s e a z : ℕ) → T (apart s e a z) → (e ≤ a) ⊎ (z < s)
 apart-of s e a z h = go (either (leb e a) (ltb z s) h)
   where
@@ -29,7 +30,7 @@ record Meets (s e a z : ℕ) : Type 0 where
   low : a ≤ at
   high : at ≤ z
 
--- either they stand apart or they meet
+-- either they are for none of them or for one
 apart? : (s e a z : ℕ) → s < e → a ≤ z → T (apart s e a z) ⊎ Meets s e a z
 apart? s e a z h k = ends (leb e a) refl (ltb z s) refl (leb a s) refl
   where
@@ -48,7 +49,7 @@ module _ (t : Transaction) where
 
   -- the test's parts
   abbrev all : Bool
-  all = leb (end t) 0x36
+  all = leb (end t) registerCount
 
   abbrev read-only : Bool
   read-only = apart s (end t) 0x34 0x34
@@ -73,7 +74,7 @@ module _ (t : Transaction) where
   rules-of h =
       let h₁ = second all (read-only && (caption && word)) h in
       let h₂ = second read-only (caption && word) h₁ in
-      let inside : end t ≤ 0x36 = leb→le (end t) 0x36 (first all (read-only && (caption && word)) h) in
+      let inside : end t ≤ registerCount = leb→le (end t) registerCount (first all (read-only && (caption && word)) h) in
       let keeps = apart-of s (end t) 0x34 0x34 (first read-only (caption && word) h₁) in
       let quiet = apart-of s (end t) 0x11 0x14 (first caption word h₂) in
       record {
@@ -85,7 +86,7 @@ module _ (t : Transaction) where
   -- data that keep the rules pass the test
   of-rules : s < end t → Rules t → T (ruled s (end t))
   of-rules some k =
-      both all (read-only && (caption && word)) (le→leb (end t) 0x36 (omega (arith, k .inside (end t - 1) (omega arith, omega arith) .0)))
+      both all (read-only && (caption && word)) (le→leb (end t) registerCount (omega (arith, k .inside (end t - 1) (omega arith, omega arith) .0)))
       (both read-only (caption && word) (⊎-elim (λ p. p) (λ m. absurd (k .inside (m .at) (m .from, m .before) .1 (omega (arith, m .low, m .high)))) (apart? s (end t) 0x34 0x34 some (omega arith)))
       (both caption word (⊎-elim (λ p. p) (λ m. absurd (k .captions (m .at) (m .from, m .before) (m .low, m .high))) (apart? s (end t) 0x11 0x14 some (omega arith)))
       (⊎-elim (λ p. left (apart s (end t) 0x0c 0x0f) (leb s 0x0c && ltb 0x0f (end t)) p)

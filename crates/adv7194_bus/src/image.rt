@@ -8,13 +8,9 @@ pub fn copied(image: &[u8]) -> [u8; 54]
     requires { ⌜ length (now image) ≡ registerCount ⌝ }
     ensures answer { λ r. ⌜ r ≡ now (image .entry) ⌝ }
 {
-    let mut copy = [0u8; 54];
-    let mut i = 0;
-    while i < image.len() {
-        copy[i] = image[i];
-        i += 1;
-    }
-    copy
+    let mut registers = [0u8; 54];
+    bytes::copy(image, &mut registers);
+    registers
 }
 
 // Puts saved bytes back into an image.
@@ -22,9 +18,5 @@ pub fn restore(image: &mut [u8], saved: &[u8])
     requires { ⌜ length (now image) ≡ length (now saved) ⌝ }
     ensures memory { λ r. ⌜ now (image .exit) ≡ now (saved .entry) ⌝ }
 {
-    let mut i = 0;
-    while i < saved.len() {
-        image[i] = saved[i];
-        i += 1;
-    }
+    bytes::copy(saved, image);
 }

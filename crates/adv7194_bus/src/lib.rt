@@ -1,9 +1,14 @@
-// The ADV7194 as a chip on the bus: how many registers it has, which of them drop a byte, and the three rules for what is written to them.
+// The ADV7194 as a chip on the bus: how many registers it has, which of them drop a byte, one event at it, and the three rules for what is written to it.
 ghost use mathlib.Core.Path.{_≡_};
 ghost use Prim.Native.Nat.{_+_, _-_, _*_, _^_, _≤_};
 ghost use Rattle.adv7194_bus.specs.Address.{addressRight};
 ghost use Rattle.adv7194_bus.specs.Kind.{registerCount};
 ghost use Rattle.adv7194_bus.specs.Rules.{keepsRules};
+ghost use Rattle.adv7194_bus.specs.Step.{stepBy};
+ghost use Rattle.bus.specs.Lent.{steppedOf};
+use bus::chip::Event;
+use bus::chip::State;
+use bus::chip::Stepped;
 
 pub mod image;
 
@@ -21,6 +26,14 @@ pub const WORD: u64 = 0xF000;
 
 // The highest bus address that a chip writes at.
 const HIGHEST_ADDRESS: u32 = 254;
+
+// One event at an ADV7194 of this address: its state, and its registers, which are lent.
+pub fn step(state: State, event: Event, own: u8, registers: &mut [u8; 54]) -> Stepped
+    ensures answer { λ r. ⌜ r ≡ steppedOf (stepBy own state (now (registers .entry)) event) ⌝ }
+    ensures memory { λ r. ⌜ now (registers .exit) ≡ stepBy own state (now (registers .entry)) event .chip .registers ⌝ }
+{
+    bus::chip::step(state, event, own, DROPPED, registers)
+}
 
 // Whether a number is a bus address that a chip can have: even and at most 254.
 pub fn address_right(address: u32) -> bool

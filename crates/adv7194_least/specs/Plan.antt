@@ -6,6 +6,7 @@ use Prim.Native.Nat.{ℕ}
 use lib.Dec.{leb, ltb, eqb}
 use lib.ListN.{getD}
 use Rattle.bus.specs.Transactions.{Transaction}
+pub use Rattle.bus.specs.Registers.{differs}
 use Rattle.adv7194_bus.specs.Kind.{registerCount, readOnly}
 use Rattle.least_cost.specs.Task.{Task}
 use Rattle.least_cost.specs.Plan.{greedyPlan}
@@ -17,10 +18,6 @@ among first last r = leb first r && leb r last
 -- a byte may be written to register r: the chip has it, it isn't the read-only one, and it isn't a caption register
 abbrev pub writable : ℕ → Bool
 writable r = ltb r registerCount && (not (eqb r readOnly) && not (among 0x11 0x14 r))
-
--- the two images differ in register r
-abbrev pub differs : List ℕ → List ℕ → ℕ → Bool
-differs image wanted r = not (eqb (getD image r 0) (getD wanted r 0))
 
 -- register r is one of the subcarrier word's
 abbrev pub inWord : ℕ → Bool

@@ -5,10 +5,11 @@ use mathlib.Core.Bool.{Bool, true, false, cond, not, _&&_, _||_, or-true, or-fal
 use Prim.Native.Nat.{ℕ, _^_, _≤_, _<_}
 use native.Mathlib.Omega.{arith}
 use lib.Bits.{bitAnd, bitOr, and-le-l}
+use lib.Count.{trailingZeros}
 use lib.Dec.{T, ltb, lit<}
 use borrow.Author.Tests.{ltb-true, ltb-false}
 use Rattle.rounding.proofs.Range.{below, below-at}
-use Rattle.bits.specs.Maps.{has, mapBits, clearRun}
+use Rattle.bits.specs.Maps.{has}
 use Rattle.bits.proofs.MapLaws.{least}
 use Rattle.bits.proofs.SetLaws.{has-and, has-or}
 use Rattle.planning.proofs.ShiftLaws.{has-past}
@@ -76,7 +77,7 @@ module _ (d : ℕ) where
       word : wordIn (has d) ≡ true
       word =
           let m = bitAnd d wordMap in
-          let r = clearRun (mapBits m) in
+          let r = trailingZeros 64 m in
           let l = least 64 m (omega arith) (omega (arith, and-le-l d wordMap)) in
           let q = both-true (has d r) (inWord r) (sym (in-both r) ∙ rw (l .isset)) in
           let a = among-true 0x0c 0x0f r (q .1) in

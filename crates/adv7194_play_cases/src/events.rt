@@ -1,15 +1,17 @@
 // Sequences of bus events against the chip: a letter for each event, the byte, and + acknowledged, - not acknowledged, . not asked.
 use crate::print;
+use adv7194_bus::image::copied;
 use bus::chip;
 use bus::chip::Acknowledge;
 use bus::chip::Event;
 use bus::chip::Phase;
 use bus::chip::State;
 
-// The chip's own address, and the map of the registers that drop a byte: 34 alone.
+// The chip's own address.
 const OWN: u8 = 84;
 
-const DROPPED: u64 = 0x10_0000_0000_0000;
+// How many registers the chip has.
+const REGISTERS: usize = adv7194_bus::REGISTERS as usize;
 
 // Kinds of events in a list; any other is a read without acknowledge.
 const START: u8 = 0;
@@ -20,7 +22,7 @@ const WRITE: u8 = 2;
 
 const READ: u8 = 3;
 
-// The event that a kind and a byte stand for.
+// The event of a kind and a byte.
 fn event(kind: u8, byte: u8) -> Event {
     if kind == START {
         return Event::Start;
@@ -79,8 +81,8 @@ fn phase(left: Phase) {
 }
 
 // One event of a list at the chip: it is shown, and the state after it is answered.
-fn one(state: State, kind: u8, byte: u8, registers: &mut [u8]) -> State {
-    let stepped = chip::step(state, event(kind, byte), OWN, DROPPED, registers);
+fn one(state: State, kind: u8, byte: u8, registers: &mut [u8; 54]) -> State {
+    let stepped = adv7194_bus::step(state, event(kind, byte), OWN, registers);
     let answer = stepped.acknowledge;
     show(kind, byte, stepped.byte, answer);
     let next = stepped.state;
@@ -88,7 +90,7 @@ fn one(state: State, kind: u8, byte: u8, registers: &mut [u8]) -> State {
 }
 
 // The events of a list, which has a kind and a byte for each, at a fresh chip: its state after them.
-fn all(list: &[u8], registers: &mut [u8]) -> State {
+fn all(list: &[u8], registers: &mut [u8; 54]) -> State {
     let mut state = chip::fresh();
     let mut i = 0;
     while 2 <= list.len() - i {
@@ -99,7 +101,7 @@ fn all(list: &[u8], registers: &mut [u8]) -> State {
 }
 
 // The events of a list at a chip with these registers: the pointer and the phase after them, and the registers that changed.
-fn run(list: &[u8], registers: &mut [u8]) {
+fn run(list: &[u8], registers: &mut [u8; 54]) {
     let state = all(list, registers);
     print::text(b" pointer");
     print::byte((state.pointer % 256) as u8);
@@ -111,8 +113,9 @@ fn run(list: &[u8], registers: &mut [u8]) {
 // A line with the events of a list and what they leave.
 fn events(list: &[u8]) {
     print::text(b"events");
-    let mut image = print::NUMBERED;
-    run(list, &mut image[0..54]);
+    let numbered = print::NUMBERED;
+    let mut registers = copied(&numbered[0..REGISTERS]);
+    run(list, &mut registers);
     print::text(b"\n");
 }
 

@@ -70,7 +70,7 @@ pub(crate) const NUMBERED: [u8; 64] = [
     63,
 ];
 
-// Text as it stands.
+// Text.
 pub(crate) fn text(words: &[u8]) {
     io::write_all(STDOUT_FILENO, words);
 }

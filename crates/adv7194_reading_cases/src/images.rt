@@ -2,12 +2,13 @@
 ghost use mathlib.Core.Path.{_≡_};
 ghost use Prim.Native.Nat.{_<_};
 ghost use lib.ListN.{length};
+ghost use Rattle.adv7194_bus.specs.Kind.{registerCount};
 use crate::print;
 use adv7194_reading::Read;
 use adv7194_reading::reading;
 
 // How many registers an image has.
-const REGISTERS: usize = 54;
+const REGISTERS: usize = adv7194_bus::REGISTERS as usize;
 
 // The largest byte.
 const LAST_BYTE: u8 = 0xFF;
@@ -63,7 +64,7 @@ fn ranges(name: &[u8], image: &mut [u8], register: usize)
 
 // Every register in turn.
 fn all(name: &[u8], image: &mut [u8])
-    requires { ⌜ length (now image) ≡ 54 ⌝ }
+    requires { ⌜ length (now image) ≡ registerCount ⌝ }
 {
     let mut register = 0;
     while register < REGISTERS {
@@ -103,7 +104,7 @@ fn held(name: &[u8], image: &[u8]) {
 
 // The cases of an image, which is put into lent memory.
 fn run(name: &[u8], image: &mut [u8], bytes: &[u8])
-    requires { ⌜ length (now image) ≡ 54 ⌝ }
+    requires { ⌜ length (now image) ≡ registerCount ⌝ }
 {
     text::append(image, 0, bytes);
     all(name, image);

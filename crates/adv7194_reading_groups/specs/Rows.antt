@@ -9,6 +9,7 @@ use Rattle.refusals.specs.Refusal.{Judged, accepted, refused}
 use Rattle.adv7194_signalling.specs.Kind.{kindOf}
 use Rattle.adv7194_settings.specs.Rows.{is, signallingOf, squareWithOversampling, pedestalWithPal, conflict}
 use Rattle.adv7194_settings.specs.Codes.{codesIn, wordAt}
+use Rattle.adv7194_bus.specs.Kind.{registerCount}
 use Rattle.adv7194_image.specs.Wanted.{wordBytes}
 use Rattle.adv7194_reading_groups.specs.Held.{byteAt, readingAt, signalBytes, signallingHeld, settingsHeld}
 
@@ -26,7 +27,7 @@ sameBytes (a ∷ as′) (b ∷ bs) = eqb a b && sameBytes as′ bs
 
 -- how many registers an image has
 abbrev pub registers : ℕ
-registers = 54
+registers = registerCount
 
 -- row 4: a must-be-zero bit is set: bit 7 of 21 counts to field 16, bits 7-4 of 22 to field 17
 abbrev pub zeroBitSet : List ℕ → ℕ → Bool

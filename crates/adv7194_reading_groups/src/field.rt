@@ -16,7 +16,7 @@ use adv7194_fields::Decoded;
 use adv7194_fields::plain::Plain;
 
 // The registers of an image.
-pub const REGISTERS: usize = 54;
+pub const REGISTERS: usize = adv7194_bus::REGISTERS as usize;
 
 // The settings that rows name.
 pub const YES: u8 = 1;

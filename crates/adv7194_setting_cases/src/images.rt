@@ -5,7 +5,7 @@ use crate::print;
 use adv7194_settings::Checked;
 
 // How many registers an image has.
-const REGISTERS: usize = 54;
+const REGISTERS: usize = adv7194_bus::REGISTERS as usize;
 
 // The bytes of an image.
 fn registers(image: &[u8; 54]) {

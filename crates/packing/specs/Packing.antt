@@ -2,7 +2,7 @@
 -- 6 bits of data count (never 0), then the data. Zero bits fill the last byte. Starts ascend, and no transaction overlaps another.
 use mathlib.Core.Bool.{Bool, true, _&&_}
 use mathlib.Core.List.{List, [], _∷_, _++_}
-use Prim.Native.Nat.{ℕ}
+use Prim.Native.Nat.{ℕ, _+_, _*_, _/_}
 use lib.Dec.{leb, ltb}
 use lib.ListN.{length}
 use lib.Pow.{areBytes}
@@ -25,6 +25,11 @@ packedBits ts = msbFirst 6 (length ts) ++ listBits ts
 -- the packed plan
 unfoldable pub packed : List Transaction → List ℕ
 packed ts = bytesOf (packedBits ts)
+
+-- the bytes of a packed plan with that many transactions and that many data bytes in all: 6 bits, 12 for each transaction and 8 for each data byte,
+-- in whole bytes (theorem `packed-length` of proofs/PackedLaws.antt: every such plan has these)
+abbrev pub packedLength : ℕ → ℕ → ℕ
+packedLength transactions bytes = (6 + 12 * transactions + 8 * bytes + 7) / 8
 
 -- the packing can hold the transaction: a 6-bit subaddress, a 6-bit data count that is not 0, and bytes for data
 abbrev pub encodable : Transaction → Bool

@@ -4,16 +4,17 @@ use mathlib.Core.Bool.{Bool, true, false, _&&_, _||_, false≢true}
 use mathlib.Core.List.{List, _++_}
 use Prim.Native.Nat.{ℕ, zero, suc, _^_, _≤_, _<_}
 use native.Mathlib.Nat.{le-trans}
+use lib.Count.{ones}
 use lib.ListN.{length, getD, drop}
 use borrow.Author.Tests.{le-leb, lt-leb}
-use Rattle.bits.specs.Maps.{has, mapBits, setCount}
+use Rattle.bits.specs.Maps.{has}
 use Rattle.refusals.specs.Refusal.{Judged, accepted, refused}
 use Rattle.bus.specs.Transactions.{Transaction, busBytes}
 use Rattle.bus.specs.Cost.{dataCount}
 use Rattle.packing.specs.Packing.{packed}
 use Rattle.least_cost.specs.Plan.{joins}
 use Rattle.planning.specs.Registers.{covers, begins}
-use Rattle.planning.specs.Plan.{mostRegisters, Plannable, Counts, planBy, packingOf, planAfter}
+use Rattle.planning.specs.Plan.{largestCount, Plannable, Counts, planBy, packingOf, planAfter}
 use Rattle.planning.proofs.RunLaws.{plan-covered}
 use Rattle.planning.proofs.CountLaws.{runs-counted, count-le, none-begins}
 use Rattle.planning.proofs.RoundLaws.{none}
@@ -44,10 +45,10 @@ covers-ok need ok w (suc i) e = go (need (suc i)) refl (joins need ok (suc i)) r
 pub record Mapped (needed allowed : ℕ) (wanted : List ℕ) (taken starts : ℕ) : Type 0 where
   pub plannable : Plannable taken taken wanted
   pub plan : planBy taken taken wanted ≡ planBy needed allowed wanted
-  pub transactions : length (planBy taken taken wanted) ≡ setCount (mapBits starts)
-  pub bytes : dataCount (planBy taken taken wanted) ≡ setCount (mapBits taken)
-  pub few : setCount (mapBits starts) ≤ mostRegisters
-  pub short : setCount (mapBits taken) ≤ mostRegisters
+  pub transactions : length (planBy taken taken wanted) ≡ ones starts
+  pub bytes : dataCount (planBy taken taken wanted) ≡ ones taken
+  pub few : ones starts ≤ largestCount
+  pub short : ones taken ≤ largestCount
 
 -- it knows that of every two maps that can be planned for
 pub mapped : (needed allowed : ℕ) (wanted : List ℕ) (taken starts : ℕ) → Plannable needed allowed wanted → taken < 2 ^ 64 → starts < 2 ^ 64

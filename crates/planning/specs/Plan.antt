@@ -15,15 +15,15 @@ use Rattle.least_cost.specs.Plan.{greedyPlan}
 use Rattle.planning.specs.declared.plan.Packed.{Packed}
 use Rattle.planning.specs.declared.plan.Packed.the-variants.{Done, TooShort}
 
--- the most registers that a plan can be for: the most data that a 6-bit count can hold
-abbrev pub mostRegisters : ℕ
-mostRegisters = 63
+-- the largest number that a 6-bit count of a packed plan can hold
+abbrev pub largestCount : ℕ
+largestCount = 63
 
--- the needed registers may be written, each that may be written has a wanted byte, and there are no more than a plan can be for
+-- the needed registers may be written, each that may be written has a wanted byte, and there are no more than a data count can hold
 pub record Plannable (needed allowed : ℕ) (wanted : List ℕ) : Type 0 where
   pub writable : (i : ℕ) → has needed i ≡ true → has allowed i ≡ true
   pub inside : (i : ℕ) → has allowed i ≡ true → i < length wanted
-  pub small : length wanted ≤ mostRegisters
+  pub small : length wanted ≤ largestCount
 
 -- the task of two maps: to write the needed registers, with no register written that is not allowed
 abbrev pub mapTask : ℕ → ℕ → ℕ → Task
@@ -33,11 +33,11 @@ mapTask count needed allowed = record { count = count; need = has needed; takes 
 abbrev pub planBy : ℕ → ℕ → List ℕ → List Transaction
 planBy needed allowed wanted = greedyPlan (mapTask (length wanted) needed allowed) (has allowed) (λ r. getD wanted r 0)
 
--- the runs of a map can be packed: there are as many as are told, which a 6-bit count can hold, and the lent plan has room for them
+-- the runs of a map can be packed: `transactions` is how many there are, a 6-bit count can hold it, and the lent plan has room for them
 pub record Packable (map transactions : ℕ) (wanted plan : List ℕ) : Type 0 where
   pub plannable : Plannable map map wanted
-  pub told : transactions ≡ length (planBy map map wanted)
-  pub few : transactions ≤ mostRegisters
+  pub counted : transactions ≡ length (planBy map map wanted)
+  pub few : transactions ≤ largestCount
   pub fits : length (packed (planBy map map wanted)) ≤ length plan
 
 -- the numbers of a packed list: its bytes, its transactions, and its bus bytes

@@ -1,9 +1,7 @@
 ghost use mathlib.Core.Path.{_≡_};
-ghost use mathlib.Core.List.{List, _++_};
+ghost use mathlib.Core.List.{_++_};
 ghost use lib.ListN.{length, drop};
-ghost use Rattle.bus.specs.Transactions.{Transaction};
-ghost use Rattle.bus.specs.Cost.{dataCount};
-ghost use Rattle.packing.specs.Packing.{packed};
+ghost use Rattle.packing.specs.Packing.{packed, packedLength};
 ghost use Rattle.planning.specs.Plan.{Plannable, Packable, planBy, answerOf, packingOf, planAfter};
 use crate::maps;
 use packing::BYTE_BITS;
@@ -25,9 +23,9 @@ pub enum Packed {
     TooShort,
 }
 
-// The bytes of every packed list with that many transactions and that many data bytes in all.
+// The bytes of a packed plan with that many transactions and that many data bytes in all.
 fn packed_length(transactions: u32, data_bytes: u32) -> u64
-    ensures answer { λ r. ⌜ ((ts : List Transaction) → length ts ≡ transactions → dataCount ts ≡ «data_bytes» → r ≡ length (packed ts)) ⌝ }
+    ensures answer { λ r. ⌜ r ≡ packedLength transactions «data_bytes» ⌝ }
 {
     let bits = FIELD_BITS + HEADER_BITS * transactions as u64 + BYTE_BITS * data_bytes as u64;
     (bits + MOST_FILL) / BYTE_BITS

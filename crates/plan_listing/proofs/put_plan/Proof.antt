@@ -6,7 +6,8 @@ use native.Mathlib.Omega.{arith}
 use lib.ListN.{length}
 use borrow.Author.Needs.{needs}
 use Rattle.bus.specs.Transactions.{Transaction, busBytes}
-use Rattle.bus.specs.Cost.{dataCount}
+use Rattle.bus.specs.Cost.{dataCount, costOf}
+use Rattle.bus.proofs.CostLaws.{bytes-count}
 use Rattle.unpacking.specs.Ahead.{listed}
 use Rattle.unpacking.specs.Unpacking.{unpack}
 use Rattle.text.specs.Line.{appended}
@@ -30,7 +31,9 @@ data-of c = c .before .before .data-bytes .ensures .0
 
 first-line : (c : tie.After-plan-line-length)
     → planLine (start c .args .transactions) (c .before .bus-bytes .result) ≡ planLine (length (ts-of c)) (busBytes (ts-of c))
-first-line c = ap₂ planLine (sym (start c .pre .1)) (c .before .bus-bytes .ensures (ts-of c) (start c .pre .1) (sym (data-of c)))
+first-line c =
+    let count = sym (start c .pre .1) in
+    ap₂ planLine count (c .before .bus-bytes .ensures ∙ ap₂ costOf count (data-of c) ∙ sym (bytes-count (ts-of c)))
 
 -- the first line's length
 first-length : (c : tie.After-plan-line-length) → c .plan-line-length .result ≡ length (planLine (length (ts-of c)) (busBytes (ts-of c)))

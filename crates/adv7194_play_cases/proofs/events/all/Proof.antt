@@ -1,5 +1,4 @@
 -- `adv7194_play_cases::events::all` is safe and ends: the place stays within the list. Assumes nothing.
-use mathlib.Core.Path.{_≡_}
 use Prim.Native.Nat.{_≤_, _-_}
 use native.Mathlib.Omega.{arith}
 use borrow.Author.Needs.{needs}
@@ -8,7 +7,7 @@ use Rattle.adv7194_play_cases.proofs.events.all.Statement.{statement}
 use Rattle.adv7194_play_cases.proofs.events.all.Tie as tie
 
 abbrev Inv-loop : tie.InvT-loop
-Inv-loop list registers₀ state₀ i₀ registers state i = (i ≤ length list) × (length registers ≡ length registers₀)
+Inv-loop list registers₀ state₀ i₀ registers state i = i ≤ length list
 
 abbrev μ-loop : tie.MeasureT-loop
 μ-loop list registers₀ state₀ i₀ registers state i = length list - i
@@ -29,5 +28,4 @@ all-spec =
     (λ c. omega arith)
     (λ c. omega arith)
     (λ c. omega arith)
-    (λ c. omega arith)
-    (λ c. search needs))
+    (λ c. omega arith))

@@ -1,14 +1,14 @@
 -- `pack` meets its contract: the runs of the registers covered are the plan, and their counts tell its room. Assumes nothing.
-use mathlib.Core.Path.{_≡_, sym, _∙_}
+use mathlib.Core.Path.{_≡_, sym, ap₂, _∙_}
 use mathlib.Core.List.{List}
 use Prim.Native.Nat.{ℕ, _≤_}
 use native.Mathlib.Omega.{arith}
 use lib.ListN.{length}
 use borrow.Author.Needs.{needs}
-use Rattle.bus.specs.Transactions.{Transaction}
-use Rattle.bus.specs.Cost.{dataCount}
+use Rattle.bus.specs.Transactions.{Transaction, busBytes}
+use Rattle.bus.specs.Cost.{dataCount, costOf}
 use Rattle.bus.proofs.CostLaws.{bytes-count}
-use Rattle.packing.specs.Packing.{packed}
+use Rattle.packing.specs.Packing.{packed, packedLength}
 use Rattle.packing.proofs.PackedLaws.{packed-length}
 use Rattle.planning.specs.Plan.{planBy}
 use Rattle.planning.proofs.PlanLaws.{Mapped, mapped, too-short, has-room}
@@ -35,8 +35,8 @@ known c =
 abbrev runs : tie.After-packed-length → List Transaction
 runs c = planBy (taken c) (taken c) (start c .args .wanted .now)
 
-told : (c : tie.After-packed-length) → length (runs c) ≡ c .before .before .count .result
-told c = known c .transactions ∙ sym (c .before .before .count .ensures)
+counted : (c : tie.After-packed-length) → length (runs c) ≡ c .before .before .count .result
+counted c = known c .transactions ∙ sym (c .before .before .count .ensures)
 
 -- and how many data they have
 bytes : (c : tie.After-packed-length) → dataCount (runs c) ≡ c .before .count2 .result
@@ -48,7 +48,11 @@ few c = (omega (arith, known c .few, c .before .before .count .ensures), omega (
 
 -- the bytes of their packing
 long : (c : tie.After-packed-length) → c .packed-length .result ≡ length (packed (runs c))
-long c = c .packed-length .ensures (runs c) (told c) (bytes c)
+long c = c .packed-length .ensures ∙ ap₂ packedLength (sym (counted c)) (sym (bytes c)) ∙ sym (packed-length (runs c))
+
+-- and what they cost on the bus
+cost : (c : tie.After-packed-length) → costOf (c .before .before .count .result) (c .before .count2 .result) ≡ busBytes (runs c)
+cost c = ap₂ costOf (sym (counted c)) (sym (bytes c)) ∙ sym (bytes-count (runs c))
 
 -- the plan
 abbrev plan-of : tie.After-packed-length → List Transaction
@@ -64,7 +68,7 @@ pack-runs-requires c κs =
     let p = c .before .before in
     record {
       plannable = known p .plannable;
-      told = sym (told p);
+      counted = sym (counted p);
       few = omega (arith, few p .0);
       fits = omega (arith, c .before .if1 .left, long p);
     }
@@ -72,12 +76,12 @@ pack-runs-requires c κs =
 cast-t16 : tie.Need-cast-t16
 cast-t16 c =
     let p = c .before .before .before .before .before in
-    omega (arith, long p, packed-length (runs p), bytes-count (runs p), told p, bytes p, few p .0, few p .1)
+    omega (arith, p .packed-length .ensures, few p .0, few p .1)
 
 cast-t17 : tie.Need-cast-t17
 cast-t17 c =
     let p = c .before .before .before .before .before .before in
-    omega (arith, c .bus-bytes .ensures (runs p) (told p) (bytes p), bytes-count (runs p), told p, bytes p, few p .0, few p .1)
+    omega (arith, c .bus-bytes .ensures, few p .0, few p .1)
 
 returns-2 : tie.Need-returns-2
 returns-2 c =
@@ -85,7 +89,7 @@ returns-2 c =
     let e = r .before .before in
     let p = e .before in
     has-room (runs p) (plan-of p) (start p .args .plan .now) (r .pack-runs .last .0) (p .packed-length .result) (p .before .before .count .result) (c .bus-bytes .result)
-    (known p .plan) (omega (arith, e .if1 .left, long p)) (long p) (sym (told p)) (c .bus-bytes .ensures (runs p) (told p) (bytes p)) (r .pack-runs .ensures)
+    (known p .plan) (omega (arith, e .if1 .left, long p)) (long p) (sym (counted p)) (c .bus-bytes .ensures ∙ cost p) (r .pack-runs .ensures)
 
 pub pack-spec : {M : Type 1} → statement M
 pack-spec =

@@ -58,12 +58,12 @@ plan-of s = planBy (s .args .map) (s .args .map) (s .args .wanted .now)
 
 -- its transaction count fits six bits
 few : (s : tie.Start Inv-loop μ-loop) → length (plan-of s) < 64
-few s = omega (arith, s .pre .few, s .pre .told)
+few s = omega (arith, s .pre .few, s .pre .counted)
 
 loop-holds : tie.Need-loop-holds Inv-loop μ-loop
 loop-holds c =
     let s = c .before .before .before in
-    let opening = c .begin .ensures ∙ ap (λ (n : ℕ). record { at = 0; count = 6; bits = n }) (s .pre .told) in
+    let opening = c .begin .ensures ∙ ap (λ (n : ℕ). record { at = 0; count = 6; bits = n }) (s .pre .counted) in
     record {
       within = omega arith;
       is = sym (div-one (s .args .map));
