@@ -11,9 +11,9 @@ use borrow.Author.Tests.{eq-eqb, ne-eqb}
 use Rattle.refusals.specs.declared.Refusal.{Refusal}
 use Rattle.refusals.specs.declared.Refusal.the-variants.{ImageLength, BusAddress, OutOfRange, Reserved, SquarePixelWithOversampling, PedestalWithPal, SignallingConflict, Disagreement, PlanBytes, PlanRoom}
 use Rattle.refusals.specs.Refusal.{numberOf}
+use Rattle.refusals.specs.Verdict.{refusedAt}
 use Rattle.adv7194_bus.specs.Kind.{registerCount}
 use Rattle.adv7194_bus.specs.Address.{addressRight}
-use Rattle.adv7194_settings.specs.Order.{refusedAt}
 use Rattle.adv7194_numbers.specs.Numbers.{numberCount, settingsFrom}
 use Rattle.adv7194_least.specs.Demands.{Played, Counted, Least, Only, mostBytes}
 use Rattle.adv7194_planning.specs.declared.Planned.{Planned}

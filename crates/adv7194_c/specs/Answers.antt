@@ -3,9 +3,9 @@
 use mathlib.Core.Bool.{Bool, true, false}
 use Prim.Native.Nat.{ℕ}
 use Rattle.refusals.specs.Refusal.{Judged, accepted, refused}
+use Rattle.refusals.specs.Verdict.{Verdict, good, refusedAt}
 use Rattle.planning.specs.Plan.{Counts}
 use Rattle.adv7194_settings.specs.declared.settings.Settings.{Settings}
-use Rattle.adv7194_settings.specs.Order.{Verdict, good, refusedAt}
 use Rattle.adv7194_c.specs.declared.plan_numbers.PlanAnswer.{PlanAnswer}
 use Rattle.adv7194_c.specs.declared.play_numbers.PlayAnswer.{PlayAnswer}
 use Rattle.adv7194_c.specs.declared.read_numbers.ReadAnswer.{ReadAnswer}

@@ -6,11 +6,11 @@ use Prim.Native.Nat.{ℕ}
 use lib.Dec.{eqb}
 use lib.IntN.{ℤ}
 use lib.ListN.{length}
+use Rattle.refusals.specs.Verdict.{Verdict, good, refusedAt}
 use Rattle.planning.specs.Plan.{Counts}
 use Rattle.adv7194_bus.specs.Kind.{registerCount}
 use Rattle.adv7194_bus.specs.Address.{addressRight}
 use Rattle.adv7194_settings.specs.declared.settings.Settings.{Settings}
-use Rattle.adv7194_settings.specs.Order.{Verdict, good, refusedAt}
 use Rattle.adv7194_numbers.specs.Numbers.{numberCount, numbersOf, settingsFrom}
 use Rattle.adv7194_planning.specs.Planning.{planningOf, planLeft}
 use Rattle.adv7194_reading.specs.Reading.{readOf}

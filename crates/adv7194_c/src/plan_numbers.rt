@@ -1,7 +1,7 @@
 // Planning's answer as numbers.
 ghost use mathlib.Core.Path.{_≡_};
 ghost use Rattle.refusals.specs.Refusal.{numberOf};
-ghost use Rattle.adv7194_settings.specs.Order.{refusedAt};
+ghost use Rattle.refusals.specs.Verdict.{refusedAt};
 ghost use Rattle.adv7194_planning.specs.Planning.{answerOf, done};
 ghost use Rattle.adv7194_c.specs.Answers.{planAnswer};
 use adv7194_planning::Planned;

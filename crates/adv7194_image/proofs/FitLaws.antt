@@ -9,7 +9,7 @@ use lib.IntN.{ℤ, pos, negsuc, negℤ}
 use lib.Pow.{pow-pos}
 use lib.Signed.{ltZ}
 use borrow.Author.Tests.{ltb-false}
-use Rattle.refusals.specs.Refusal.{Judged, accepted, refused}
+use Rattle.refusals.specs.Refusal.{Judged, accepted, refused, codeIn}
 use Rattle.rounding.proofs.Range.{everywhere}
 use Rattle.adv7194_fields.specs.Coding.{Format, encode, outside, codeOf, codeBy}
 use Rattle.adv7194_fields.specs.Fields.{fields, blockOffset, brightness, clampDelay, dnrInput, gain, sharpness, threshold, uvLevel, yesNo}
@@ -17,7 +17,6 @@ use Rattle.adv7194_fields.proofs.Judging.{in-range, neither-r}
 use Rattle.adv7194_settings.specs.declared.settings.Settings.{Settings}
 use Rattle.adv7194_settings.specs.Rows.{together, numberCodings, codings, codingIn, codingAt}
 use Rattle.adv7194_settings.specs.Codes.{codeAt, timingOf, outputOf, pictureOf, gainsOf, modeOf, codesOf}
-use Rattle.adv7194_settings.specs.Answers.{codeIn}
 use Rattle.adv7194_settings.proofs.Faults.{number-code}
 use Rattle.adv7194_image.specs.Wanted.{CodesFit}
 

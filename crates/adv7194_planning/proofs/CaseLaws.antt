@@ -7,6 +7,10 @@ use lib.Dec.{T, eqb, leb, ltb}
 use lib.ListN.{length, drop}
 use borrow.Author.Tests.{eq-eqb, ne-eqb, lt-ltb, le-ltb, leb-true, leb-false}
 use Rattle.bits.proofs.FlagLaws.{first, second}
+use Rattle.refusals.specs.Verdict.{Verdict, good, refusedAt, after}
+use Rattle.refusals.specs.Order.{Place, firstOf, placesAt}
+use Rattle.refusals.proofs.VerdictLaws.{after-value}
+use Rattle.refusals.proofs.OrderLaws.{first-append, with-value}
 use Rattle.bus.specs.Transactions.{Transaction}
 use Rattle.packing.specs.Packing.{packed}
 use Rattle.planning.specs.Plan.{Counts, countsOf, packingOf, planAfter}
@@ -14,12 +18,9 @@ use Rattle.adv7194_bus.specs.Kind.{registerCount}
 use Rattle.adv7194_bus.specs.Address.{addressRight}
 use Rattle.adv7194_settings.specs.declared.settings.Settings.{Settings}
 use Rattle.adv7194_settings.specs.declared.codes.Codes.{Codes}
-use Rattle.adv7194_settings.specs.Order.{Verdict, good, refusedAt, Place, firstOf, placesAt, placesOf, order}
+use Rattle.adv7194_settings.specs.Order.{placesOf, order}
 use Rattle.adv7194_settings.specs.Rows.{rowHolds}
 use Rattle.adv7194_settings.specs.Codes.{codesOf, checkOf}
-use Rattle.adv7194_settings.specs.Answers.{after}
-use Rattle.adv7194_settings.proofs.Faults.{first-append}
-use Rattle.adv7194_settings.proofs.GroupLaws.{with-value}
 use Rattle.adv7194_planning.specs.Rows.{listOf, rowPlanned, planOrder}
 use Rattle.adv7194_planning.specs.Planning.{planningOf, leftBy, planLeft, withoutField}
 
@@ -38,11 +39,6 @@ allBySettings (p ∷ ps) = bySettings (p .row) && allBySettings ps
 pub order-by-settings : T (allBySettings order)
 unfolding order placesOf placesAt
 order-by-settings = tt
-
--- what comes after a verdict on the settings
-after-check : {A B : Type 0} (v : Verdict (Unit {0})) (a : A) (w : Verdict B) → after v w ≡ after (after v (good a)) w
-after-check (good u) a w = refl
-after-check (refusedAt n f) a w = refl
 
 module _ (image : List ℕ) (s : Settings) (address room : ℕ) where
   -- such a row holds of what is handed to planning where it holds of the settings
@@ -77,7 +73,7 @@ module _ (image : List ℕ) (s : Settings) (address room : ℕ) where
   settings-then-room =
       first-append (rowPlanned image s address room) order (record { row = 10; field = 0 } ∷ []) (countsOf list)
       ∙ ap (λ (v : Verdict (Unit {0})). after v byRoom) (same-first order (tt {0}) order-by-settings)
-      ∙ after-check (firstOf (rowHolds s) order (tt {0})) (codesOf s) byRoom
+      ∙ sym (after-value (firstOf (rowHolds s) order (tt {0})) (codesOf s) byRoom)
       ∙ ap (λ (v : Verdict Codes). after v byRoom) (with-value (rowHolds s) order (codesOf s))
 
   -- row 1: the image isn't 54 bytes

@@ -8,6 +8,8 @@ use lib.Dec.{T, eqb, ltb}
 use lib.ListN.{length}
 use borrow.Author.Tests.{eqb-true, eqb-false, ltb-true, ltb-false}
 use Rattle.bits.proofs.FlagLaws.{first, second}
+use Rattle.refusals.specs.Verdict.{Verdict, good, refusedAt}
+use Rattle.refusals.specs.Order.{Place, NoneHolds, FirstAt}
 use Rattle.packing.specs.Packing.{packed}
 use Rattle.planning.specs.Plan.{Counts, countsOf}
 use Rattle.adv7194_bus.specs.Kind.{registerCount}
@@ -15,10 +17,10 @@ use Rattle.adv7194_bus.specs.Address.{AddressFault, addressRight}
 use Rattle.adv7194_bus.proofs.AddressLaws.{no-address-fault, an-address-fault}
 use Rattle.adv7194_settings.specs.declared.settings.Settings.{Settings}
 use Rattle.adv7194_settings.specs.declared.codes.Codes.{Codes}
-use Rattle.adv7194_settings.specs.Order.{Verdict, good, refusedAt, Place, order}
+use Rattle.adv7194_settings.specs.Order.{order}
 use Rattle.adv7194_settings.specs.Rows.{rowHolds}
 use Rattle.adv7194_settings.specs.Codes.{codesOf, checkOf}
-use Rattle.adv7194_settings.proofs.OrderLaws.{NoneHolds, FirstAt, refused-exactly, accepted-exactly, accepted-codes}
+use Rattle.adv7194_settings.proofs.OrderLaws.{check-exactly, accepted-codes}
 use Rattle.adv7194_planning.specs.Rows.{listOf}
 use Rattle.adv7194_planning.specs.Planning.{planningOf}
 use Rattle.adv7194_planning.proofs.CaseLaws.{bySettings, allBySettings, order-by-settings, wrong-length, wrong-address, wrong-settings, wrong-room, no-row}
@@ -38,10 +40,10 @@ pub data Judges (image : List ℕ) (s : Settings) (address room : ℕ) : Verdict
 
 -- settings with no fault are accepted with their codes
 none-accepted : (s : Settings) → NoneHolds (rowHolds s) order → checkOf s ≡ good (codesOf s)
-none-accepted s = accepted-exactly s .1
+none-accepted s = check-exactly s refl .accepts .1
 
 accepted-none : (s : Settings) (c : Codes) → checkOf s ≡ good c → NoneHolds (rowHolds s) order
-accepted-none s c e = accepted-exactly s .0 (e ∙ ap good (sym (accepted-codes s c e)))
+accepted-none s c e = check-exactly s refl .accepts .0 (e ∙ ap good (sym (accepted-codes s c e)))
 
 -- the settings' refusals are not those of planning alone
 last-by-settings : (es ls : List Place) (n f : ℕ) → T (allBySettings (es ++ (record { row = n; field = f } ∷ ls))) → T (bySettings n)
@@ -72,7 +74,7 @@ module _ (image : List ℕ) (s : Settings) (address room : ℕ) where
     by-settings : (v : Verdict Codes) → checkOf s ≡ v → Right
     by-settings (good c) k = by-room c k (ltb room (length (packed (listOf image s)))) refl
     by-settings (refusedAt n f) k =
-        given (wrong-settings image s address room h e n f k) (settings-fault h (no-address-fault address e) (refused-exactly s n f .0 k))
+        given (wrong-settings image s address room h e n f k) (settings-fault h (no-address-fault address e) (check-exactly s refl .refuses n f .0 k))
 
   by-address : length image ≡ registerCount → (b : Bool) → addressRight address ≡ b → Right
   by-address h true e = by-settings h e (checkOf s) refl
@@ -103,7 +105,7 @@ module _ (image : List ℕ) (s : Settings) (address room : ℕ) where
           split : (b : Bool) → addressRight address ≡ b → addressRight address ≡ false
           split true e = absurd (no-address-fault address e a)
           split false e = e
-  answered _ (settings-fault {n} {f} h a w) = wrong-settings image s address room h (right a) n f (refused-exactly s n f .1 w)
+  answered _ (settings-fault {n} {f} h a w) = wrong-settings image s address room h (right a) n f (check-exactly s refl .refuses n f .1 w)
   answered _ (room-fault h a w l) = wrong-room image s address room h (right a) (codesOf s) (none-accepted s w) l
   answered _ (no-fault h a w l) = no-row image s address room h (right a) (codesOf s) (none-accepted s w) l
 

@@ -4,10 +4,11 @@ use mathlib.Core.List.{List, _++_}
 use Prim.Native.Nat.{ℕ}
 use lib.ListN.{length, drop}
 use Rattle.refusals.specs.Refusal.{Judged, accepted, refused, numberOf}
+use Rattle.refusals.specs.Verdict.{Verdict, good, refusedAt}
+use Rattle.refusals.specs.Order.{firstOf}
 use Rattle.packing.specs.Packing.{packed}
 use Rattle.planning.specs.Plan.{Counts, countsOf}
 use Rattle.adv7194_settings.specs.declared.settings.Settings.{Settings}
-use Rattle.adv7194_settings.specs.Order.{Verdict, good, refusedAt, firstOf}
 use Rattle.adv7194_planning.specs.declared.Planned.{Planned}
 use Rattle.adv7194_planning.specs.declared.Planned.the-variants.{Done, Refused}
 use Rattle.adv7194_planning.specs.Rows.{listOf, rowPlanned, planOrder}

@@ -4,12 +4,13 @@ use mathlib.Core.List.{List, [], _∷_, _++_}
 use Prim.Native.Nat.{ℕ}
 use lib.Dec.{eqb, ltb}
 use lib.ListN.{length}
+use Rattle.refusals.specs.Order.{Place}
 use Rattle.bus.specs.Transactions.{Transaction}
 use Rattle.packing.specs.Packing.{packed}
 use Rattle.adv7194_bus.specs.Kind.{registerCount}
 use Rattle.adv7194_bus.specs.Address.{addressRight}
 use Rattle.adv7194_settings.specs.declared.settings.Settings.{Settings}
-use Rattle.adv7194_settings.specs.Order.{Place, order}
+use Rattle.adv7194_settings.specs.Order.{order}
 use Rattle.adv7194_settings.specs.Rows.{rowHolds}
 use Rattle.adv7194_settings.specs.Codes.{codesOf}
 use Rattle.adv7194_image.specs.Wanted.{wantedOf}

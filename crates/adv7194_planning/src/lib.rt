@@ -2,8 +2,8 @@
 ghost use mathlib.Core.Path.{_≡_};
 ghost use Prim.Native.Nat.{ℕ, _<_};
 ghost use lib.ListN.{length, take};
+ghost use Rattle.refusals.specs.Verdict.{refusedAt};
 ghost use Rattle.planning.specs.Plan.{packingOf, planAfter};
-ghost use Rattle.adv7194_settings.specs.Order.{refusedAt};
 ghost use Rattle.adv7194_image.specs.Wanted.{wantedOf, CodesFit};
 ghost use Rattle.adv7194_least.specs.Change.{Change};
 ghost use Rattle.adv7194_least.specs.Plan.{planOf};

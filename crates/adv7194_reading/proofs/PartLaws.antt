@@ -5,12 +5,13 @@ use mathlib.Core.List.{List, [], _∷_, _++_, append-assoc}
 use Prim.Native.Nat.{ℕ}
 use native.Mathlib.Omega.{arith}
 use lib.IntN.{pos}
+use Rattle.refusals.specs.Verdict.{Verdict, good, refusedAt, after, faultWhere}
+use Rattle.refusals.specs.Order.{Place, firstOf, placesAt}
+use Rattle.refusals.proofs.VerdictLaws.{after-value}
+use Rattle.refusals.proofs.OrderLaws.{first-append, with-value}
 use Rattle.adv7194_fields.specs.Fields.{fields}
 use Rattle.adv7194_settings.specs.declared.settings.Settings.{Settings}
-use Rattle.adv7194_settings.specs.Order.{Verdict, good, refusedAt, Place, firstOf, placesAt, rowsAt}
-use Rattle.adv7194_settings.specs.Answers.{after, faultWhere}
-use Rattle.adv7194_settings.proofs.Faults.{first-append}
-use Rattle.adv7194_settings.proofs.GroupLaws.{with-value}
+use Rattle.adv7194_settings.specs.Order.{rowsAt}
 use Rattle.adv7194_reading_groups.specs.Held.{readings, readingIn, readingAt}
 use Rattle.adv7194_reading_groups.specs.Rows.{rowHeld, wordDisagrees}
 use Rattle.adv7194_reading_groups.specs.Places.{placesHeld}
@@ -26,11 +27,6 @@ places-append (f ∷ fs) gs =
     ap (λ (l : List Place). placesAt (rowsAt f ++ (8 ∷ [])) f ++ l) (places-append fs gs)
     ∙ sym (append-assoc (placesAt (rowsAt f ++ (8 ∷ [])) f) (placesHeld fs) (placesHeld gs))
 
--- a value that is passed over
-passed-over : {A B : Type 0} (u : Verdict (Unit {0})) (b : B) (w : Verdict A) → after (after u (good b)) w ≡ after u w
-passed-over (good tt) b w = refl
-passed-over (refusedAt n f) b w = refl
-
 module _ {A B : Type 0} (image : List ℕ) (fs gs : List ℕ) (b : B) (a : A) where
   -- some fields before others, whatever the first are read as
   part-append : partOf image (fs ++ gs) a ≡ after (partOf image fs b) (partOf image gs a)
@@ -41,7 +37,7 @@ module _ {A B : Type 0} (image : List ℕ) (fs gs : List ℕ) (b : B) (a : A) wh
       let rest = firstOf h (placesHeld gs) a in
       ap (λ (l : List Place). firstOf h l a) (places-append fs gs)
       ∙ first-append h ps (placesHeld gs) a
-      ∙ sym (passed-over (firstOf h ps (tt {0})) b rest)
+      ∙ sym (after-value (firstOf h ps (tt {0})) b rest)
       ∙ ap (λ (v : Verdict B). after v rest) (with-value h ps b)
 
 -- a group that is read lets the next ones come

@@ -9,6 +9,8 @@ use native.Mathlib.Omega.{arith}
 use lib.Dec.{ltb, ltb→lt}
 use lib.IntN.{ℤ, pos, natAbs}
 use Rattle.refusals.specs.Refusal.{Judged, accepted, refused}
+use Rattle.refusals.specs.Verdict.{refusedAt}
+use Rattle.refusals.proofs.VerdictLaws.{row-holds, row-fails}
 use Rattle.rounding.proofs.Range.{below-at, imp, imp→not}
 use Rattle.adv7194_signalling.specs.Kind as kinds
 use Rattle.adv7194_signalling.specs.Kind.{kindOf, kindBy, stands}
@@ -19,11 +21,9 @@ use Rattle.adv7194_signalling.proofs.WordLaws.{joined-only}
 use Rattle.adv7194_signalling.proofs.CgmsLaws.{cgmsNumber}
 use Rattle.adv7194_signalling.proofs.CgmsReadLaws.{is-coded, held-again}
 use Rattle.adv7194_signalling.proofs.WssLaws.{is-coded as wss-is-coded}
-use Rattle.adv7194_settings.specs.Order.{refusedAt}
 use Rattle.adv7194_settings.specs.Rows.{is}
 use Rattle.adv7194_reading_groups.specs.Held.{byteAt, signalBytes, settingsHeld}
 use Rattle.adv7194_reading_groups.specs.Groups.{partOf}
-use Rattle.adv7194_reading_groups.proofs.RowLaws.{struck, spared}
 use Rattle.adv7194_reading_groups.proofs.PedestalLaws.{ZeroOrOne, standard-held}
 use Rattle.adv7194_reading.specs.Signal.{sendsCgms, codedOf, standardFor, refusalBy}
 use Rattle.adv7194_reading.proofs.SignalLaws.{kind-refused, cgms-rows, wss-rows}
@@ -108,10 +108,10 @@ module _ {A : Type 0} (image : List ℕ) (small : (i : ℕ) → byteAt image i <
       by : ZeroOrOne (settingsHeld image .timing .standard) → refusedAt (cond (is 1 (settingsHeld image .timing .standard)) 7 8) 11 ≡ partOf image (11 ∷ []) value
       by (inl ntsc) =
           let t = ap (is 1) ntsc in
-          rw t (sym (cgms-rows image value k ∙ spared 7 11 _ t ∙ struck 8 11 _ (cgms-disagrees image (small 0x1A) (small 0x1B) k (none ntsc))))
+          rw t (sym (cgms-rows image value k ∙ row-fails 7 11 _ t ∙ row-holds 8 11 _ (cgms-disagrees image (small 0x1A) (small 0x1B) k (none ntsc))))
       by (inr pal) =
           let t = ap (is 1) pal in
-          rw t (sym (cgms-rows image value k ∙ struck 7 11 _ t))
+          rw t (sym (cgms-rows image value k ∙ row-holds 7 11 _ t))
 
   -- WSS: with NTSC 7, with PAL it is coded otherwise, 4
   wss-fault : kindOf (byteAt image 0x19) ≡ accepted kinds.wss → refusedAt (cond (is 0 (settingsHeld image .timing .standard)) 7 4) 11 ≡ partOf image (11 ∷ []) value
@@ -131,10 +131,10 @@ module _ {A : Type 0} (image : List ℕ) (small : (i : ℕ) → byteAt image i <
       by : ZeroOrOne (settingsHeld image .timing .standard) → refusedAt (cond (is 0 (settingsHeld image .timing .standard)) 7 4) 11 ≡ partOf image (11 ∷ []) value
       by (inl ntsc) =
           let t = ap (is 0) ntsc in
-          rw t (sym (wss-rows image value k ∙ struck 7 11 _ t))
+          rw t (sym (wss-rows image value k ∙ row-holds 7 11 _ t))
       by (inr pal) =
           let t = ap (is 0) pal in
-          rw t (sym (wss-rows image value k ∙ spared 7 11 _ t ∙ struck 4 11 _ (wss-disagrees image (small 0x1A) (small 0x1B) k (none pal))))
+          rw t (sym (wss-rows image value k ∙ row-fails 7 11 _ t ∙ row-holds 4 11 _ (wss-disagrees image (small 0x1A) (small 0x1B) k (none pal))))
 
   -- the first row that holds is the one of its kind
   pub fault-read : refusedAt (refusalBy (settingsHeld image .timing .standard) (kindOf (byteAt image 0x19))) 11 ≡ partOf image (11 ∷ []) value

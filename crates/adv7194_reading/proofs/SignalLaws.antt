@@ -8,17 +8,17 @@ use native.Mathlib.Omega.{arith}
 use lib.Dec.{T, eqb}
 use borrow.Author.Tests.{eqb-true}
 use Rattle.bits.specs.Fields.{bit}
-use Rattle.refusals.specs.Refusal.{Judged, accepted, refused}
+use Rattle.refusals.specs.Refusal.{Judged, accepted, refused, refusedBy}
+use Rattle.refusals.specs.Verdict.{Verdict, good, refusedAt, after, faultWhere}
+use Rattle.refusals.specs.Order.{firstOf, placesAt}
+use Rattle.refusals.proofs.VerdictLaws.{row-before}
 use Rattle.adv7194_fields.specs.Fields.{fields}
 use Rattle.adv7194_signalling.specs.Kind as kinds
 use Rattle.adv7194_signalling.specs.Kind.{kindOf, kindBy, stands}
 use Rattle.adv7194_settings.specs.declared.settings.Signalling.{Signalling}
-use Rattle.adv7194_settings.specs.Order.{Verdict, good, refusedAt, firstOf, placesAt}
 use Rattle.adv7194_settings.specs.Rows.{is, conflict}
-use Rattle.adv7194_settings.specs.Answers.{after, faultWhere}
-use Rattle.adv7194_settings.proofs.Faults.{chosen}
 use Rattle.adv7194_reading_groups.specs.Held.{byteAt, readings, readingIn, readingAt, silent, signallingBy, signallingHeld, settingsHeld, yesNoAt}
-use Rattle.adv7194_reading_groups.specs.Rows.{refusedBy, codedOtherwise, signalReserved, signalConflict, checkDisagrees, rowHeld}
+use Rattle.adv7194_reading_groups.specs.Rows.{codedOtherwise, signalReserved, signalConflict, checkDisagrees, rowHeld}
 use Rattle.adv7194_reading_groups.specs.Places.{placesHeld}
 use Rattle.adv7194_reading_groups.specs.Groups.{partOf}
 use Rattle.adv7194_reading_groups.proofs.RowLaws.{all-read}
@@ -32,11 +32,11 @@ signal-rows : {A : Type 0} (image : List ℕ) (a : A)
     → partOf image (11 ∷ []) a ≡ after (faultWhere (signalConflict image) 7 11) (after (faultWhere (signalReserved image) 4 11) (after (faultWhere (checkDisagrees image) 8 11) (good a)))
 unfolding partOf firstOf placesAt placesHeld rowHeld readingAt readings readingIn fields
 signal-rows image a =
-    chosen (signalConflict image) 7 11 _
+    row-before (signalConflict image) 7 11 _
     ∙ ap (after (faultWhere (signalConflict image) 7 11))
-    (chosen (signalReserved image) 4 11 _
+    (row-before (signalReserved image) 4 11 _
     ∙ ap (after (faultWhere (signalReserved image) 4 11))
-    (ap (λ (b : Bool). cond b (refusedAt 8 11) (good a)) (or-false (checkDisagrees image)) ∙ chosen (checkDisagrees image) 8 11 (good a)))
+    (ap (λ (b : Bool). cond b (refusedAt 8 11) (good a)) (or-false (checkDisagrees image)) ∙ row-before (checkDisagrees image) 8 11 (good a)))
 
 -- ---- register 19
 

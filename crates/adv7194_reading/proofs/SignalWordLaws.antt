@@ -11,6 +11,8 @@ use borrow.Author.Tests.{eqb-true}
 use Rattle.bits.specs.Fields.{bit}
 use Rattle.bits.specs.Strings.{lsbFirst}
 use Rattle.refusals.specs.Refusal.{accepted}
+use Rattle.refusals.specs.Verdict.{good}
+use Rattle.refusals.proofs.VerdictLaws.{row-fails}
 use Rattle.rounding.proofs.First.{flag}
 use Rattle.rounding.proofs.Range.{back}
 use Rattle.adv7194_signalling.specs.Kind as kinds
@@ -24,11 +26,9 @@ use Rattle.adv7194_signalling.proofs.WordLaws.{joinedOf, wordBytes, bytes-joine
 use Rattle.adv7194_signalling.proofs.CgmsReadLaws.{payloadOf, oddOf, evenOf, chipOf, coded-again, again-held}
 use Rattle.adv7194_signalling.proofs.WssLaws.{wss-coded}
 use Rattle.adv7194_signalling.proofs.KindLaws.{wss-kind, cgms-kind}
-use Rattle.adv7194_settings.specs.Order.{good}
 use Rattle.adv7194_settings.specs.Rows.{is}
 use Rattle.adv7194_reading_groups.specs.Held.{byteAt, silent, signalBytes, settingsHeld, signallingHeld}
 use Rattle.adv7194_reading_groups.specs.Groups.{partOf}
-use Rattle.adv7194_reading_groups.proofs.RowLaws.{spared}
 use Rattle.adv7194_reading.specs.Signal.{sendsCgms, codedOf, standardFor, heldOf}
 use Rattle.adv7194_reading.proofs.SignalLaws.{off-read, cgms-rows, wss-rows}
 use Rattle.adv7194_reading.proofs.SignalHeldLaws.{word-number, cgms-signalling, cgms-agrees, wss-signalling, wss-agrees}
@@ -103,8 +103,8 @@ module _ (image : List ℕ) (a : byteAt image 0x1A < 256) (b : byteAt image 0x1B
       rw g
       (rw (sym (word-number image a b))
       (sym (cgms-rows image (signallingHeld image) k
-      ∙ spared 7 11 _ (ap (is 1) ntsc)
-      ∙ spared 8 11 _ (cgms-agrees image a b (cgmsIn (wordOf image)) k code)
+      ∙ row-fails 7 11 _ (ap (is 1) ntsc)
+      ∙ row-fails 8 11 _ (cgms-agrees image a b (cgmsIn (wordOf image)) k code)
       ∙ ap good (cgms-signalling image a b k))))
 
   -- ---- WSS
@@ -142,8 +142,8 @@ module _ (image : List ℕ) (a : byteAt image 0x1A < 256) (b : byteAt image 0x1B
       rw (g, w, b6, b5, b4)
       (rw (sym (word-number image a b))
       (sym (wss-rows image (signallingHeld image) k
-      ∙ spared 7 11 _ (ap (is 0) pal)
-      ∙ spared 4 11 _ (wss-agrees image a b z k code)
+      ∙ row-fails 7 11 _ (ap (is 0) pal)
+      ∙ row-fails 4 11 _ (wss-agrees image a b z k code)
       ∙ ap good (wss-signalling image a b k))))
 
   -- ---- off

@@ -11,6 +11,7 @@ use lib.ListN.{length, take, drop}
 use lib.Pow.{shr-shr}
 use lib.Seq.{drop-cons}
 use borrow.Author.Tests.{lt-ltb, le-ltb, eq-eqb, ne-eqb}
+use Rattle.refusals.specs.Refusal.{codeIn}
 use Rattle.rounding.proofs.First.{flag}
 use Rattle.adv7194_fields.specs.Coding.{encode, codeBy}
 use Rattle.adv7194_fields.specs.Fields.{fields, standard, yesNo}
@@ -20,7 +21,6 @@ use Rattle.adv7194_subcarrier.specs.Subcarrier.{wordOf}
 use Rattle.adv7194_settings.specs.declared.settings.Settings.{Settings}
 use Rattle.adv7194_settings.specs.Rows.{is, numberCodings, codings, codingIn, codingAt}
 use Rattle.adv7194_settings.specs.Codes.{standardBy, codeAt, wordAt}
-use Rattle.adv7194_settings.specs.Answers.{codeIn}
 use Rattle.adv7194_settings.proofs.Faults.{number-code}
 use Rattle.adv7194_image.specs.Wanted.{wordBytes}
 use Rattle.adv7194_reading_groups.specs.Held.{byteAt, settingsHeld}

@@ -1,7 +1,7 @@
 -- What each case of the answers of field 11 and of the groups stands for in document 01.
+use Rattle.refusals.specs.Verdict.{Verdict, good, refusedAt}
 use Rattle.adv7194_settings.specs.declared.settings.Signalling.{Signalling}
 use Rattle.adv7194_settings.specs.declared.settings.Settings.{Settings}
-use Rattle.adv7194_settings.specs.Order.{Verdict, good, refusedAt}
 use Rattle.adv7194_reading_groups.specs.Groups.{faultAs}
 use Rattle.adv7194_reading.specs.declared.signal.SignallingRead.{SignallingRead}
 use Rattle.adv7194_reading.specs.declared.signal.SignallingRead.the-variants as signalling

@@ -2,8 +2,10 @@
 use mathlib.Core.List.{List, [], _∷_, _++_}
 use Prim.Native.Nat.{ℕ}
 use Rattle.refusals.specs.Refusal.{numberOf}
+use Rattle.refusals.specs.Verdict.{Verdict, good, refusedAt}
+use Rattle.refusals.specs.Order.{Place, firstOf}
 use Rattle.adv7194_settings.specs.declared.settings.Settings.{Settings}
-use Rattle.adv7194_settings.specs.Order.{Verdict, good, refusedAt, Place, firstOf, fieldOrder}
+use Rattle.adv7194_settings.specs.Order.{fieldOrder}
 use Rattle.adv7194_reading.specs.declared.Read.{Read}
 use Rattle.adv7194_reading.specs.declared.Read.the-variants as read
 use Rattle.adv7194_reading_groups.specs.Held.{settingsHeld}

@@ -1,6 +1,6 @@
 // The refusal of a group of fields as reading's answer.
 ghost use mathlib.Core.Path.{_≡_};
-ghost use Rattle.adv7194_settings.specs.Order.{refusedAt};
+ghost use Rattle.refusals.specs.Verdict.{refusedAt};
 ghost use Rattle.adv7194_reading_groups.specs.Groups.{faultAs, timingAs, outputAs, pictureAs, gainsAs, modeAs};
 ghost use Rattle.adv7194_reading.specs.Reading.{readAs};
 ghost use Rattle.adv7194_reading.specs.Answers.{signallingAs, refusalOf};

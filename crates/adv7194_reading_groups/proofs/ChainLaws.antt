@@ -9,14 +9,14 @@ use lib.ListN.{length}
 use lib.Signed.{mag}
 use mir.Syntax.{w32}
 use mir.ValLaws.{toZ-ofZ}
-use Rattle.rounding.proofs.Range.{back}
 use Rattle.refusals.specs.declared.Refusal.{Refusal}
 use Rattle.refusals.specs.Refusal.{Judged, accepted, numberOf}
+use Rattle.refusals.specs.Verdict.{after, faultWhere}
+use Rattle.rounding.proofs.Range.{back}
 use Rattle.adv7194_fields.specs.declared.Decoded.{Decoded}
 use Rattle.adv7194_fields.specs.declared.Decoded.the-variants.{Setting, Unreadable}
 use Rattle.adv7194_fields.specs.Answers.{decoded}
 use Rattle.adv7194_settings.specs.Rows.{squareWithOversampling, pedestalWithPal}
-use Rattle.adv7194_settings.specs.Answers.{after, faultWhere}
 use Rattle.adv7194_reading_groups.specs.declared.Fault.{Fault}
 use Rattle.adv7194_reading_groups.specs.Held.{readingAt, settingIn, settingAt, settingsHeld}
 use Rattle.adv7194_reading_groups.specs.Rows.{registers, zeroBitSet, wordDisagrees}

@@ -5,16 +5,17 @@ use mathlib.Core.List.{List, [], _∷_, _++_}
 use Prim.Native.Nat.{ℕ, _^_}
 use lib.Dec.{T, eqb, eqb→eq, ltb}
 use lib.IntN.{ℤ}
-use Rattle.refusals.specs.Refusal.{Judged, accepted, refused}
+use Rattle.refusals.specs.Refusal.{Judged, accepted, refused, refusedBy}
+use Rattle.refusals.specs.Verdict.{Verdict, good, refusedAt, after, faultOf, faultWhere}
+use Rattle.refusals.specs.Order.{Place, firstOf, placesAt}
+use Rattle.refusals.proofs.VerdictLaws.{row-before}
 use Rattle.adv7194_fields.specs.Coding.{Format, decode, hasAt, settingAt, leastMagnitude, reserves}
 use Rattle.adv7194_fields.specs.Fields.{Field, fields}
-use Rattle.adv7194_settings.specs.Order.{Verdict, good, refusedAt, Place, firstOf, placesAt, rowsAt}
+use Rattle.adv7194_settings.specs.Order.{rowsAt}
 use Rattle.adv7194_settings.specs.Rows.{squareWithOversampling, pedestalWithPal}
-use Rattle.adv7194_settings.specs.Answers.{after, faultOf, faultWhere}
 use Rattle.adv7194_settings.proofs.Codings.{threeOrFour, Sound}
-use Rattle.adv7194_settings.proofs.Faults.{chosen}
 use Rattle.adv7194_reading_groups.specs.Held.{FieldReading, codeHeld, readings, readingIn, readingAt, settingsHeld}
-use Rattle.adv7194_reading_groups.specs.Rows.{refusedBy, zeroBitSet, wordDisagrees, rowHeld}
+use Rattle.adv7194_reading_groups.specs.Rows.{zeroBitSet, wordDisagrees, rowHeld}
 use Rattle.adv7194_reading_groups.specs.Places.{placesHeld}
 use Rattle.adv7194_reading_groups.specs.Groups.{partOf}
 
@@ -80,10 +81,10 @@ field-rows image f fs a h =
     (rw h
     (judged-rows f (readingAt image f) (zeroBitSet image f) _ (reading-sound image f)
     ∙ ap (λ v. after (faultOf f (readingAt image f)) (after (faultWhere (zeroBitSet image f) 4 f) v))
-    (chosen (eqb f 3 && squareWithOversampling t) 5 f _
+    (row-before (eqb f 3 && squareWithOversampling t) 5 f _
     ∙ ap (after (faultWhere (eqb f 3 && squareWithOversampling t) 5 f))
-    (chosen (eqb f 4 && pedestalWithPal t) 6 f _
-    ∙ ap (after (faultWhere (eqb f 4 && pedestalWithPal t) 6 f)) (chosen (eqb f 28 && wordDisagrees image) 8 f rest)))))
+    (row-before (eqb f 4 && pedestalWithPal t) 6 f _
+    ∙ ap (after (faultWhere (eqb f 4 && pedestalWithPal t) 6 f)) (row-before (eqb f 28 && wordDisagrees image) 8 f rest)))))
 
 -- a field whose reading is a refusal
 pub stopped : {A : Type 0} (image : List ℕ) (f : ℕ) (fs : List ℕ) (a : A) (n : ℕ) → eqb f 11 ≡ false → readingAt image f ≡ refused n → refusedAt n f ≡ partOf image (f ∷ fs) a
@@ -96,14 +97,6 @@ pub goes-on : {A : Type 0} (image : List ℕ) (f : ℕ) (fs : List ℕ) (a : A) 
     (after (faultWhere (eqb f 4 && pedestalWithPal (settingsHeld image .timing)) 6 f)
     (after (faultWhere (eqb f 28 && wordDisagrees image) 8 f) (partOf image fs a))))
 goes-on image f fs a z h e = field-rows image f fs a h ∙ rw e
-
--- a row that holds, before others
-pub struck : {A : Type 0} (n f : ℕ) {b : Bool} (v : Verdict A) → b ≡ true → after (faultWhere b n f) v ≡ refusedAt n f
-struck n f v e = rw e
-
--- a row that does not
-pub spared : {A : Type 0} (n f : ℕ) {b : Bool} (v : Verdict A) → b ≡ false → after (faultWhere b n f) v ≡ v
-spared n f v e = rw e
 
 -- where no field is left, the part is what the image holds
 pub all-read : {A : Type 0} (image : List ℕ) (a : A) → partOf image [] a ≡ good a

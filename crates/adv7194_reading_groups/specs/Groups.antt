@@ -3,6 +3,8 @@ use mathlib.Core.List.{List}
 use Prim.Native.Nat.{ℕ}
 use Rattle.refusals.specs.declared.Refusal.the-variants.{Reserved}
 use Rattle.refusals.specs.Refusal.{numberOf}
+use Rattle.refusals.specs.Verdict.{Verdict, good, refusedAt}
+use Rattle.refusals.specs.Order.{firstOf}
 use Rattle.adv7194_fields.specs.declared.Decoded.{Decoded}
 use Rattle.adv7194_fields.specs.declared.Decoded.the-variants.{Setting, Unreadable}
 use Rattle.adv7194_settings.specs.declared.settings.Timing.{Timing}
@@ -10,7 +12,6 @@ use Rattle.adv7194_settings.specs.declared.settings.Output.{Output}
 use Rattle.adv7194_settings.specs.declared.settings.Picture.{Picture}
 use Rattle.adv7194_settings.specs.declared.settings.Gains.{Gains}
 use Rattle.adv7194_settings.specs.declared.settings.Mode.{Mode}
-use Rattle.adv7194_settings.specs.Order.{Verdict, good, refusedAt, firstOf}
 use Rattle.adv7194_reading_groups.specs.declared.Fault.{Fault}
 use Rattle.adv7194_reading_groups.specs.declared.timing.TimingRead.{TimingRead}
 use Rattle.adv7194_reading_groups.specs.declared.timing.TimingRead.the-variants as timing

@@ -5,18 +5,13 @@ use Prim.Native.Nat.{ℕ}
 use lib.Dec.{eqb}
 use lib.ListN.{length, take, drop}
 use Rattle.bits.specs.Fields.{field}
-use Rattle.refusals.specs.Refusal.{Judged, accepted, refused}
+use Rattle.refusals.specs.Refusal.{refusedBy}
 use Rattle.adv7194_signalling.specs.Kind.{kindOf}
 use Rattle.adv7194_settings.specs.Rows.{is, signallingOf, squareWithOversampling, pedestalWithPal, conflict}
 use Rattle.adv7194_settings.specs.Codes.{codesIn, wordAt}
 use Rattle.adv7194_bus.specs.Kind.{registerCount}
 use Rattle.adv7194_image.specs.Wanted.{wordBytes}
 use Rattle.adv7194_reading_groups.specs.Held.{byteAt, readingAt, signalBytes, signallingHeld, settingsHeld}
-
--- a reading is the refusal n
-abbrev pub refusedBy : {A : Type 0} → ℕ → Judged A → Bool
-refusedBy n (accepted a) = false
-refusedBy n (refused k) = eqb k n
 
 -- two lists of bytes are the same
 unfoldable pub sameBytes : List ℕ → List ℕ → Bool

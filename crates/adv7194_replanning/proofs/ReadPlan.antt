@@ -6,13 +6,13 @@ use mathlib.Core.List.{List, [], _∷_, _++_}
 use Prim.Native.Nat.{ℕ, _≤_}
 use native.Mathlib.Omega.{arith}
 use lib.ListN.{length, drop}
+use Rattle.refusals.specs.Verdict.{Verdict, good}
 use Rattle.bus.specs.Transactions.{Transaction, busBytes}
 use Rattle.packing.specs.Packing.{packed}
 use Rattle.planning.specs.Plan.{Counts, countsOf}
 use Rattle.adv7194_bus.specs.Kind.{registerCount}
 use Rattle.adv7194_bus.specs.Address.{addressRight}
 use Rattle.adv7194_settings.specs.declared.settings.Settings.{Settings}
-use Rattle.adv7194_settings.specs.Order.{Verdict, good}
 use Rattle.adv7194_settings.specs.Codes.{codesOf}
 use Rattle.adv7194_least.proofs.Nothing.{plan-empty, packed-empty}
 use Rattle.adv7194_planning.specs.Rows.{wantedBy, listOf}

@@ -5,15 +5,15 @@ use mathlib.Core.List.{List, [], _∷_}
 use Prim.Native.Nat.{ℕ}
 use lib.Dec.{eqb, eqb→eq}
 use lib.IntN.{ℤ}
-use Rattle.refusals.specs.Refusal.{accepted, refused}
+use Rattle.refusals.specs.Refusal.{accepted, refused, refusedBy, codeIn}
+use Rattle.refusals.specs.Verdict.{good}
 use Rattle.adv7194_fields.specs.Coding.{encode, outside, codeOf, codeBy}
 use Rattle.adv7194_fields.specs.Fields.{fields, standard}
 use Rattle.adv7194_fields.proofs.Judging.{in-range}
 use Rattle.adv7194_settings.specs.declared.settings.Settings.{Settings}
-use Rattle.adv7194_settings.specs.Order.{good, order}
-use Rattle.adv7194_settings.specs.Rows.{signallingOf, gammaOf, FieldCoding, numberCodings, numbers, codings, codingIn, codingAt, refusedWith, squareWithOversampling, pedestalWithPal, conflict, rowHolds}
+use Rattle.adv7194_settings.specs.Order.{order}
+use Rattle.adv7194_settings.specs.Rows.{signallingOf, gammaOf, FieldCoding, numberCodings, numbers, codings, codingIn, codingAt, squareWithOversampling, pedestalWithPal, conflict, rowHolds}
 use Rattle.adv7194_settings.specs.Codes.{codeAt, standardBy, timingOf, outputOf, pictureOf, gainsOf, modeOf, codesOf, checkOf}
-use Rattle.adv7194_settings.specs.Answers.{codeIn}
 use Rattle.adv7194_settings.proofs.Faults.{number-code}
 use Rattle.adv7194_image.specs.Wanted.{standardCode, numberCodes}
 use Rattle.adv7194_round_trip.proofs.FirstLaws.{all-clear, chosen-fails, and-fails}
@@ -22,12 +22,12 @@ use Rattle.adv7194_round_trip.proofs.NumberLaws.{AllTaken, firstCodes}
 -- ---- the check
 
 -- the coding that is looked up among some that are taken
-taken-among : (cs : List FieldCoding) (f n : ℕ) → AllTaken cs → refusedWith n (codingIn cs f) ≡ false
+taken-among : (cs : List FieldCoding) (f n : ℕ) → AllTaken cs → refusedBy n (codingIn cs f) ≡ false
 unfolding codingIn
 taken-among [] f n h = refl
 taken-among (c ∷ cs) f n h = by (eqb f (c .field)) (h .0 n) (taken-among cs f n (h .1))
   where
-    by : (b : Bool) → refusedWith n (c .codes) ≡ false → refusedWith n (codingIn cs f) ≡ false → refusedWith n (cond b (c .codes) (codingIn cs f)) ≡ false
+    by : (b : Bool) → refusedBy n (c .codes) ≡ false → refusedBy n (codingIn cs f) ≡ false → refusedBy n (cond b (c .codes) (codingIn cs f)) ≡ false
     by true p q = p
     by false p q = q
 

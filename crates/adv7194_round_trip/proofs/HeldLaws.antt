@@ -8,17 +8,18 @@ use lib.IntN.{ℤ}
 use lib.ListN.{length, take, drop}
 use Rattle.bits.specs.Fields.{field}
 use Rattle.bits.proofs.FlagLaws.{first, second}
+use Rattle.refusals.specs.Refusal.{Judged, refusedBy}
+use Rattle.refusals.specs.Verdict.{good}
+use Rattle.refusals.specs.Order.{placesAt}
 use Rattle.adv7194_fields.specs.Coding.{decode}
 use Rattle.adv7194_fields.specs.Fields.{Field, fields}
 use Rattle.adv7194_fields.proofs.Judging.{neither-l, neither-r}
 use Rattle.adv7194_signalling.specs.Kind.{kindOf}
-use Rattle.refusals.specs.Refusal.{Judged}
-use Rattle.adv7194_settings.specs.Order.{good, placesAt}
 use Rattle.adv7194_settings.specs.Rows.{conflict, is, squareWithOversampling, pedestalWithPal}
 use Rattle.adv7194_settings.specs.Codes.{wordAt}
 use Rattle.adv7194_image.specs.Wanted.{wordBytes}
 use Rattle.adv7194_reading_groups.specs.Held.{byteAt, codeHeld, readings, readingIn, readingAt, signallingHeld, settingsHeld}
-use Rattle.adv7194_reading_groups.specs.Rows.{refusedBy, sameBytes, registers, zeroBitSet, codedOtherwise, signalReserved, wordDisagrees, rowHeld}
+use Rattle.adv7194_reading_groups.specs.Rows.{sameBytes, registers, zeroBitSet, codedOtherwise, signalReserved, wordDisagrees, rowHeld}
 use Rattle.adv7194_reading.specs.Reading.{placesHeld, readOrder, readOf}
 use Rattle.adv7194_round_trip.proofs.FirstLaws.{among, all-clear, chosen-fails, and-fails, or-fails}
 use Rattle.adv7194_round_trip.proofs.NumberLaws.{AllReadable, all-readable}

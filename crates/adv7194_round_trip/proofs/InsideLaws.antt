@@ -10,12 +10,12 @@ use lib.ListN.{getD, set}
 use borrow.Author.Tests.{eq-eqb}
 use Rattle.bits.proofs.FieldLaws.{with-lt}
 use Rattle.bits.proofs.FlagLaws.{first, second}
-use Rattle.refusals.specs.Refusal.{Judged, accepted, refused}
+use Rattle.refusals.specs.Refusal.{Judged, accepted, refused, refusedBy}
 use Rattle.adv7194_fields.specs.Coding.{Format, isCode, outside, codeOf, encode}
 use Rattle.adv7194_fields.specs.Fields.{Field}
 use Rattle.adv7194_fields.proofs.Decoding.{code-has}
 use Rattle.adv7194_fields.proofs.Judging.{inside-coded}
-use Rattle.adv7194_settings.specs.Rows.{FieldCoding, together, numberCodings, codingIn, refusedWith}
+use Rattle.adv7194_settings.specs.Rows.{FieldCoding, together, numberCodings, codingIn}
 use Rattle.adv7194_settings.specs.Codes.{codesIn}
 use Rattle.adv7194_image.specs.Writes.{Write, put, puts, Each, AllHeld}
 use Rattle.adv7194_image.specs.Wanted.{numberWrites}
@@ -35,8 +35,8 @@ AllInside (f ∷ fs) (z ∷ zs) = (outside (f .format) z ≡ false) × AllInside
 
 -- a coding is no refusal
 pub record Taken (j : Judged (List ℕ)) : Type 0 where
-  pub not-3 : refusedWith 3 j ≡ false
-  pub not-4 : refusedWith 4 j ≡ false
+  pub not-3 : refusedBy 3 j ≡ false
+  pub not-4 : refusedBy 4 j ≡ false
 
 -- a setting whose coding is none
 taken-inside : (f : Format) (z : ℤ) → Taken (together (encode f z ∷ [])) → outside f z ≡ false
@@ -46,7 +46,7 @@ taken-inside f z t = by (outside f z) (isCode (f .coding) (f .width) z) (t .not-
     one : Bool → Bool → Judged (List ℕ)
     one b r = together (cond b (refused (cond r 4 3)) (accepted (codeOf f z)) ∷ [])
 
-    by : (b r : Bool) → refusedWith 3 (one b r) ≡ false → refusedWith 4 (one b r) ≡ false → b ≡ false
+    by : (b r : Bool) → refusedBy 3 (one b r) ≡ false → refusedBy 4 (one b r) ≡ false → b ≡ false
     by false r p q = refl
     by true true p q = absurd (subst T q tt)
     by true false p q = absurd (subst T p tt)

@@ -8,17 +8,16 @@ use lib.IntN.{ℤ, pos, negℤ}
 use lib.ListN.{getD}
 use borrow.Author.Tests.{eq-eqb}
 use Rattle.bits.proofs.FlagLaws.{first, second}
-use Rattle.refusals.specs.Refusal.{Judged, accepted, refused}
+use Rattle.refusals.specs.Refusal.{Judged, accepted, refused, refusedBy, refusedBy}
 use Rattle.adv7194_fields.specs.Coding.{Format, has, hasAt, leastMagnitude, settingAt, reserves, encode, decode}
 use Rattle.adv7194_fields.specs.Fields.{Field, fields}
 use Rattle.adv7194_fields.proofs.Decoding.{has-inside, has-code}
 use Rattle.adv7194_fields.proofs.Judging.{inside-coded}
-use Rattle.adv7194_settings.specs.Rows.{together, FieldCoding, numberCodings, numbers, refusedWith}
+use Rattle.adv7194_settings.specs.Rows.{together, FieldCoding, numberCodings, numbers}
 use Rattle.adv7194_settings.specs.Codes.{codesIn}
 use Rattle.adv7194_image.specs.Wanted.{numberWrites}
 use Rattle.adv7194_image.proofs.ApartLaws.{AllThere}
 use Rattle.adv7194_reading_groups.specs.Held.{codeHeld, readings, readingIn, readingAt, settingIn, settingsHeld}
-use Rattle.adv7194_reading_groups.specs.Rows.{refusedBy}
 
 -- ---- one code
 
@@ -106,7 +105,7 @@ codesHeld image (f ∷ fs) = codeHeld image f ∷ codesHeld image fs
 -- no coding of some is a refusal
 abbrev pub AllTaken : List FieldCoding → Type 0
 AllTaken [] = Unit {0}
-AllTaken (c ∷ cs) = ((n : ℕ) → refusedWith n (c .codes) ≡ false) × AllTaken cs
+AllTaken (c ∷ cs) = ((n : ℕ) → refusedBy n (c .codes) ≡ false) × AllTaken cs
 
 -- the first code of each
 abbrev pub firstCodes : List FieldCoding → List ℕ
@@ -130,7 +129,7 @@ pub held-taken : (image : List ℕ) (fs : List Field) (rest : List FieldCoding) 
 unfolding numberCodings
 held-taken image [] rest h q = q
 held-taken image (f ∷ fs) rest h q =
-    (λ n. ap (refusedWith n) (one-accepted (f .format) (codeHeld image f) (h .0)), held-taken image fs rest (h .1) q)
+    (λ n. ap (refusedBy n) (one-accepted (f .format) (codeHeld image f) (h .0)), held-taken image fs rest (h .1) q)
 
 -- and the codes held are there
 pub held-there : (image : List ℕ) (fs : List Field) → AllThere image (numberWrites fs (codesHeld image fs))

@@ -7,14 +7,15 @@ use native.Mathlib.Omega.{arith}
 use lib.Dec.{T, eqb}
 use lib.ListN.{length}
 use Rattle.bits.proofs.FlagLaws.{first, second}
-use Rattle.refusals.specs.Refusal.{Judged, accepted, refused}
+use Rattle.refusals.specs.Refusal.{Judged, accepted, refused, refusedBy}
+use Rattle.refusals.specs.Order.{placesAt}
 use Rattle.adv7194_fields.specs.Fields.{fields}
 use Rattle.adv7194_gamma.specs.Answer.{bytesIn}
 use Rattle.adv7194_settings.specs.declared.settings.Curve.{Curve}
 use Rattle.adv7194_settings.specs.declared.settings.Settings.{Settings}
 use Rattle.adv7194_settings.specs.declared.codes.Signal.{Signal}
-use Rattle.adv7194_settings.specs.Order.{placesAt, placesOf, order}
-use Rattle.adv7194_settings.specs.Rows.{numberCodings, numbers, codings, codingIn, codingAt, refusedWith, signallingOf, gammaOf, squareWithOversampling, pedestalWithPal, conflict, rowHolds}
+use Rattle.adv7194_settings.specs.Order.{placesOf, order}
+use Rattle.adv7194_settings.specs.Rows.{numberCodings, numbers, codings, codingIn, codingAt, signallingOf, gammaOf, squareWithOversampling, pedestalWithPal, conflict, rowHolds}
 use Rattle.adv7194_settings.specs.Codes.{codesIn, pointsBy, pointsOf, standardBy, codeAt, wordAt, codesOf}
 use Rattle.adv7194_settings.proofs.Codings.{Sound, coding-sound}
 use Rattle.adv7194_settings.proofs.GroupLaws.{signal-codes, curve-a-coding, curve-b-coding}
@@ -43,7 +44,7 @@ pub record Passed (s : Settings) : Type 0 where
   pub signal : signallingOf (s .signalling) ≡ accepted (codesIn (signallingOf (s .signalling)))
 
 -- a coding that refuses with 3 or 4 only, and with neither
-taken-accepted : (j : Judged (List ℕ)) → Sound j → refusedWith 3 j ≡ false → refusedWith 4 j ≡ false → j ≡ accepted (codesIn j)
+taken-accepted : (j : Judged (List ℕ)) → Sound j → refusedBy 3 j ≡ false → refusedBy 4 j ≡ false → j ≡ accepted (codesIn j)
 taken-accepted (accepted cs) h p q = refl
 taken-accepted (refused n) h p q = absurd (by (eqb n 3) (eqb n 4) p q (h .sound))
   where

@@ -6,13 +6,13 @@ use Prim.Native.Nat.{ℕ, _+_}
 use native.Mathlib.Omega.{arith}
 use lib.IntN.{ℤ}
 use lib.ListN.{drop, length-drop}
+use Rattle.refusals.specs.Refusal.{Judged, refusedBy}
+use Rattle.refusals.specs.Verdict.{good}
 use Rattle.adv7194_fields.specs.Fields.{fields}
 use Rattle.adv7194_gamma.specs.Answer.{bytesIn}
-use Rattle.refusals.specs.Refusal.{Judged}
 use Rattle.adv7194_settings.specs.declared.settings.Settings.{Settings}
 use Rattle.adv7194_settings.specs.declared.codes.Signal.{Signal}
-use Rattle.adv7194_settings.specs.Order.{good}
-use Rattle.adv7194_settings.specs.Rows.{codings, codingAt, numberCodings, gammaOf, refusedWith}
+use Rattle.adv7194_settings.specs.Rows.{codings, codingAt, numberCodings, gammaOf}
 use Rattle.adv7194_settings.specs.Codes.{codesIn, pointsBy, pointsOf, codesOf}
 use Rattle.adv7194_settings.proofs.GroupLaws.{signal-codes, curve-a-coding, curve-b-coding}
 use Rattle.adv7194_image.specs.Writes.{held}
@@ -35,7 +35,7 @@ held-passing : (image : List ℕ) → Bytes image → Held image → Passing (se
 unfolding codings settingsHeld
 held-passing image b h =
     let s = settingsHeld image in
-    let curve-taken : (r n : ℕ) → refusedWith n (gammaOf (curveAt image r)) ≡ false = λ r n. ap (refusedWith n) (curve-coded image b r) in
+    let curve-taken : (r n : ℕ) → refusedBy n (gammaOf (curveAt image r)) ≡ false = λ r n. ap (refusedBy n) (curve-coded image b r) in
     let others : AllTaken (blockCodings s) = (signal-held image b (h .signal) .taken, (curve-taken 0x26, (curve-taken 0x2D, tt))) in
     record {
       taken = subst (λ (zs : List ℤ). AllTaken (numberCodings fields zs ++ blockCodings s)) (sym (numbers-held image)) (held-taken image fields (blockCodings s) (h .readable) others);

@@ -10,8 +10,8 @@ use lib.Signed.{pos-natAbs}
 use Rattle.bits.specs.Fields.{bit}
 use Rattle.bits.specs.Strings.{lsbFirst, lsbValue}
 use Rattle.bits.proofs.StringLaws.{lsb-length, lsb-value}
+use Rattle.refusals.specs.Refusal.{Judged, accepted, refusedBy}
 use Rattle.rounding.proofs.Range.{below, below-at, imp, imp→not, T→true}
-use Rattle.refusals.specs.Refusal.{Judged, accepted}
 use Rattle.adv7194_fields.proofs.Judging.{neither-l, neither-r}
 use Rattle.adv7194_signalling.specs.Kind as kinds
 use Rattle.adv7194_signalling.specs.Kind.{kindOf, kindBy}
@@ -31,7 +31,7 @@ use Rattle.adv7194_settings.proofs.ByKind.{off-is, cgms-is, wss-is, no-kind-is}
 use Rattle.adv7194_image.specs.Wanted.{byteWrites, signalWrites}
 use Rattle.adv7194_image.proofs.ApartLaws.{AllThere}
 use Rattle.adv7194_reading_groups.specs.Held.{byteAt, signalBytes, wordNumber, yesNoAt, silent, signallingBy, signallingHeld}
-use Rattle.adv7194_reading_groups.specs.Rows.{refusedBy, sameBytes, codedOtherwise}
+use Rattle.adv7194_reading_groups.specs.Rows.{sameBytes, codedOtherwise}
 use Rattle.adv7194_round_trip.specs.RoundTrip.{Bytes}
 use Rattle.adv7194_round_trip.proofs.FirstLaws.{and-fails, or-fails}
 use Rattle.adv7194_round_trip.proofs.ByteLaws.{whole, same-self}

@@ -5,18 +5,18 @@ use mathlib.Core.List.{List}
 use Prim.Native.Nat.{ℕ, _<_}
 use lib.Dec.{T, eqb, eqb→eq}
 use Rattle.bits.specs.Fields.{field}
+use Rattle.refusals.specs.Refusal.{Judged, accepted, refused, refusedBy, refusedBy}
 use Rattle.rounding.proofs.Range.{below-at, imp, imp→}
-use Rattle.refusals.specs.Refusal.{Judged, accepted, refused}
 use Rattle.adv7194_signalling.specs.Kind as kinds
 use Rattle.adv7194_signalling.specs.Kind.{kindOf}
 use Rattle.adv7194_settings.specs.declared.settings.Signalling.{Signalling}
-use Rattle.adv7194_settings.specs.Rows.{is, signallingOf, refusedWith}
+use Rattle.adv7194_settings.specs.Rows.{is, signallingOf}
 use Rattle.adv7194_settings.specs.Codes.{codesIn, signalBy}
 use Rattle.adv7194_settings.proofs.ByKind.{off-is}
 use Rattle.adv7194_image.specs.Wanted.{byteWrites, signalWrites}
 use Rattle.adv7194_image.proofs.ApartLaws.{AllThere}
 use Rattle.adv7194_reading_groups.specs.Held.{byteAt, signalBytes, silent, signallingBy, signallingHeld}
-use Rattle.adv7194_reading_groups.specs.Rows.{refusedBy, sameBytes, codedOtherwise}
+use Rattle.adv7194_reading_groups.specs.Rows.{sameBytes, codedOtherwise}
 use Rattle.adv7194_round_trip.specs.RoundTrip.{Bytes}
 use Rattle.adv7194_round_trip.proofs.ByteLaws.{same-bytes, whole}
 
@@ -58,7 +58,7 @@ never-else b h = below-at (λ b. not (refusedElse (kindOf b))) 256 tt b h
 
 -- a coding of field 11 is taken, and it is what the image has there
 pub record Signalled (image : List ℕ) (j : Judged (List ℕ)) : Type 0 where
-  pub taken : (n : ℕ) → refusedWith n j ≡ false
+  pub taken : (n : ℕ) → refusedBy n j ≡ false
   pub there : AllThere image (signalWrites (signalBy (codesIn j)))
 
 -- a coding that is the registers' bytes

@@ -10,10 +10,10 @@ use lib.ListN.{length, getD, drop}
 use lib.Seq.{getD-drop}
 use lib.Signed.{leZ}
 use borrow.Author.Tests.{leb-true}
+use Rattle.refusals.specs.Refusal.{Judged, accepted, refused, codeIn}
 use Rattle.rounding.specs.Nearest.{nearest}
 use Rattle.rounding.proofs.Rounding.{nearest-is}
 use Rattle.bits.proofs.FlagLaws.{first, second}
-use Rattle.refusals.specs.Refusal.{Judged, accepted, refused}
 use Rattle.adv7194_fields.specs.Coding.{encode, outside, codeOf, codeBy}
 use Rattle.adv7194_fields.proofs.Judging.{in-range}
 use Rattle.adv7194_subcarrier.specs.declared.Standard.{Standard}
@@ -25,7 +25,6 @@ use Rattle.adv7194_signalling.proofs.FlagLaws.{both}
 use Rattle.adv7194_settings.specs.declared.settings.Curve.{Curve}
 use Rattle.adv7194_settings.specs.Rows.{is, before, together, curveByte, bytesSet, gammaOf}
 use Rattle.adv7194_settings.specs.Codes.{codesIn, pointsBy}
-use Rattle.adv7194_settings.specs.Answers.{codeIn}
 use Rattle.adv7194_gamma.specs.Answer.{bytesIn}
 use Rattle.adv7194_image.specs.Wanted.{byteWrites, wordBytes}
 use Rattle.adv7194_image.proofs.ApartLaws.{AllThere}

@@ -7,9 +7,10 @@ use native.Mathlib.Omega.{arith}
 use lib.Dec.{eqb}
 use lib.IntN.{ℤ}
 use lib.ListN.{length, getD, take, drop, length-drop}
+use Rattle.refusals.specs.Refusal.{Judged, accepted}
+use Rattle.refusals.specs.Verdict.{good}
 use Rattle.rounding.specs.First.{firstFrom}
 use Rattle.rounding.proofs.Range.{eqZ, eqZ→eq}
-use Rattle.refusals.specs.Refusal.{Judged, accepted}
 use Rattle.adv7194_fields.specs.Coding.{codeBy, codeOf, outside, decode}
 use Rattle.adv7194_fields.specs.Fields.{fields, standard, yesNo}
 use Rattle.adv7194_fields.proofs.Judging.{in-range}
@@ -20,7 +21,7 @@ use Rattle.adv7194_settings.specs.declared.settings.Timing.{Timing}
 use Rattle.adv7194_settings.specs.declared.settings.Settings.{Settings}
 use Rattle.adv7194_settings.specs.declared.codes.Signal.{Signal}
 use Rattle.adv7194_settings.specs.declared.codes.Codes.{Codes}
-use Rattle.adv7194_settings.specs.Order.{good, order}
+use Rattle.adv7194_settings.specs.Order.{order}
 use Rattle.adv7194_settings.specs.Rows.{numberCodings, numbers, codings, codingIn, codingAt, signallingOf, squareWithOversampling, pedestalWithPal, conflict, rowHolds}
 use Rattle.adv7194_settings.specs.Codes.{codesIn, pointsBy, signalBy, signalOf, pointsOf, standardBy, codeAt, wordAt, timingOf, outputOf, pictureOf, gainsOf, modeOf, codesOf, checkOf}
 use Rattle.adv7194_settings.proofs.GroupLaws.{signal-codes, curve-a-coding, curve-b-coding}

@@ -4,9 +4,9 @@ use mathlib.Core.Path.{_≡_}
 use mathlib.Core.List.{List}
 use Prim.Native.Nat.{ℕ, _<_}
 use lib.ListN.{getD}
+use Rattle.refusals.specs.Verdict.{good}
 use Rattle.adv7194_settings.specs.declared.settings.Settings.{Settings}
 use Rattle.adv7194_settings.specs.declared.codes.Codes.{Codes}
-use Rattle.adv7194_settings.specs.Order.{good}
 use Rattle.adv7194_settings.specs.Codes.{codesOf, checkOf}
 use Rattle.adv7194_image.specs.Wanted.{wantedOf}
 use Rattle.adv7194_reading_groups.specs.Held.{settingsHeld}

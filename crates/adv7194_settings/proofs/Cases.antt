@@ -5,6 +5,8 @@ use Prim.Native.Nat.{ℕ}
 use lib.Dec.{T, eqb}
 use lib.IntN.{ℤ, pos, negℤ}
 use Rattle.bits.specs.Strings.{lsbFirst}
+use Rattle.refusals.specs.Verdict.{Verdict, good, refusedAt}
+use Rattle.refusals.specs.Order.{firstOf, placesAt}
 use Rattle.adv7194_fields.specs.Coding.{encode}
 use Rattle.adv7194_fields.specs.Fields.{fields}
 use Rattle.adv7194_signalling.specs.Cgms.{cgmsOf}
@@ -15,7 +17,7 @@ use Rattle.adv7194_settings.specs.declared.settings.Signalling.{Signalli
 use Rattle.adv7194_settings.specs.declared.settings.Picture.{Picture}
 use Rattle.adv7194_settings.specs.declared.settings.Mode.{Mode}
 use Rattle.adv7194_settings.specs.declared.settings.Settings.{Settings}
-use Rattle.adv7194_settings.specs.Order.{Verdict, good, refusedAt, firstOf, placesAt, placesOf, order}
+use Rattle.adv7194_settings.specs.Order.{placesOf, order}
 use Rattle.adv7194_settings.specs.Rows.{together, signallingOf, gammaOf, bytesSet, numberCodings, codings, codingIn, codingAt, rowHolds}
 use Rattle.adv7194_settings.specs.House.{house}
 use Rattle.adv7194_settings.specs.Codes.{checkOf}

@@ -5,15 +5,18 @@ use mathlib.Core.List.{List, [], _∷_, _++_}
 use Prim.Native.Nat.{ℕ}
 use native.Mathlib.Omega.{arith}
 use Rattle.refusals.specs.Refusal.{Judged}
+use Rattle.refusals.specs.Verdict.{Verdict, good, refusedAt, after, faultOf}
+use Rattle.refusals.specs.Order.{firstOf}
+use Rattle.refusals.proofs.VerdictLaws.{after-assoc}
+use Rattle.refusals.proofs.OrderLaws.{with-value}
 use Rattle.adv7194_settings.specs.declared.codes.Codes.{Codes}
 use Rattle.adv7194_settings.specs.declared.settings.Settings.{Settings}
-use Rattle.adv7194_settings.specs.Order.{Verdict, good, refusedAt, firstOf, placesOf, fieldOrder, order}
+use Rattle.adv7194_settings.specs.Order.{placesOf, fieldOrder, order}
 use Rattle.adv7194_settings.specs.Rows.{signallingOf, gammaOf, codingAt, rowHolds}
 use Rattle.adv7194_settings.specs.Codes.{codesIn, signalBy, pointsBy, timingOf, outputOf, signalOf, pictureOf, gainsOf, modeOf, pointsOf, codesOf, checkOf}
-use Rattle.adv7194_settings.specs.Answers.{after, faultOf, faultIn, refusalOf}
+use Rattle.adv7194_settings.specs.Answers.{faultIn, refusalOf}
 use Rattle.adv7194_settings.specs.Groups.{inTurn, timingFaults, timingCodes, outputFaults, outputCodes, pictureFaults, pictureCodes, gainsFaults, gainsCodes, modeFaults, modeCodes, signalFaults}
-use Rattle.adv7194_settings.proofs.Faults.{after-assoc}
-use Rattle.adv7194_settings.proofs.GroupLaws.{joined, with-value, one-field, timing-fault, timing-codes, output-fault, output-codes, signal-fault, signal-codes, picture-fault, picture-codes, gains-fault, gains-codes, mode-fault, mode-codes, curve-a-coding, curve-b-coding}
+use Rattle.adv7194_settings.proofs.GroupLaws.{joined, one-field, timing-fault, timing-codes, output-fault, output-codes, signal-fault, signal-codes, picture-fault, picture-codes, gains-fault, gains-codes, mode-fault, mode-codes, curve-a-coding, curve-b-coding}
 
 abbrev Found : Type 0
 Found = Verdict (Unit {0})

@@ -4,48 +4,27 @@ use mathlib.Core.Bool.{Bool, true, false, cond, not, _&&_, _||_}
 use mathlib.Core.List.{List, [], _∷_, _++_}
 use Prim.Native.Nat.{ℕ}
 use lib.Dec.{T, eqb, eqb→eq}
-use Rattle.refusals.specs.Refusal.{Judged, accepted, refused}
+use Rattle.refusals.specs.Refusal.{Judged, accepted, refused, refusedBy, codeIn}
+use Rattle.refusals.specs.Verdict.{Verdict, good, refusedAt, after, faultOf}
+use Rattle.refusals.specs.Order.{firstOf, placesAt}
+use Rattle.refusals.proofs.VerdictLaws.{after-good, after-assoc}
+use Rattle.refusals.proofs.OrderLaws.{first-append}
 use Rattle.adv7194_settings.specs.declared.settings.Settings.{Settings}
-use Rattle.adv7194_settings.specs.Order.{Verdict, good, refusedAt, Place, firstOf, placesAt, placesOf, rowsAt}
-use Rattle.adv7194_settings.specs.Rows.{together, codingAt, refusedWith, rowHolds}
+use Rattle.adv7194_settings.specs.Order.{placesOf, rowsAt}
+use Rattle.adv7194_settings.specs.Rows.{together, codingAt, rowHolds}
 use Rattle.adv7194_settings.specs.Codes.{codeAt}
-use Rattle.adv7194_settings.specs.Answers.{after, faultOf, faultWhere, codeIn, faultIn}
+use Rattle.adv7194_settings.specs.Answers.{faultIn}
 use Rattle.adv7194_settings.specs.Groups.{inTurn}
 use Rattle.adv7194_settings.proofs.Codings.{Sound, coding-sound}
 
 abbrev Found : Type 0
 Found = Verdict (Unit {0})
 
--- ---- verdicts in turn
-
-pub after-good : (v : Found) → after v (good tt) ≡ v
-after-good (good tt) = refl
-after-good (refusedAt n f) = refl
-
-pub after-assoc : {A : Type 0} (u v : Found) (w : Verdict A) → after (after u v) w ≡ after u (after v w)
-after-assoc (good a) v w = refl
-after-assoc (refusedAt n f) v w = refl
-
--- a place before others
-pub chosen : {A : Type 0} (b : Bool) (n f : ℕ) (v : Verdict A) → cond b (refusedAt n f) v ≡ after (faultWhere b n f) v
-chosen true n f v = refl
-chosen false n f v = refl
-
--- the places of one list before those of another
-pub first-append : {A : Type 0} (holds : ℕ → ℕ → Bool) (ps qs : List Place) (a : A) → firstOf holds (ps ++ qs) a ≡ after (firstOf holds ps (tt {0})) (firstOf holds qs a)
-unfolding firstOf
-first-append holds [] qs a = refl
-first-append holds (p ∷ ps) qs a =
-    chosen (holds (p .row) (p .field)) (p .row) (p .field) (firstOf holds (ps ++ qs) a)
-    ∙ ap (after (faultWhere (holds (p .row) (p .field)) (p .row) (p .field))) (first-append holds ps qs a)
-    ∙ sym (after-assoc (faultWhere (holds (p .row) (p .field)) (p .row) (p .field)) (firstOf holds ps (tt {0})) (firstOf holds qs a))
-    ∙ ap (λ (v : Found). after v (firstOf holds qs a)) (sym (chosen (holds (p .row) (p .field)) (p .row) (p .field) (firstOf holds ps (tt {0}))))
-
 -- ---- rows 3 and 4
 
 -- rows 3 and 4 at a field, and what comes after them
 pub coding-rows : (f : ℕ) (j : Judged (List ℕ)) (v : Found) → Sound j
-    → cond (refusedWith 3 j) (refusedAt 3 f) (cond (refusedWith 4 j) (refusedAt 4 f) v) ≡ after (faultOf f j) v
+    → cond (refusedBy 3 j) (refusedAt 3 f) (cond (refusedBy 4 j) (refusedAt 4 f) v) ≡ after (faultOf f j) v
 coding-rows f (accepted cs) v h = refl
 coding-rows f (refused n) v h = by (eqb n 3) (eqb n 4) refl refl (h .sound)
   where

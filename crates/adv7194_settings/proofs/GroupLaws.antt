@@ -5,17 +5,21 @@ use mathlib.Core.Bool.{Bool, cond}
 use mathlib.Core.List.{List, [], _∷_, _++_, append-assoc, append-nil}
 use Prim.Native.Nat.{ℕ}
 use lib.Dec.{T}
-use Rattle.refusals.specs.Refusal.{Judged}
+use Rattle.refusals.specs.Refusal.{Judged, refusedBy}
+use Rattle.refusals.specs.Verdict.{Verdict, good, refusedAt, after, faultOf, faultWhere}
+use Rattle.refusals.specs.Order.{Place, firstOf, placesAt}
+use Rattle.refusals.proofs.VerdictLaws.{after-good, row-before}
+use Rattle.refusals.proofs.OrderLaws.{first-append}
 use Rattle.adv7194_fields.specs.Coding.{encode}
 use Rattle.adv7194_fields.specs.Fields.{fields, blockOffset, brightness, clampDelay, contrast, dnrInput, gain, hue, phase, scale, sharpness, standard, threshold, uvLevel, yesNo}
 use Rattle.adv7194_settings.specs.declared.settings.Settings.{Settings}
-use Rattle.adv7194_settings.specs.Order.{Verdict, good, refusedAt, Place, firstOf, placesAt, placesOf, rowsAt}
-use Rattle.adv7194_settings.specs.Rows.{together, signallingOf, gammaOf, numberCodings, codings, codingIn, codingAt, refusedWith, squareWithOversampling, pedestalWithPal, conflict, rowHolds}
+use Rattle.adv7194_settings.specs.Order.{placesOf, rowsAt}
+use Rattle.adv7194_settings.specs.Rows.{together, signallingOf, gammaOf, numberCodings, codings, codingIn, codingAt, squareWithOversampling, pedestalWithPal, conflict, rowHolds}
 use Rattle.adv7194_settings.specs.Codes.{codesIn, signalBy, timingOf, outputOf, signalOf, pictureOf, gainsOf, modeOf}
-use Rattle.adv7194_settings.specs.Answers.{after, faultOf, faultWhere, faultIn}
+use Rattle.adv7194_settings.specs.Answers.{faultIn}
 use Rattle.adv7194_settings.specs.Groups.{inTurn, timingFaults, timingCodes, outputFaults, outputCodes, pictureFaults, pictureCodes, gainsFaults, gainsCodes, modeFaults, modeCodes, signalFaults}
 use Rattle.adv7194_settings.proofs.Codings.{coding-sound}
-use Rattle.adv7194_settings.proofs.Faults.{after-good, chosen, first-append, coding-rows, noted-faults, number-code, one-fault, alone, alone-fault, turn-after}
+use Rattle.adv7194_settings.proofs.Faults.{coding-rows, noted-faults, number-code, one-fault, alone, alone-fault, turn-after}
 
 abbrev Found : Type 0
 Found = Verdict (Unit {0})
@@ -31,11 +35,6 @@ places-append (f ∷ fs) gs = ap (λ (l : List Place). placesAt (rowsAt f) f ++ 
 pub joined : (s : Settings) (fs gs : List ℕ) → after (faultIn s fs) (faultIn s gs) ≡ faultIn s (fs ++ gs)
 unfolding faultIn
 joined s fs gs = sym (ap (λ (l : List Place). firstOf (rowHolds s) l (tt {0})) (places-append fs gs) ∙ first-append (rowHolds s) (placesOf fs) (placesOf gs) tt)
-
--- a value where there is no fault
-pub with-value : {A : Type 0} (holds : ℕ → ℕ → Bool) (ps : List Place) (a : A) → after (firstOf holds ps (tt {0})) (good a) ≡ firstOf holds ps a
-unfolding firstOf
-with-value holds ps a = sym (ap (λ (l : List Place). firstOf holds l a) (sym (append-nil ps)) ∙ first-append holds ps [] a)
 
 -- a field that no other one is set against
 pub one-field : (s : Settings) (f : ℕ) → T (alone f) → faultOf f (codingAt s f) ≡ faultIn s (f ∷ [])
@@ -164,10 +163,10 @@ pub timing-fault : (s : Settings) → inTurn (good tt) (timingFaults (s .timing)
 unfolding faultIn firstOf placesAt placesOf rowHolds codingAt codings codingIn numberCodings fields
 timing-fault s =
     let at : (f : ℕ) (j : Judged ℕ) (v w : Found) → codingAt s f ≡ together (j ∷ []) → v ≡ w
-    → after (faultOf f j) v ≡ cond (refusedWith 3 (codingAt s f)) (refusedAt 3 f) (cond (refusedWith 4 (codingAt s f)) (refusedAt 4 f) w) =
+    → after (faultOf f j) v ≡ cond (refusedBy 3 (codingAt s f)) (refusedAt 3 f) (cond (refusedBy 4 (codingAt s f)) (refusedAt 4 f) w) =
     λ f j v w e p. ap₂ (λ (x : Found) (y : Found). after x y) (sym (ap (faultOf f) e ∙ one-fault f j)) p ∙ sym (coding-rows f (codingAt s f) w (coding-sound s f)) in
     let against : (b : Bool) (n f : ℕ) (v w : Found) → v ≡ w → after (faultWhere b n f) v ≡ cond b (refusedAt n f) w =
-    λ b n f v w p. ap (after (faultWhere b n f)) p ∙ sym (chosen b n f w) in
+    λ b n f v w p. ap (after (faultWhere b n f)) p ∙ sym (row-before b n f w) in
     let t = s .timing in
     from-left (timingFaults t)
     ∙ at 1 (encode standard (t .standard)) _ _ refl
@@ -181,7 +180,7 @@ unfolding faultIn firstOf placesAt placesOf rowHolds codingAt codings codingIn n
 signal-fault s =
     ap (after (faultWhere (conflict (s .timing .standard) (s .signalling)) 7 11))
     (sym (coding-rows 11 (codingAt s 11) (good tt) (coding-sound s 11) ∙ after-good (faultOf 11 (codingAt s 11))))
-    ∙ sym (chosen (conflict (s .timing .standard) (s .signalling)) 7 11 _)
+    ∙ sym (row-before (conflict (s .timing .standard) (s .signalling)) 7 11 _)
 
 pub signal-codes : (s : Settings) → signalBy (codesIn (signallingOf (s .signalling))) ≡ signalOf s
 unfolding signalOf codingAt codings codingIn numberCodings fields

@@ -8,12 +8,11 @@ use lib.Dec.{eqb}
 use lib.IntN.{ℤ, pos, negsuc}
 use lib.Signed.{ltZ}
 use borrow.Author.Tests.{ltb-false}
-use Rattle.refusals.specs.Refusal.{accepted, refused}
+use Rattle.refusals.specs.Refusal.{accepted, refused, codeIn}
+use Rattle.refusals.specs.Verdict.{after, faultWhere, good}
 use Rattle.adv7194_fields.specs.Coding.{encode, codeBy, isCode, plain}
 use Rattle.adv7194_fields.specs.Fields.{plainTo}
 use Rattle.adv7194_settings.specs.Rows.{is}
-use Rattle.adv7194_settings.specs.Answers.{after, faultWhere, codeIn}
-use Rattle.adv7194_settings.specs.Order.{good}
 use Rattle.adv7194_settings.proofs.Turns.{Found, dueFrom, on-where}
 
 -- a row that doesn't hold lets the next faults come

@@ -4,13 +4,13 @@ use mathlib.Core.Bool.{Bool, true, false}
 use mathlib.Core.List.{List, [], _∷_}
 use Prim.Native.Nat.{ℕ}
 use Rattle.refusals.specs.declared.Refusal.{Refusal}
-use Rattle.refusals.specs.Refusal.{Judged, accepted, refused}
+use Rattle.refusals.specs.Refusal.{Judged, accepted, refused, codeIn}
+use Rattle.refusals.specs.Verdict.{Verdict, good, refusedAt, after, faultOf, faultWhere}
 use Rattle.adv7194_fields.specs.declared.Coded.{Coded}
 use Rattle.adv7194_fields.specs.declared.Coded.the-variants.{Code, Refused}
 use Rattle.adv7194_fields.specs.Answers.{coded}
 use Rattle.adv7194_settings.specs.declared.fault.Fault.{Fault}
-use Rattle.adv7194_settings.specs.Order.{Verdict, good, refusedAt}
-use Rattle.adv7194_settings.specs.Answers.{after, faultAs, faultBy, faultOf, faultWhere, codeIn}
+use Rattle.adv7194_settings.specs.Answers.{faultAs, faultBy}
 use Rattle.adv7194_settings.specs.Groups.{inTurn}
 use Rattle.adv7194_settings.proofs.Faults.{turn-after}
 

@@ -6,6 +6,8 @@ use Prim.Native.Nat.{ℕ}
 use lib.Dec.{eqb}
 use lib.ListN.{getD}
 use Rattle.refusals.specs.Refusal.{Judged, accepted, refused}
+use Rattle.refusals.specs.Verdict.{Verdict}
+use Rattle.refusals.specs.Order.{firstOf}
 use Rattle.adv7194_subcarrier.specs.declared.Standard.{Standard}
 use Rattle.adv7194_subcarrier.specs.declared.Standard.the-variants.{Ntsc, Pal}
 use Rattle.adv7194_subcarrier.specs.Subcarrier.{wordOf}
@@ -19,7 +21,7 @@ use Rattle.adv7194_settings.specs.declared.codes.PictureCodes.{PictureCo
 use Rattle.adv7194_settings.specs.declared.codes.GainsCodes.{GainsCodes}
 use Rattle.adv7194_settings.specs.declared.codes.ModeCodes.{ModeCodes}
 use Rattle.adv7194_settings.specs.declared.codes.Codes.{Codes}
-use Rattle.adv7194_settings.specs.Order.{Verdict, firstOf, order}
+use Rattle.adv7194_settings.specs.Order.{order}
 use Rattle.adv7194_settings.specs.Rows.{codingAt, rowHolds}
 
 -- the codes of a coding; none where it is a refusal

@@ -1,6 +1,8 @@
 -- What the check of each group of fields answers: the first fault of its fields, and their codes.
 use mathlib.Core.List.{List, [], _∷_}
 use lib.IntN.{ℤ}
+use Rattle.refusals.specs.Refusal.{codeIn}
+use Rattle.refusals.specs.Verdict.{Verdict, after, faultOf, faultWhere}
 use Rattle.adv7194_fields.specs.Coding.{encode}
 use Rattle.adv7194_fields.specs.Fields.{blockOffset, brightness, clampDelay, contrast, dnrInput, gain, hue, phase, scale, sharpness, standard, threshold, uvLevel, yesNo}
 use Rattle.adv7194_settings.specs.declared.settings.Timing.{Timing}
@@ -14,10 +16,8 @@ use Rattle.adv7194_settings.specs.declared.settings.Gains.{Gains}
 use Rattle.adv7194_settings.specs.declared.codes.GainsCodes.{GainsCodes}
 use Rattle.adv7194_settings.specs.declared.settings.Mode.{Mode}
 use Rattle.adv7194_settings.specs.declared.codes.ModeCodes.{ModeCodes}
-use Rattle.adv7194_settings.specs.Order.{Verdict}
 use Rattle.adv7194_settings.specs.Rows.{signallingOf, squareWithOversampling, pedestalWithPal, conflict}
 use Rattle.adv7194_settings.specs.Codes.{standardBy}
-use Rattle.adv7194_settings.specs.Answers.{after, faultOf, faultWhere, codeIn}
 
 -- the first of some faults, after an earlier one
 abbrev pub inTurn : Verdict (Unit {0}) → List (Verdict (Unit {0})) → Verdict (Unit {0})

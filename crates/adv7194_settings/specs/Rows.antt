@@ -4,7 +4,7 @@ use mathlib.Core.List.{List, [], _∷_, _++_}
 use Prim.Native.Nat.{ℕ}
 use lib.Dec.{eqb}
 use lib.IntN.{ℤ, pos, negsuc}
-use Rattle.refusals.specs.Refusal.{Judged, accepted, refused}
+use Rattle.refusals.specs.Refusal.{Judged, accepted, refused, refusedBy}
 use Rattle.adv7194_fields.specs.Coding.{Format, encode}
 use Rattle.adv7194_fields.specs.Fields.{Field, fields, plainTo}
 use Rattle.adv7194_signalling.specs.Cgms.{cgmsOf}
@@ -121,11 +121,6 @@ codingAt s f = codingIn (codings s) f
 
 -- ---- the rows
 
--- rows 3 and 4: a number is outside its range; a code is reserved, or WSS breaks its odd count. The field's coding says which
-abbrev pub refusedWith : ℕ → Judged (List ℕ) → Bool
-refusedWith n (accepted cs) = false
-refusedWith n (refused k) = eqb k n
-
 -- row 5: square pixel with 4x
 abbrev pub squareWithOversampling : Timing → Bool
 squareWithOversampling t = is 1 (t .«square_pixel») && is 1 (t .oversampling)
@@ -138,11 +133,12 @@ pedestalWithPal t = is 1 (t .pedestal) && is 1 (t .standard)
 abbrev pub conflict : ℤ → Signalling → Bool
 conflict standard g = is 1 (g .kind) && (is 1 standard || is 0 (g .odd) && is 0 (g .even)) || is 2 (g .kind) && is 0 standard
 
--- row n holds of the settings at field f
+-- row n holds of the settings at field f. Rows 3 and 4 are said by the field's coding: a number is outside its range; a code is reserved, or WSS
+-- breaks its odd count
 unfoldable pub rowHolds : Settings → ℕ → ℕ → Bool
 rowHolds s n f =
-    cond (eqb n 3) (refusedWith 3 (codingAt s f))
-    (cond (eqb n 4) (refusedWith 4 (codingAt s f))
+    cond (eqb n 3) (refusedBy 3 (codingAt s f))
+    (cond (eqb n 4) (refusedBy 4 (codingAt s f))
     (cond (eqb n 5) (eqb f 3 && squareWithOversampling (s .timing))
     (cond (eqb n 6) (eqb f 4 && pedestalWithPal (s .timing))
     (eqb n 7 && (eqb f 11 && conflict (s .timing .standard) (s .signalling))))))

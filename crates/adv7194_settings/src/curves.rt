@@ -1,11 +1,11 @@
 // The check of fields 26 and 27, the gamma curves.
 ghost use mathlib.Core.Path.{_≡_};
 ghost use Rattle.refusals.specs.Refusal.{refused};
+ghost use Rattle.refusals.specs.Verdict.{good, after, faultOf};
 ghost use Rattle.adv7194_gamma.specs.Answer.{judged};
-ghost use Rattle.adv7194_settings.specs.Order.{good};
 ghost use Rattle.adv7194_settings.specs.Rows.{bytesSet, gammaOf};
 ghost use Rattle.adv7194_settings.specs.Codes.{pointsBy, codesIn};
-ghost use Rattle.adv7194_settings.specs.Answers.{after, faultOf, curveAs};
+ghost use Rattle.adv7194_settings.specs.Answers.{curveAs};
 use crate::fault::Fault;
 use crate::fault::is;
 use crate::settings::Curve;

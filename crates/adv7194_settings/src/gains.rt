@@ -1,7 +1,7 @@
 // The check of fields 18 to 22.
 ghost use mathlib.Core.Path.{_≡_};
-ghost use Rattle.adv7194_settings.specs.Order.{good};
-ghost use Rattle.adv7194_settings.specs.Answers.{after, gainsAs};
+ghost use Rattle.refusals.specs.Verdict.{good, after};
+ghost use Rattle.adv7194_settings.specs.Answers.{gainsAs};
 ghost use Rattle.adv7194_settings.specs.Groups.{inTurn, gainsFaults, gainsCodes};
 use crate::codes::GainsCodes;
 use crate::fault::Fault;

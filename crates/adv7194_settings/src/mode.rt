@@ -1,7 +1,7 @@
 // The check of fields 23 to 25.
 ghost use mathlib.Core.Path.{_≡_};
-ghost use Rattle.adv7194_settings.specs.Order.{good};
-ghost use Rattle.adv7194_settings.specs.Answers.{after, modeAs};
+ghost use Rattle.refusals.specs.Verdict.{good, after};
+ghost use Rattle.adv7194_settings.specs.Answers.{modeAs};
 ghost use Rattle.adv7194_settings.specs.Groups.{inTurn, modeFaults, modeCodes};
 use crate::codes::ModeCodes;
 use crate::fault::Fault;

@@ -1,7 +1,7 @@
 // The check of fields 5 to 10.
 ghost use mathlib.Core.Path.{_≡_};
-ghost use Rattle.adv7194_settings.specs.Order.{good};
-ghost use Rattle.adv7194_settings.specs.Answers.{after, outputAs};
+ghost use Rattle.refusals.specs.Verdict.{good, after};
+ghost use Rattle.adv7194_settings.specs.Answers.{outputAs};
 ghost use Rattle.adv7194_settings.specs.Groups.{inTurn, outputFaults, outputCodes};
 use crate::codes::OutputCodes;
 use crate::fault::Fault;

@@ -1,7 +1,7 @@
 // The check of fields 12 to 17.
 ghost use mathlib.Core.Path.{_≡_};
-ghost use Rattle.adv7194_settings.specs.Order.{good};
-ghost use Rattle.adv7194_settings.specs.Answers.{after, pictureAs};
+ghost use Rattle.refusals.specs.Verdict.{good, after};
+ghost use Rattle.adv7194_settings.specs.Answers.{pictureAs};
 ghost use Rattle.adv7194_settings.specs.Groups.{inTurn, pictureFaults, pictureCodes};
 use crate::codes::PictureCodes;
 use crate::fault::Fault;

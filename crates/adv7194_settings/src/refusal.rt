@@ -1,6 +1,6 @@
 // The fault of a group of fields as the check's answer.
 ghost use mathlib.Core.Path.{_≡_};
-ghost use Rattle.adv7194_settings.specs.Order.{refusedAt};
+ghost use Rattle.refusals.specs.Verdict.{refusedAt};
 ghost use Rattle.adv7194_settings.specs.Answers.{checkedAs, answerBy, refusalOf, timingAs, outputAs, signalAs, pictureAs, gainsAs, modeAs, curveAs};
 use crate::checking::Checked;
 use crate::curves::CurveChecked;

@@ -1,10 +1,10 @@
 // The check of field 11, signalling.
 ghost use mathlib.Core.Path.{_≡_};
+ghost use Rattle.refusals.specs.Verdict.{good, after, faultOf};
 ghost use Rattle.adv7194_signalling.specs.Word.{codedAs};
-ghost use Rattle.adv7194_settings.specs.Order.{good};
 ghost use Rattle.adv7194_settings.specs.Rows.{signallingOf};
 ghost use Rattle.adv7194_settings.specs.Codes.{signalBy, codesIn};
-ghost use Rattle.adv7194_settings.specs.Answers.{after, faultOf, signalAs};
+ghost use Rattle.adv7194_settings.specs.Answers.{signalAs};
 ghost use Rattle.adv7194_settings.specs.Groups.{inTurn, signalFaults};
 use crate::codes::Signal;
 use crate::fault::Fault;

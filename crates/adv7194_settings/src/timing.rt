@@ -1,8 +1,8 @@
 // The check of fields 1 to 4.
 ghost use mathlib.Core.Path.{_≡_};
+ghost use Rattle.refusals.specs.Verdict.{good, after};
 ghost use Rattle.adv7194_settings.specs.Codes.{standardBy};
-ghost use Rattle.adv7194_settings.specs.Order.{good};
-ghost use Rattle.adv7194_settings.specs.Answers.{after, timingAs};
+ghost use Rattle.adv7194_settings.specs.Answers.{timingAs};
 ghost use Rattle.adv7194_settings.specs.Groups.{inTurn, timingFaults, timingCodes};
 use crate::codes::TimingCodes;
 use crate::fault::Fault;

@@ -6,6 +6,7 @@ use native.Mathlib.Omega.{arith}
 use lib.ListN.{length, getD, take, drop, length-append}
 use lib.Seq.{take-append-seam}
 use Rattle.refusals.specs.Refusal.{accepted}
+use Rattle.refusals.specs.Verdict.{Verdict, good, refusedAt}
 use Rattle.packing.specs.Packing.{packed}
 use Rattle.unpacking.specs.Unpacking.{unpack}
 use Rattle.unpacking.specs.Ahead.{listed, Accepted}
@@ -13,7 +14,6 @@ use Rattle.listing.specs.Lines.{refusedLine}
 use Rattle.plan_listing.specs.PlanText.{planText}
 use Rattle.planning.specs.Plan.{Counts, countsOf}
 use Rattle.adv7194_bus.specs.Kind.{registerCount}
-use Rattle.adv7194_settings.specs.Order.{Verdict, good, refusedAt}
 use Rattle.adv7194_settings.specs.House.{house}
 use Rattle.adv7194_least.proofs.PlayedPlan.{plan-unpacks}
 use Rattle.adv7194_planning.specs.Rows.{wantedBy, listOf}

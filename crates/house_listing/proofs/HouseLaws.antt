@@ -8,6 +8,8 @@ use lib.Dec.{eqb}
 use lib.ListN.{length, getD}
 use borrow.Author.Tests.{eqb-true, eqb-false}
 use Rattle.bits.specs.Strings.{lsbFirst}
+use Rattle.refusals.specs.Verdict.{good}
+use Rattle.refusals.specs.Order.{firstOf, placesAt}
 use Rattle.bus.specs.Transactions.{busBytes}
 use Rattle.bus.proofs.CostLaws.{bytes-count}
 use Rattle.packing.proofs.PackedLaws.{packedBits-length}
@@ -22,7 +24,7 @@ use Rattle.adv7194_fields.specs.Fields.{fields}
 use Rattle.adv7194_gamma.specs.Curve.{curveOf}
 use Rattle.adv7194_signalling.specs.Cgms.{cgmsOf}
 use Rattle.adv7194_signalling.specs.Wss.{wssOf, oddOnes}
-use Rattle.adv7194_settings.specs.Order.{good, firstOf, placesAt, placesOf, order}
+use Rattle.adv7194_settings.specs.Order.{placesOf, order}
 use Rattle.adv7194_settings.specs.Rows.{together, signallingOf, gammaOf, bytesSet, numberCodings, codings, codingIn, codingAt, rowHolds}
 use Rattle.adv7194_settings.specs.House.{house}
 use Rattle.adv7194_settings.specs.Codes.{codesOf, checkOf}

@@ -2,11 +2,11 @@
 -- transaction; or the refusal, by its number and its field.
 use mathlib.Core.List.{List}
 use Prim.Native.Nat.{ℕ}
+use Rattle.refusals.specs.Verdict.{Verdict, good, refusedAt}
 use Rattle.bus.specs.Transactions.{Transaction}
 use Rattle.listing.specs.Lines.{refusedLine}
 use Rattle.plan_listing.specs.PlanText.{planText}
 use Rattle.planning.specs.Plan.{Counts}
-use Rattle.adv7194_settings.specs.Order.{Verdict, good, refusedAt}
 use Rattle.adv7194_settings.specs.House.{house}
 use Rattle.adv7194_least.specs.Demands.{mostBytes}
 use Rattle.adv7194_planning.specs.Rows.{listOf}

@@ -3,8 +3,8 @@ use mathlib.Core.Path.{_≡_, sym, ap, _∙_, subst}
 use Prim.Native.Nat.{ℕ}
 use borrow.Author.Needs.{needs}
 use denote.Ref.{now}
+use Rattle.refusals.specs.Verdict.{refusedAt}
 use Rattle.adv7194_settings.specs.declared.settings.Settings.{Settings}
-use Rattle.adv7194_settings.specs.Order.{refusedAt}
 use Rattle.adv7194_planning.specs.Planning.{answerOf}
 use Rattle.adv7194_planning.proofs.Clauses.{Clauses}
 use Rattle.adv7194_c.specs.declared.plan_numbers.PlanAnswer.{PlanAnswer}

@@ -8,8 +8,8 @@ use borrow.Author.Needs.{needs}
 use borrow.Author.Tests.{eq-eqb, ne-eqb}
 use denote.Ref.{now}
 use Rattle.refusals.specs.Refusal.{numberOf}
+use Rattle.refusals.specs.Verdict.{Verdict, refusedAt}
 use Rattle.adv7194_settings.specs.declared.settings.Settings.{Settings}
-use Rattle.adv7194_settings.specs.Order.{Verdict, refusedAt}
 use Rattle.adv7194_numbers.specs.Numbers.{numberCount}
 use Rattle.adv7194_reading.specs.Reading.{readAs}
 use Rattle.adv7194_c.specs.declared.read_numbers.ReadAnswer.{ReadAnswer}

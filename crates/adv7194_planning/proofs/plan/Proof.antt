@@ -9,12 +9,12 @@ use borrow.Author.Tests.{not-true, not-false}
 use borrow.Author.Needs.{needs}
 use denote.Ref.{now}
 use Rattle.refusals.specs.Refusal.{numberOf}
+use Rattle.refusals.specs.Verdict.{good, refusedAt}
 use Rattle.bus.specs.Transactions.{Transaction}
 use Rattle.planning.specs.Plan.{packingOf, planAfter}
 use Rattle.adv7194_bus.specs.Kind.{registerCount}
 use Rattle.adv7194_bus.specs.Address.{addressRight}
 use Rattle.adv7194_settings.specs.declared.codes.Codes.{Codes}
-use Rattle.adv7194_settings.specs.Order.{good, refusedAt}
 use Rattle.adv7194_settings.specs.Codes.{codesOf, checkOf}
 use Rattle.adv7194_settings.specs.Answers.{checkedAs}
 use Rattle.adv7194_settings.proofs.OrderLaws.{accepted-codes}

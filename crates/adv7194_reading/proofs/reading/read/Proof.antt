@@ -5,7 +5,7 @@ use lib.Dec.{eqb}
 use lib.ListN.{length}
 use borrow.Author.Needs.{needs}
 use borrow.Author.Tests.{ne-eqb}
-use Rattle.adv7194_settings.specs.Order.{firstOf}
+use Rattle.refusals.specs.Order.{firstOf}
 use Rattle.adv7194_reading_groups.specs.Rows.{registers, rowHeld}
 use Rattle.adv7194_reading.specs.Reading.{readOrder, readOf}
 use Rattle.adv7194_reading_groups.specs.Groups.{partOf}

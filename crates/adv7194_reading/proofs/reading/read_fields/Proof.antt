@@ -8,15 +8,15 @@ use mir.Syntax.{w32}
 use mir.ValLaws.{toZ-ofZ}
 use borrow.Author.Needs.{needs}
 use Rattle.refusals.specs.Refusal.{numberOf}
+use Rattle.refusals.specs.Verdict.{Verdict, good, after, faultWhere}
+use Rattle.refusals.proofs.VerdictLaws.{row-holds, row-fails}
 use Rattle.adv7194_settings.specs.declared.settings.Timing.{Timing}
 use Rattle.adv7194_settings.specs.declared.settings.Settings.{Settings}
-use Rattle.adv7194_settings.specs.Order.{Verdict, good, fieldOrder}
-use Rattle.adv7194_settings.specs.Answers.{after, faultWhere}
+use Rattle.adv7194_settings.specs.Order.{fieldOrder}
 use Rattle.adv7194_reading_groups.specs.Held.{settingsHeld}
 use Rattle.adv7194_reading_groups.specs.Rows.{registers, wordDisagrees}
 use Rattle.adv7194_reading_groups.specs.Groups.{partOf, timingAs, outputAs, pictureAs, gainsAs, modeAs}
 use Rattle.adv7194_reading.specs.Answers.{signallingAs}
-use Rattle.adv7194_reading_groups.proofs.RowLaws.{struck, spared}
 use Rattle.adv7194_reading.proofs.PartLaws.{part-on, part-is, part-stop, last-rows, agreed, disagreed}
 use Rattle.adv7194_reading.proofs.reading.read_fields.Statement.{statement}
 use Rattle.adv7194_reading.proofs.reading.read_fields.Tie as tie
@@ -169,12 +169,12 @@ returns-7 c =
     let c1 = c2 .before .before .before .before in
     let image = image6 c6 in
     rw (timing-is c1, output-is c2, signalling-is c3, picture-is c4, gains-is c5, mode-is c6, w .before .before .read-curve .ensures, w .before .read-curve2 .ensures)
-    (sym (to-word w ∙ spared 8 28 _ (agreed (wordDisagrees image) (w .word-agrees .ensures) (c .if1 .taken))))
+    (sym (to-word w ∙ row-fails 8 28 _ (agreed (wordDisagrees image) (w .word-agrees .ensures) (c .if1 .taken))))
 
 returns-8 : tie.Need-returns-8
 returns-8 c =
     let w = c .before in
-    sym (to-word w ∙ struck 8 28 _ (disagreed (wordDisagrees (image6 (w .before .before .before))) (w .word-agrees .ensures) (c .if1 .left)))
+    sym (to-word w ∙ row-holds 8 28 _ (disagreed (wordDisagrees (image6 (w .before .before .before))) (w .word-agrees .ensures) (c .if1 .left)))
 
 pub read-fields-spec : {M : Type 1} → statement M
 read-fields-spec =

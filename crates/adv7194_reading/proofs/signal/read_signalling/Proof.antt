@@ -12,10 +12,10 @@ use mir.Val.{toZ, ofZ}
 use mir.ValLaws.{toZ-ofZ}
 use borrow.Author.Needs.{needs}
 use borrow.Author.Tests.{eqb-true, eq-eqb}
+use Rattle.refusals.specs.Verdict.{good, refusedAt}
 use Rattle.rounding.proofs.Range.{back}
 use Rattle.adv7194_signalling.specs.Kind.{kindOf}
 use Rattle.adv7194_signalling.proofs.FlagLaws.{both}
-use Rattle.adv7194_settings.specs.Order.{good, refusedAt}
 use Rattle.adv7194_reading_groups.specs.Held.{byteAt, settingsHeld}
 use Rattle.adv7194_reading.specs.Signal.{codedOf, standardFor, refusalBy}
 use Rattle.adv7194_reading.proofs.SignalWordLaws.{standard-back, wordOf, agreed-read}

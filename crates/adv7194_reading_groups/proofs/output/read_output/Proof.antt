@@ -3,12 +3,12 @@ use mathlib.Core.Path.{_≡_, refl, sym, ap, _∙_}
 use mathlib.Core.List.{List, [], _∷_}
 use Prim.Native.Nat.{ℕ}
 use mir.Syntax.{w32}
+use Rattle.refusals.specs.Verdict.{Verdict}
 use Rattle.rounding.proofs.Range.{back}
 use Rattle.adv7194_fields.specs.Answers.{decoded}
 use Rattle.adv7194_fields.specs.Coding.{decode}
 use Rattle.adv7194_fields.specs.Fields.{fields, clampDelay, phase, uvLevel}
 use Rattle.adv7194_settings.specs.declared.settings.Output.{Output}
-use Rattle.adv7194_settings.specs.Order.{Verdict}
 use Rattle.adv7194_reading_groups.specs.Held.{readings, readingIn, readingAt, settingAt, settingsHeld}
 use Rattle.adv7194_reading_groups.specs.Groups.{partOf}
 use Rattle.adv7194_reading_groups.proofs.RowLaws.{all-read}

@@ -3,17 +3,17 @@ use mathlib.Core.Path.{_≡_, refl, sym, ap, _∙_}
 use mathlib.Core.List.{List, [], _∷_}
 use Prim.Native.Nat.{ℕ}
 use mir.Syntax.{w32}
+use Rattle.refusals.specs.Verdict.{Verdict, after, faultWhere}
+use Rattle.refusals.proofs.VerdictLaws.{row-holds, row-fails}
 use Rattle.rounding.proofs.Range.{back}
 use Rattle.adv7194_fields.specs.Answers.{decoded}
 use Rattle.adv7194_fields.specs.Coding.{decode}
 use Rattle.adv7194_fields.specs.Fields.{fields, brightness, contrast, hue, scale, sharpness}
 use Rattle.adv7194_settings.specs.declared.settings.Picture.{Picture}
-use Rattle.adv7194_settings.specs.Order.{Verdict}
-use Rattle.adv7194_settings.specs.Answers.{after, faultWhere}
 use Rattle.adv7194_reading_groups.specs.Rows.{zeroBitSet}
 use Rattle.adv7194_reading_groups.specs.Held.{readings, readingIn, readingAt, settingAt, settingsHeld}
 use Rattle.adv7194_reading_groups.specs.Groups.{partOf}
-use Rattle.adv7194_reading_groups.proofs.RowLaws.{struck, spared, all-read}
+use Rattle.adv7194_reading_groups.proofs.RowLaws.{all-read}
 use Rattle.adv7194_reading_groups.proofs.ZeroLaws.{zero-bits-21, zero-bits-22}
 use Rattle.adv7194_reading_groups.proofs.ChainLaws.{in-image, zero-in-image, halted, passed, kept-back}
 use Rattle.adv7194_reading_groups.proofs.picture.read_picture.Statement.{statement}
@@ -137,13 +137,13 @@ flag16 : (c : tie.After-zero-bit-set) → (c .zero-bit-set .result) ≡ zeroBitS
 flag16 c = c .zero-bit-set .ensures ∙ zero-bits-21 _ (c .before .before .before .before .before .before .before .before .before .before .before .before .before .before .before .before .before .before .before .before .before .before .before .before .before .before .shared-slice-known .given 0x21 .fits)
 
 returns-6 : tie.Need-returns-6
-returns-6 c = sym (past16 (c .before .before) ∙ struck 4 16 _ (sym (flag16 (c .before)) ∙ c .if1 .taken))
+returns-6 c = sym (past16 (c .before .before) ∙ row-holds 4 16 _ (sym (flag16 (c .before)) ∙ c .if1 .taken))
 
 abbrev image5 : tie.Else1 → List ℕ
 image5 c = image4 (c .before .before .before .before .before .before .before)
 
 to16 : (c : tie.Else1) → whole (image5 c) ≡ partOf (image5 c) (17 ∷ []) (part (image5 c))
-to16 c = past16 (c .before .before) ∙ spared 4 16 _ (sym (flag16 (c .before)) ∙ c .if1 .left)
+to16 c = past16 (c .before .before) ∙ row-fails 4 16 _ (sym (flag16 (c .before)) ∙ c .if1 .left)
 
 -- ---- field 17
 
@@ -168,13 +168,13 @@ flag17 : (c : tie.After-zero-bit-set2) → (c .zero-bit-set2 .result) ≡ zeroBi
 flag17 c = c .zero-bit-set2 .ensures ∙ zero-bits-22 _ (c .before .before .before .before .before .before .before .before .before .before .before .before .before .before .before .before .before .before .before .before .before .before .before .before .before .before .before .before .before .before .before .before .before .shared-slice-known .given 0x22 .fits)
 
 returns-8 : tie.Need-returns-8
-returns-8 c = sym (past17 (c .before .before) ∙ struck 4 17 _ (sym (flag17 (c .before)) ∙ c .if2 .taken))
+returns-8 c = sym (past17 (c .before .before) ∙ row-holds 4 17 _ (sym (flag17 (c .before)) ∙ c .if2 .taken))
 
 abbrev image6 : tie.Else2 → List ℕ
 image6 c = image5 (c .before .before .before .before .before .before .before)
 
 to17 : (c : tie.Else2) → whole (image6 c) ≡ partOf (image6 c) ([]) (part (image6 c))
-to17 c = past17 (c .before .before) ∙ spared 4 17 _ (sym (flag17 (c .before)) ∙ c .if2 .left)
+to17 c = past17 (c .before .before) ∙ row-fails 4 17 _ (sym (flag17 (c .before)) ∙ c .if2 .left)
 
 -- ---- all of them
 

@@ -5,17 +5,17 @@ use mathlib.Core.List.{List, [], _∷_}
 use Prim.Native.Nat.{ℕ}
 use lib.IntN.{ℤ}
 use mir.Syntax.{w32}
+use Rattle.refusals.specs.Verdict.{Verdict, after, faultWhere}
+use Rattle.refusals.proofs.VerdictLaws.{row-holds, row-fails}
 use Rattle.rounding.proofs.Range.{back}
 use Rattle.adv7194_fields.specs.Answers.{decoded}
 use Rattle.adv7194_fields.specs.Coding.{decode}
 use Rattle.adv7194_fields.specs.Fields.{fields, standard}
 use Rattle.adv7194_settings.specs.declared.settings.Timing.{Timing}
-use Rattle.adv7194_settings.specs.Order.{Verdict}
 use Rattle.adv7194_settings.specs.Rows.{is, squareWithOversampling, pedestalWithPal}
-use Rattle.adv7194_settings.specs.Answers.{after, faultWhere}
 use Rattle.adv7194_reading_groups.specs.Held.{readings, readingIn, readingAt, settingAt, settingsHeld}
 use Rattle.adv7194_reading_groups.specs.Groups.{partOf}
-use Rattle.adv7194_reading_groups.proofs.RowLaws.{struck, spared, all-read}
+use Rattle.adv7194_reading_groups.proofs.RowLaws.{all-read}
 use Rattle.adv7194_reading_groups.proofs.ChainLaws.{in-image, halted, passed, kept-back}
 use Rattle.adv7194_reading_groups.proofs.PedestalLaws.{ZeroOrOne, pedestal-held, standard-held, sum-fits, sum-is-2}
 use Rattle.adv7194_reading_groups.proofs.timing.read_timing.Statement.{statement}
@@ -98,13 +98,13 @@ unfolding settingsHeld
 flag3 c = ap₂ _&&_ (c .before .is .ensures ∙ ap (is 1) (held2 (c .before .before .before .before .before .before))) (c .is2 .ensures ∙ ap (is 1) (held3 (c .before .before)))
 
 returns-4 : tie.Need-returns-4
-returns-4 c = sym (past3 (c .before .before .before) ∙ struck 5 3 _ (sym (flag3 (c .before)) ∙ c .if1 .taken))
+returns-4 c = sym (past3 (c .before .before .before) ∙ row-holds 5 3 _ (sym (flag3 (c .before)) ∙ c .if1 .taken))
 
 abbrev image3 : tie.Else1 → List ℕ
 image3 c = image2 (c .before .before .before .before .before .before .before)
 
 to3 : (c : tie.Else1) → whole (image3 c) ≡ partOf (image3 c) (4 ∷ []) (part (image3 c))
-to3 c = past3 (c .before .before .before) ∙ spared 5 3 _ (sym (flag3 (c .before)) ∙ c .if1 .left)
+to3 c = past3 (c .before .before .before) ∙ row-fails 5 3 _ (sym (flag3 (c .before)) ∙ c .if1 .left)
 
 -- ---- field 4
 
@@ -142,13 +142,13 @@ flag4 c =
     c .is3 .ensures ∙ sum-is-2 (pedestal-read (c .before)) (standard-read c1) ∙ ap₂ (λ (y z : ℤ). is 1 y && is 1 z) (held4 (c .before)) (held1 c1)
 
 returns-6 : tie.Need-returns-6
-returns-6 c = sym (past4 (c .before .before) ∙ struck 6 4 _ (sym (flag4 (c .before)) ∙ c .if2 .taken))
+returns-6 c = sym (past4 (c .before .before) ∙ row-holds 6 4 _ (sym (flag4 (c .before)) ∙ c .if2 .taken))
 
 abbrev image4 : tie.Else2 → List ℕ
 image4 c = image3 (c .before .before .before .before .before .before)
 
 to4 : (c : tie.Else2) → whole (image4 c) ≡ partOf (image4 c) ([]) (part (image4 c))
-to4 c = past4 (c .before .before) ∙ spared 6 4 _ (sym (flag4 (c .before)) ∙ c .if2 .left)
+to4 c = past4 (c .before .before) ∙ row-fails 6 4 _ (sym (flag4 (c .before)) ∙ c .if2 .left)
 
 -- ---- all of them
 

@@ -4,13 +4,13 @@ use mathlib.Core.List.{[], _∷_}
 use lib.Dec.{eqb}
 use lib.IntN.{ℤ}
 use borrow.Author.Needs.{needs}
+use Rattle.refusals.specs.Verdict.{good, after}
 use Rattle.adv7194_subcarrier.specs.Subcarrier.{wordOf}
 use Rattle.adv7194_settings.specs.declared.codes.TimingCodes.{TimingCodes}
 use Rattle.adv7194_settings.specs.declared.settings.Settings.{Settings}
-use Rattle.adv7194_settings.specs.Order.{good}
 use Rattle.adv7194_settings.specs.Rows.{signallingOf}
 use Rattle.adv7194_settings.specs.Codes.{codesIn, signalBy, timingOf, outputOf, signalOf, pictureOf, gainsOf, modeOf, pointsOf, wordAt, codesOf, checkOf}
-use Rattle.adv7194_settings.specs.Answers.{after, timingAs, outputAs, signalAs, pictureAs, gainsAs, modeAs, curveAs}
+use Rattle.adv7194_settings.specs.Answers.{timingAs, outputAs, signalAs, pictureAs, gainsAs, modeAs, curveAs}
 use Rattle.adv7194_settings.specs.Groups.{inTurn, signalFaults}
 use Rattle.adv7194_settings.proofs.Numbers.{passed}
 use Rattle.adv7194_settings.proofs.CheckLaws.{partOf, due, due-all, due-none, part-on, part-is, part-stop, timingFields, outputFields, pictureFields, gainsFields, modeFields, from5, from11, from12, from18, from23, from26, timing-part, output-part, signal-part, picture-part, gains-part, mode-part, curve-a-part, curve-b-part}

@@ -4,13 +4,13 @@ use mathlib.Core.List.{List}
 use Prim.Native.Nat.{ℕ}
 use lib.ListN.{drop}
 use borrow.Author.Needs.{needs}
+use Rattle.refusals.specs.Refusal.{codeIn}
+use Rattle.refusals.specs.Verdict.{Verdict}
 use Rattle.adv7194_fields.specs.Answers.{coded}
 use Rattle.adv7194_fields.specs.Coding.{encode}
 use Rattle.adv7194_fields.specs.Fields.{gain, threshold, yesNo}
 use Rattle.adv7194_settings.specs.declared.settings.Gains.{Gains}
 use Rattle.adv7194_settings.specs.declared.codes.GainsCodes.{GainsCodes}
-use Rattle.adv7194_settings.specs.Order.{Verdict}
-use Rattle.adv7194_settings.specs.Answers.{codeIn}
 use Rattle.adv7194_settings.specs.Groups.{gainsFaults, gainsCodes}
 use Rattle.adv7194_settings.proofs.Numbers.{passed}
 use Rattle.adv7194_settings.proofs.Turns.{Found, dueFrom, halted, next, taken}

@@ -3,13 +3,13 @@ use mathlib.Core.Path.{_≡_, sym, _∙_}
 use mathlib.Core.List.{List}
 use Prim.Native.Nat.{ℕ}
 use lib.ListN.{drop}
+use Rattle.refusals.specs.Refusal.{codeIn}
+use Rattle.refusals.specs.Verdict.{Verdict}
 use Rattle.adv7194_fields.specs.Answers.{coded}
 use Rattle.adv7194_fields.specs.Coding.{encode}
 use Rattle.adv7194_fields.specs.Fields.{brightness, contrast, hue, scale, sharpness}
 use Rattle.adv7194_settings.specs.declared.settings.Picture.{Picture}
 use Rattle.adv7194_settings.specs.declared.codes.PictureCodes.{PictureCodes}
-use Rattle.adv7194_settings.specs.Order.{Verdict}
-use Rattle.adv7194_settings.specs.Answers.{codeIn}
 use Rattle.adv7194_settings.specs.Groups.{pictureFaults, pictureCodes}
 use Rattle.adv7194_settings.proofs.Numbers.{passed}
 use Rattle.adv7194_settings.proofs.Turns.{Found, dueFrom, halted, next, taken}

@@ -1,12 +1,11 @@
 -- `signal::coded_signal` meets its contract: the kind chooses the coding. Assumes nothing.
 use mathlib.Core.Path.{_≡_, sym, ap, _∙_}
 use borrow.Author.Needs.{needs}
+use Rattle.refusals.specs.Verdict.{good, after, faultOf}
 use Rattle.adv7194_signalling.specs.Cgms.{cgmsOf}
 use Rattle.adv7194_signalling.specs.Wss.{wssOf}
-use Rattle.adv7194_settings.specs.Order.{good}
 use Rattle.adv7194_settings.specs.Rows.{is}
 use Rattle.adv7194_settings.specs.Codes.{signalBy, codesIn}
-use Rattle.adv7194_settings.specs.Answers.{after, faultOf}
 use Rattle.adv7194_settings.proofs.Numbers.{passed, passed4}
 use Rattle.adv7194_settings.proofs.ByKind.{off-is, cgms-is, wss-is, no-kind-is}
 use Rattle.adv7194_settings.proofs.signal.coded_signal.Statement.{statement}

@@ -9,15 +9,15 @@ use lib.Dec.{eqb}
 use lib.ListN.{drop}
 use borrow.Author.Needs.{needs}
 use borrow.Author.Tests.{eq-eqb, ne-eqb}
+use Rattle.refusals.specs.Refusal.{codeIn}
+use Rattle.refusals.specs.Verdict.{Verdict}
 use Rattle.adv7194_fields.specs.Answers.{coded}
 use Rattle.adv7194_fields.specs.Coding.{encode}
 use Rattle.adv7194_fields.specs.Fields.{standard, yesNo}
 use Rattle.adv7194_settings.specs.declared.settings.Timing.{Timing}
 use Rattle.adv7194_settings.specs.declared.codes.TimingCodes.{TimingCodes}
-use Rattle.adv7194_settings.specs.Order.{Verdict}
 use Rattle.adv7194_settings.specs.Rows.{is, squareWithOversampling, pedestalWithPal}
 use Rattle.adv7194_settings.specs.Codes.{standardBy}
-use Rattle.adv7194_settings.specs.Answers.{codeIn}
 use Rattle.adv7194_settings.specs.Groups.{timingFaults, timingCodes}
 use Rattle.adv7194_settings.proofs.Numbers.{passed}
 use Rattle.adv7194_settings.proofs.Turns.{Found, dueFrom, ends-where, halted, next, taken}
