@@ -1,4 +1,4 @@
-// An image's bytes: copied, and put back.
+// An image's bytes, copied.
 ghost use mathlib.Core.Path.{_≡_};
 ghost use lib.ListN.{length};
 ghost use Rattle.adv7194_bus.specs.Kind.{registerCount};
@@ -11,12 +11,4 @@ pub fn copied(image: &[u8]) -> [u8; 54]
     let mut registers = [0u8; 54];
     bytes::copy(image, &mut registers);
     registers
-}
-
-// Puts saved bytes back into an image.
-pub fn restore(image: &mut [u8], saved: &[u8])
-    requires { ⌜ length (now image) ≡ length (now saved) ⌝ }
-    ensures memory { λ r. ⌜ now (image .exit) ≡ now (saved .entry) ⌝ }
-{
-    bytes::copy(saved, image);
 }

@@ -9,7 +9,7 @@ use lib.ListN.{length, getD}
 use Rattle.bits.proofs.FlagLaws.{both, holds}
 use Rattle.refusals.specs.Refusal.{accepted}
 use Rattle.bus.specs.Transactions.{Transaction, end, Every, busBytes}
-use Rattle.packing.specs.Packing.{packed, encodable, ascending, wellFormed}
+use Rattle.packing.specs.Packing.{packed, encodable, behind, arranged, ascending, wellFormed}
 use Rattle.unpacking.specs.Unpacking.{unpack}
 use Rattle.unpacking.proofs.Tests.{Encodable, encodable-from}
 use Rattle.unpacking.proofs.Exact.{round-trip, unpacks-packed}
@@ -32,7 +32,7 @@ use Rattle.adv7194_least.proofs.Costs.{plan-ascending}
 
 -- encodable transactions that ascend pass the packing's test
 ascends : (free : ℕ) (ts : List Transaction) → Ascending free ts → Every Encodable ts → T (ascending free ts)
-unfolding ascending
+unfolding arranged
 ascends free [] a e = tt
 ascends free (t ∷ ts) a e =
     both (leb free (t .subaddress)) (encodable t && ascending (end t) ts) (le→leb free (t .subaddress) (a .0))
@@ -53,7 +53,7 @@ module _ (image wanted : List ℕ) (χ : Change image wanted) where
 
   -- the plan is well-formed: its numbers fit the packing's fields
   pub plan-formed : T (wellFormed (planOf image wanted))
-  plan-formed = unpacks-packed (packed (planOf image wanted)) (planOf image wanted) plan-unpacks .0
+  plan-formed = unpacks-packed behind (packed (planOf image wanted)) (planOf image wanted) plan-unpacks .0
 
   -- playing accepts it
   plan-judged : (own : ℕ) → addressRight own ≡ true → judged image own own (packed (planOf image wanted)) ≡ accepted (planOf image wanted)

@@ -2,5 +2,4 @@ pub mod JudgedLaws
 pub mod Rows
 pub mod Elsewhere
 pub mod WrittenLaws
-pub mod WalkLaws
 pub mod WrittenRun

@@ -10,6 +10,7 @@ use lib.ListN.{length}
 use borrow.Author.Tests.{eqb-true, eqb-false}
 use Rattle.refusals.specs.Refusal.{Judged, accepted, refused}
 use Rattle.bus.specs.Transactions.{Transaction}
+use Rattle.packing.specs.Packing.{behind}
 use Rattle.unpacking.specs.Unpacking.{Unpacks, packs-none, unpack}
 use Rattle.unpacking.proofs.Exact.{judges as unpacking-judges}
 use Rattle.adv7194_bus.specs.Kind.{registerCount}
@@ -48,7 +49,7 @@ module _ (image : List ℕ) (used own : ℕ) (plan : List ℕ) where
     by-packing : (j : Judged (List Transaction)) → unpack plan ≡ j → Right
     by-packing (accepted ts) p = by-list ts p (allKeepRules ts) refl
     by-packing (refused n) p =
-        given (wrong-packing image used own plan h e f n p ∙ nine plan n (subst (Unpacks plan) p (unpacking-judges plan)))
+        given (wrong-packing image used own plan h e f n p ∙ nine plan n (subst (Unpacks plan) p (unpacking-judges behind plan)))
         (packing-fault h right (λ ts q. let z : _≡_ {A = ℕ} 0 1 = cc in omega arith))
 
   by-addresses : length image ≡ registerCount → (x : Bool) → addressRight used ≡ x → (y : Bool) → addressRight own ≡ y → Right

@@ -16,7 +16,7 @@ use Rattle.bus.specs.Chip.{Chip, fresh}
 use Rattle.bus.specs.Run.{run, allAcknowledged, transactionEvents, listEvents}
 use Rattle.bus.proofs.Play.{stores, run-transaction, run-list}
 use Rattle.bus.proofs.Acknowledged.{Fits, acknowledged-list}
-use Rattle.packing.specs.Packing.{encodable, ascending}
+use Rattle.packing.specs.Packing.{encodable, behind, arranged, ascending}
 use Rattle.unpacking.specs.Unpacking.{unpack, counted}
 use Rattle.unpacking.proofs.Exact.{unpacks-packed, in-order}
 use Rattle.unpacking.proofs.Tests.{encodable-facts}
@@ -48,7 +48,7 @@ module _ (own : ℕ) where
 
   -- encodable ones that keep the rules have data, and the chip has their registers
   all-fit : (free : ℕ) (ts : List Transaction) → T (ascending free ts) → Every Rules ts → Every (Fits (adv7194 own)) ts
-  unfolding ascending
+  unfolding arranged
   all-fit free [] o h = tt
   all-fit free (t ∷ ts) o h =
       let o₁ = second (leb free (t .subaddress)) (encodable t && ascending (end t) ts) o in
@@ -75,7 +75,7 @@ module _ (image : List ℕ) (used own : ℕ) (same : used ≡ own) (plan : List 
   own-list ts e =
       let k = kept-rules (unpack plan) ts e in
       let rules = agree-all ts .0 (k .1) in
-      let order = in-order ts (unpacks-packed plan ts (k .0) .0) in
+      let order = in-order behind ts (unpacks-packed behind plan ts (k .0) .0) in
       rw same (acknowledged-list (adv7194 own) ts (fresh image) (all-fit own 0 ts order rules), run-written own ts (fresh image) rules)
 
   -- so playing a plan that is accepted answers, and leaves what was written

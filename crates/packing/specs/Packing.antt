@@ -1,5 +1,6 @@
 -- Document 01, "Packing": fields most significant bit first, no gaps: 6 bits of transaction count; for each transaction 6 bits of subaddress,
--- 6 bits of data count (never 0), then the data. Zero bits fill the last byte. Starts ascend, and no transaction overlaps another.
+-- 6 bits of data count (never 0), then the data. Zero bits fill the last byte. Starts ascend, and no transaction overlaps another; what may come
+-- next is a parameter, for a chip whose packing allows any order.
 use mathlib.Core.Bool.{Bool, true, _&&_}
 use mathlib.Core.List.{List, [], _∷_, _++_}
 use Prim.Native.Nat.{ℕ, _+_, _*_, _/_}
@@ -35,11 +36,27 @@ packedLength transactions bytes = (6 + 12 * transactions + 8 * bytes + 7) / 8
 abbrev pub encodable : Transaction → Bool
 encodable t = ltb (t .subaddress) 64 && (ltb 0 (size t) && (ltb (size t) 64 && areBytes (t .bytes)))
 
--- each transaction is encodable and starts at the first free register or past it; its end is then the first free register
-unfoldable pub ascending : ℕ → List Transaction → Bool
-ascending free [] = true
-ascending free (t ∷ ts) = leb free (t .subaddress) && (encodable t && ascending (end t) ts)
+-- by the end of a transaction, the first register that the next may start at: that end, where starts ascend without overlap
+abbrev pub behind : ℕ → ℕ
+behind e = e
 
--- the list can be packed: at most 63 transactions, their starts ascending without overlap
-unfoldable pub wellFormed : List Transaction → Bool
-wellFormed ts = ltb (length ts) 64 && ascending 0 ts
+-- and any register, where any order and overlap are allowed
+abbrev pub anywhere : ℕ → ℕ
+anywhere e = 0
+
+-- each transaction is encodable and starts at the first register that it may start at, or past it
+unfoldable pub arranged : (ℕ → ℕ) → ℕ → List Transaction → Bool
+arranged next free [] = true
+arranged next free (t ∷ ts) = leb free (t .subaddress) && (encodable t && arranged next (next (end t)) ts)
+
+-- starts ascend without overlap
+abbrev pub ascending : ℕ → List Transaction → Bool
+ascending free ts = arranged behind free ts
+
+-- the list can be packed: at most 63 transactions, so arranged
+unfoldable pub wellFormedBy : (ℕ → ℕ) → List Transaction → Bool
+wellFormedBy next ts = ltb (length ts) 64 && arranged next 0 ts
+
+-- at most 63 transactions, their starts ascending without overlap
+abbrev pub wellFormed : List Transaction → Bool
+wellFormed ts = wellFormedBy behind ts

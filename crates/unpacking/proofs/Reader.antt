@@ -13,87 +13,49 @@ use Rattle.bits.specs.Strings.{msbFirst, msbValue, byteBits, bytesOf}
 use Rattle.bits.proofs.StringLaws.{msb-value, msb-bits}
 use Rattle.bits.proofs.ByteLaws.{byteBits-length, bytesOf-length, bytesOf-lt}
 use Rattle.bus.specs.Transactions.{Transaction, size, end}
-use Rattle.packing.specs.Packing.{transactionBits, listBits, encodable, ascending}
+use Rattle.packing.specs.Packing.{transactionBits, listBits, encodable, arranged}
 use Rattle.packing.proofs.FillLaws.{msb-zero}
 use Rattle.packing.proofs.PackedLaws.{transactionBits-length}
 use Rattle.unpacking.specs.Unpacking.{number, named}
+use Rattle.unpacking.specs.Steps.{filling, subaddressIn, countIn, pastFirst, inFront}
 use Rattle.bits.proofs.FlagLaws.{both, first, second, fails, same-test}
 use Rattle.unpacking.proofs.Tests.{Encodable, encodable-facts, encodable-from}
 use Rattle.unpacking.proofs.FrontLaws.{number-lt, number-bits, subaddress-front, count-front, data-front, bytes-front, past-front, whole-bytes}
 
--- ---- the reader
+-- ---- the transaction in front
 
--- fewer than eight bits are left, all clear
-abbrev pub filling : List Bool → Bool
-filling bs = ltb (length bs) 8 && eqb (msbValue bs) 0
-
--- a header's count and subaddress and the data after it are right, and so is what follows
-abbrev pub checked : (ℕ → List Bool → Bool) → ℕ → ℕ → ℕ → List Bool → Bool
-checked more free subaddress count bs = ltb 0 count && (leb free subaddress && (leb (count * 8) (length bs) && more (subaddress + count) (drop (count * 8) bs)))
-
--- n transactions from the register free on, and the filling
-unfoldable pub valid : ℕ → ℕ → List Bool → Bool
-valid zero free bs = filling bs
-valid (suc n) free bs = leb 12 (length bs) && checked (valid n) free (number 6 bs) (number 6 (drop 6 bs)) (drop 12 bs)
-
--- what it asks of one transaction and of what follows
-pub record Step (n free : ℕ) (bs : List Bool) : Type 0 where
+-- what it has
+pub record Front (free : ℕ) (bs : List Bool) : Type 0 where
   pub long : 12 ≤ length bs
-  pub some : 0 < number 6 (drop 6 bs)
-  pub from : free ≤ number 6 bs
-  pub held : number 6 (drop 6 bs) * 8 ≤ length (drop 12 bs)
-  pub more : T (valid n (number 6 bs + number 6 (drop 6 bs)) (drop (number 6 (drop 6 bs) * 8) (drop 12 bs)))
+  pub some : 0 < countIn bs
+  pub from : free ≤ subaddressIn bs
+  pub held : countIn bs * 8 ≤ length (drop 12 bs)
 
-module _ (n free : ℕ) (bs : List Bool) where
-  opened : T (valid (suc n) free bs) → Step n free bs
-  unfolding valid
-  opened h =
-      let a = number 6 bs in
-      let k = number 6 (drop 6 bs) in
+module _ (free : ℕ) (bs : List Bool) where
+  pub front-facts : T (inFront free bs) → Front free bs
+  front-facts h =
+      let a = subaddressIn bs in
+      let k = countIn bs in
       let held = leb (k * 8) (length (drop 12 bs)) in
-      let m = valid n (a + k) (drop (k * 8) (drop 12 bs)) in
-      let h₁ = second (leb 12 (length bs)) (ltb 0 k && (leb free a && (held && m))) h in
-      let h₂ = second (ltb 0 k) (leb free a && (held && m)) h₁ in
-      let h₃ = second (leb free a) (held && m) h₂ in
+      let h₁ = second (leb 12 (length bs)) (ltb 0 k && (leb free a && held)) h in
+      let h₂ = second (ltb 0 k) (leb free a && held) h₁ in
       record {
-        long = leb→le 12 (length bs) (first (leb 12 (length bs)) (ltb 0 k && (leb free a && (held && m))) h);
-        some = ltb→lt 0 k (first (ltb 0 k) (leb free a && (held && m)) h₁);
-        from = leb→le free a (first (leb free a) (held && m) h₂);
-        held = leb→le (k * 8) (length (drop 12 bs)) (first held m h₃);
-        more = second held m h₃;
+        long = leb→le 12 (length bs) (first (leb 12 (length bs)) (ltb 0 k && (leb free a && held)) h);
+        some = ltb→lt 0 k (first (ltb 0 k) (leb free a && held) h₁);
+        from = leb→le free a (first (leb free a) held h₂);
+        held = leb→le (k * 8) (length (drop 12 bs)) (second (leb free a) held h₂);
       }
 
-  closed : Step n free bs → T (valid (suc n) free bs)
-  unfolding valid
-  closed s =
-      let a = number 6 bs in
-      let k = number 6 (drop 6 bs) in
+  -- and what makes one
+  pub front-from : Front free bs → T (inFront free bs)
+  front-from s =
+      let a = subaddressIn bs in
+      let k = countIn bs in
       let held = leb (k * 8) (length (drop 12 bs)) in
-      let m = valid n (a + k) (drop (k * 8) (drop 12 bs)) in
-      both (leb 12 (length bs)) (ltb 0 k && (leb free a && (held && m))) (le→leb 12 (length bs) (s .long))
-      (both (ltb 0 k) (leb free a && (held && m)) (lt→ltb 0 k (s .some))
-      (both (leb free a) (held && m) (le→leb free a (s .from)) (both held m (le→leb (k * 8) (length (drop 12 bs)) (s .held)) (s .more))))
+      both (leb 12 (length bs)) (ltb 0 k && (leb free a && held)) (le→leb 12 (length bs) (s .long))
+      (both (ltb 0 k) (leb free a && held) (lt→ltb 0 k (s .some)) (both (leb free a) held (le→leb free a (s .from)) (le→leb (k * 8) (length (drop 12 bs)) (s .held))))
 
-  -- a fault is refused
-  pub fault : (Step n free bs → ⊥) → valid (suc n) free bs ≡ false
-  fault f = fails (valid (suc n) free bs) (λ h. f (opened h))
-
-  -- one transaction passed
-  pub passed : 12 ≤ length bs → 0 < number 6 (drop 6 bs) → free ≤ number 6 bs → number 6 (drop 6 bs) * 8 ≤ length (drop 12 bs)
-      → valid (suc n) free bs ≡ valid n (number 6 bs + number 6 (drop 6 bs)) (drop (number 6 (drop 6 bs) * 8) (drop 12 bs))
-  passed long some from held =
-      same-test (valid (suc n) free bs) (valid n (number 6 bs + number 6 (drop 6 bs)) (drop (number 6 (drop 6 bs) * 8) (drop 12 bs)))
-      (λ h. opened h .more) (λ m. closed (record { long = long; some = some; from = from; held = held; more = m }))
-
--- ---- what it accepts
-
--- the bit string is n transactions from the register free on, and fewer than eight zero bits
-pub record Holds (n free : ℕ) (bs : List Bool) (ts : List Transaction) : Type 0 where
-  pub count : length ts ≡ n
-  pub order : T (ascending free ts)
-  pub fill : ℕ
-  pub few : fill < 8
-  pub bits : bs ≡ listBits ts ++ replicate fill false
+-- ---- the reader
 
 -- clear bits are those whose number is 0
 clear : (bs : List Bool) → msbValue bs ≡ 0 → bs ≡ replicate (length bs) false
@@ -127,51 +89,72 @@ module _ (bs : List Bool) (long : 12 ≤ length bs) (data-long : number 6 (drop 
       ∙ take-append-drop 6 (drop 6 bs))
       ∙ take-append-drop 6 bs
 
--- what the reader accepts holds the transactions that it names
-pub sound : (n free : ℕ) (bs : List Bool) → T (valid n free bs) → Holds n free bs (named n bs)
-unfolding valid named listBits ascending
-sound zero free bs h =
-    record {
-      count = refl;
-      order = tt;
-      fill = length bs;
-      few = ltb→lt (length bs) 8 (first (ltb (length bs) 8) (eqb (msbValue bs) 0) h);
-      bits = clear bs (eqb→eq (msbValue bs) 0 (second (ltb (length bs) 8) (eqb (msbValue bs) 0) h));
-    }
-sound (suc n) free bs h =
-    let a = number 6 bs in
-    let k = number 6 (drop 6 bs) in
-    let rest = drop (k * 8) (drop 12 bs) in
-    let s = opened n free bs h in
-    let ih = sound n (a + k) rest (s .more) in
-    let e = head-size bs (s .long) (s .held) in
-    record {
-      count = ap suc (ih .count);
-      order = both (leb free a) (encodable (head bs) && ascending (end (head bs)) (named n rest)) (le→leb free a (s .from))
-          (both (encodable (head bs)) (ascending (end (head bs)) (named n rest))
-          (encodable-from (head bs) (record { subaddress = number-lt 6 bs; some = subst (λ (x : ℕ). 0 < x) (sym e) (s .some); count = subst (λ (x : ℕ). x < 64) (sym e) (number-lt 6 (drop 6 bs)); bytes = bytesOf-lt (take (k * 8) (drop 12 bs)) }))
-          (subst (λ (x : ℕ). T (ascending (a + x) (named n rest))) (sym e) (ih .order)));
-      fill = ih .fill;
-      few = ih .few;
-      bits = sym (head-bits bs (s .long) (s .held)) ∙ ap (λ (l : List Bool). transactionBits (head bs) ++ l) (ih .bits) ∙ sym (append-assoc (transactionBits (head bs)) (listBits (named n rest)) (replicate (ih .fill) false));
-    }
+-- next gives the first register that a transaction may start at, by the end of the one before it
+module _ (next : ℕ → ℕ) where
+  -- n transactions from the register free on, and the filling
+  unfoldable pub valid : ℕ → ℕ → List Bool → Bool
+  valid zero free bs = filling bs
+  valid (suc n) free bs = inFront free bs && valid n (next (subaddressIn bs + countIn bs)) (pastFirst bs)
+
+  -- ---- what it accepts
+
+  -- the bit string is n transactions from the register free on, and fewer than eight zero bits
+  pub record Holds (n free : ℕ) (bs : List Bool) (ts : List Transaction) : Type 0 where
+    pub count : length ts ≡ n
+    pub order : T (arranged next free ts)
+    pub fill : ℕ
+    pub few : fill < 8
+    pub bits : bs ≡ listBits ts ++ replicate fill false
+
+  -- what the reader accepts holds the transactions that it names
+  pub sound : (n free : ℕ) (bs : List Bool) → T (valid n free bs) → Holds n free bs (named n bs)
+  unfolding valid named listBits arranged
+  sound zero free bs h =
+      record {
+        count = refl;
+        order = tt;
+        fill = length bs;
+        few = ltb→lt (length bs) 8 (first (ltb (length bs) 8) (eqb (msbValue bs) 0) h);
+        bits = clear bs (eqb→eq (msbValue bs) 0 (second (ltb (length bs) 8) (eqb (msbValue bs) 0) h));
+      }
+  sound (suc n) free bs h =
+      let a = number 6 bs in
+      let k = number 6 (drop 6 bs) in
+      let rest = drop (k * 8) (drop 12 bs) in
+      let m = valid n (next (a + k)) rest in
+      let s = front-facts free bs (first (inFront free bs) m h) in
+      let ih = sound n (next (a + k)) rest (second (inFront free bs) m h) in
+      let e = head-size bs (s .long) (s .held) in
+      record {
+        count = ap suc (ih .count);
+        order = both (leb free a) (encodable (head bs) && arranged next (next (end (head bs))) (named n rest)) (le→leb free a (s .from))
+            (both (encodable (head bs)) (arranged next (next (end (head bs))) (named n rest))
+            (encodable-from (head bs) (record { subaddress = number-lt 6 bs; some = subst (λ (x : ℕ). 0 < x) (sym e) (s .some); count = subst (λ (x : ℕ). x < 64) (sym e) (number-lt 6 (drop 6 bs)); bytes = bytesOf-lt (take (k * 8) (drop 12 bs)) }))
+            (subst (λ (x : ℕ). T (arranged next (next (a + x)) (named n rest))) (sym e) (ih .order)));
+        fill = ih .fill;
+        few = ih .few;
+        bits = sym (head-bits bs (s .long) (s .held)) ∙ ap (λ (l : List Bool). transactionBits (head bs) ++ l) (ih .bits) ∙ sym (append-assoc (transactionBits (head bs)) (listBits (named n rest)) (replicate (ih .fill) false));
+      }
 
 -- ---- what it doesn't refuse
 
 module _ (t : Transaction) (rest : List Bool) (s : Encodable t) where
   -- a transaction in front is accepted where what follows it is
-  valid-step : (n free : ℕ) → free ≤ t .subaddress → T (valid n (end t) rest) → T (valid (suc n) free (transactionBits t ++ rest))
-  valid-step n free h more =
+  valid-step : (next : ℕ → ℕ) (n free : ℕ) → free ≤ t .subaddress → T (valid next n (next (end t)) rest) → T (valid next (suc n) free (transactionBits t ++ rest))
+  unfolding valid
+  valid-step next n free h more =
+      let bs = transactionBits t ++ rest in
       let ds = byteBits (t .bytes) ++ rest in
       let held : size t * 8 ≤ length ds = omega (arith, length-append (byteBits (t .bytes)) rest, byteBits-length (t .bytes)) in
-      closed n free (transactionBits t ++ rest)
+      both (inFront free bs) (valid next n (next (subaddressIn bs + countIn bs)) (pastFirst bs))
+      (front-from free bs
       (record {
         long = omega (arith, length-append (transactionBits t) rest, transactionBits-length t);
         some = rw (count-front t rest s) (s .some);
         from = rw (subaddress-front t rest s) h;
         held = rw (count-front t rest s, data-front t rest) held;
-        more = rw (subaddress-front t rest s, count-front t rest s, data-front t rest, past-front t rest) more;
-      })
+      }))
+      (rw (subaddress-front t rest s, count-front t rest s, data-front t rest, past-front t rest) more)
 
   -- and is named
   named-step : (n : ℕ) → named (suc n) (transactionBits t ++ rest) ≡ t ∷ named n rest
@@ -179,9 +162,9 @@ module _ (t : Transaction) (rest : List Bool) (s : Encodable t) where
   named-step n = rw (subaddress-front t rest s, count-front t rest s, data-front t rest, bytes-front t rest s, past-front t rest)
 
 -- zero bits alone are accepted
-filling-valid : (free fill : ℕ) → fill < 8 → T (valid 0 free (replicate fill false))
+filling-valid : (next : ℕ → ℕ) (free fill : ℕ) → fill < 8 → T (valid next 0 free (replicate fill false))
 unfolding valid
-filling-valid free fill few =
+filling-valid next free fill few =
     let zs = replicate fill false in
     both (ltb (length zs) 8) (eqb (msbValue zs) 0) (lt→ltb (length zs) 8 (omega (arith, length-replicate fill false))) (rw (clear-value fill) tt)
 
@@ -190,18 +173,18 @@ unfolding named
 named-none bs = refl
 
 -- the bits of transactions, and zero bits after them, are accepted, and the transactions named
-pub complete : (free : ℕ) (ts : List Transaction) (fill : ℕ) → fill < 8 → T (ascending free ts)
-    → T (valid (length ts) free (listBits ts ++ replicate fill false)) × (named (length ts) (listBits ts ++ replicate fill false) ≡ ts)
-unfolding ascending listBits
-complete free [] fill few h = (filling-valid free fill few, named-none (replicate fill false))
-complete free (t ∷ ts) fill few h =
-    let h₁ = second (leb free (t .subaddress)) (encodable t && ascending (end t) ts) h in
-    let s = encodable-facts t (first (encodable t) (ascending (end t) ts) h₁) in
+pub complete : (next : ℕ → ℕ) (free : ℕ) (ts : List Transaction) (fill : ℕ) → fill < 8 → T (arranged next free ts)
+    → T (valid next (length ts) free (listBits ts ++ replicate fill false)) × (named (length ts) (listBits ts ++ replicate fill false) ≡ ts)
+unfolding arranged listBits
+complete next free [] fill few h = (filling-valid next free fill few, named-none (replicate fill false))
+complete next free (t ∷ ts) fill few h =
+    let h₁ = second (leb free (t .subaddress)) (encodable t && arranged next (next (end t)) ts) h in
+    let s = encodable-facts t (first (encodable t) (arranged next (next (end t)) ts) h₁) in
     let rest = listBits ts ++ replicate fill false in
-    let ih = complete (end t) ts fill few (second (encodable t) (ascending (end t) ts) h₁) in
-    let from : free ≤ t .subaddress = leb→le free (t .subaddress) (first (leb free (t .subaddress)) (encodable t && ascending (end t) ts) h) in
+    let ih = complete next (next (end t)) ts fill few (second (encodable t) (arranged next (next (end t)) ts) h₁) in
+    let from : free ≤ t .subaddress = leb→le free (t .subaddress) (first (leb free (t .subaddress)) (encodable t && arranged next (next (end t)) ts) h) in
     rw (append-assoc (transactionBits t) (listBits ts) (replicate fill false))
-    (valid-step t rest s (length ts) free from (ih .0), named-step t rest s (length ts) ∙ ap (λ (l : List Transaction). t ∷ l) (ih .1))
+    (valid-step t rest s next (length ts) free from (ih .0), named-step t rest s (length ts) ∙ ap (λ (l : List Transaction). t ∷ l) (ih .1))
 
 -- as many are named as are asked for
 pub named-length : (n : ℕ) (bs : List Bool) → length (named n bs) ≡ n
