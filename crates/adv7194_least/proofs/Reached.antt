@@ -14,10 +14,9 @@ use Rattle.bus.proofs.Acknowledged.{Fits, acknowledged-list}
 use Rattle.adv7194_bus.specs.Kind.{registerCount, readOnly, adv7194}
 use Rattle.adv7194_bus.specs.Rules.{Rules}
 use Rattle.least_cost.specs.Task.{Sound, Free}
-use Rattle.least_cost.specs.Cheapest.{Cheapest}
 use Rattle.least_cost.proofs.Attained.{Right, planned}
 use Rattle.least_cost.proofs.Greedy.{plan-greedy}
-use Rattle.least_cost.proofs.Cheapest.{map-every, cheapest}
+use Rattle.least_cost.proofs.Cheapest.{Cheapest, map-every, cheapest}
 use Rattle.least_cost.proofs.Ends.{Kept, length-after, ends-in}
 use Rattle.adv7194_least.specs.Change.{Change}
 use Rattle.adv7194_least.specs.Plan.{writable, differs, taskFor, task, planOf}

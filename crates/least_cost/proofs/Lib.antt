@@ -1,3 +1,4 @@
+pub mod Weight
 pub mod WeightLaws
 pub mod LowerBound
 pub mod Best

@@ -12,8 +12,8 @@ use borrow.Author.Tests.{ltb-true, ltb-false}
 use Rattle.bus.specs.Transactions.{Transaction, size, end, Touched, Every}
 use Rattle.least_cost.specs.Order.{Ascending, Holds}
 use Rattle.least_cost.specs.Task.{Task, Allowed, CoversFrom, Covers}
-use Rattle.least_cost.specs.Weight.{byteWeight, weights, leastClosed, leastOpen}
 use Rattle.least_cost.specs.Plan.{Open, Choice, begin, leaving, scan, extend}
+use Rattle.least_cost.proofs.Weight.{byteWeight, weights, leastClosed, leastOpen}
 use Rattle.least_cost.proofs.WeightLaws.{closed-need, closed-skip, open-shut, reach}
 use Rattle.least_cost.proofs.LowerBound.{least-from}
 use Rattle.least_cost.proofs.Best.{best, plan, NoTie, scan-need, scan-skip, extend-goes, extend-leaves, best-true, best-goes}
