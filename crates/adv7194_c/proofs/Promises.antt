@@ -74,4 +74,4 @@ module _ (image : List ℕ) (numbers : List ℤ) (address : ℕ) (plan : List �
       (rw w (ap planAnswer (c .0)), (rw w (c .1 .0), ((λ e. c .1 .1 .0 l t b refl), ((λ e. c .1 .1 .1 .0 l t b refl), ((λ e. c .1 .1 .1 .1 .0 l t b refl), ((λ e. c .1 .1 .1 .1 .1 .0 l t b refl), (λ e. absurd (omega arith))))))))
   promised after (Refused r f) h c =
       let w = eq-eqb (length numbers) numberCount h in
-      (rw w (ap planAnswer (c .0)), (rw w (c .1 .0), ((λ e. absurd (numbered r e)), ((λ e. absurd (numbered r e)), ((λ e. absurd (numbered r e)), ((λ e. absurd (numbered r e)), (λ e. c .1 .1 .1 .1 .1 .1 f (ap (λ (n : ℕ). refusedAt n f) e))))))))
+      (rw w (ap planAnswer (c .0)), (rw w (c .1 .0), ((λ e. absurd (numbered r e)), ((λ e. absurd (numbered r e)), ((λ e. absurd (numbered r e)), ((λ e. absurd (numbered r e)), (λ e. c .1 .1 .1 .1 .1 .1 .0 f (ap (λ (n : ℕ). refusedAt n f) e))))))))

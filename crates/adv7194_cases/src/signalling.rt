@@ -114,6 +114,7 @@ fn cgms_cases() {
     code_cgms(0, 1, 0, 0);
     code_cgms(0, 0, 1, 0);
     code_cgms(0, 0, 0, 1);
+    code_cgms(0, 1, 0, 1);
     code_cgms(4660, 1, 1, 1);
     code_cgms(0, -1, 1, 0);
     code_cgms(0, 2, 1, 0);
@@ -127,6 +128,7 @@ fn cgms_cases() {
 fn wss_cases() {
     settings(Case::Wss, b"wss", 2, 33);
     code_wss(4657);
+    code_wss(16376);
     code_wss(16379);
     code_wss(16382);
     code_wss(16383);

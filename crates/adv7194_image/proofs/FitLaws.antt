@@ -1,16 +1,14 @@
 -- The codes that the check gives fit their fields' bits. Assumes nothing.
 use mathlib.Core.Path.{_≡_, refl, sym, subst}
-use mathlib.Core.Bool.{Bool, true, false, cond, _||_}
+use mathlib.Core.Bool.{Bool, true, false, cond}
 use mathlib.Core.List.{[], _∷_}
 use Prim.Native.Nat.{ℕ, _^_, _<_}
 use native.Mathlib.Omega.{arith}
 use lib.Dec.{T, ltb, ltb→lt}
-use lib.IntN.{ℤ, pos, negsuc, negℤ}
+use lib.IntN.{ℤ, pos, negsuc}
 use lib.Pow.{pow-pos}
-use lib.Signed.{ltZ}
 use borrow.Author.Tests.{ltb-false}
-use Rattle.refusals.specs.Refusal.{Judged, accepted, refused, codeIn}
-use Rattle.rounding.proofs.Range.{everywhere}
+use Rattle.refusals.specs.Refusal.{accepted, refused, codeIn}
 use Rattle.adv7194_fields.specs.Coding.{Format, encode, outside, codeOf, codeBy}
 use Rattle.adv7194_fields.specs.Fields.{fields, blockOffset, brightness, clampDelay, dnrInput, gain, sharpness, threshold, uvLevel, yesNo}
 use Rattle.adv7194_fields.proofs.Judging.{in-range, neither-r}

@@ -20,8 +20,9 @@ use Rattle.adv7194_least.proofs.Costs.{plan-least, plan-only}
 use Rattle.adv7194_least.proofs.Room.{plan-room}
 use Rattle.adv7194_planning.specs.Rows.{wantedBy, listOf}
 use Rattle.adv7194_planning.specs.Planning.{planningOf, planLeft, done}
+use Rattle.adv7194_planning.specs.Judges.{Judges, image-fault, address-fault, settings-fault, room-fault, no-fault}
 use Rattle.adv7194_planning.proofs.CaseLaws.{bySettings, accept}
-use Rattle.adv7194_planning.proofs.ExactLaws.{Judges, image-fault, address-fault, settings-fault, room-fault, no-fault, settings-row, exactly}
+use Rattle.adv7194_planning.proofs.ExactLaws.{settings-row, exactly}
 
 -- all that planning promises of an answer, and of what it leaves of the lent plan
 abbrev pub Clauses : List ℕ → Settings → ℕ → List ℕ → List ℕ → Verdict Counts → Type 0
@@ -32,7 +33,8 @@ Clauses image s address plan after v =
     × (((l t b : ℕ) → v ≡ done l t b → Played image (wantedBy image s) (take l after))
     × (((l t b : ℕ) → v ≡ done l t b → Least image (wantedBy image s) t b)
     × (((l t b : ℕ) → v ≡ done l t b → Only image (wantedBy image s) (listOf image s))
-    × ((f : ℕ) → v ≡ refusedAt 10 f → length plan < mostBytes))))))
+    × (((f : ℕ) → v ≡ refusedAt 10 f → length plan < mostBytes)
+    × Judges image s address (length plan) v))))))
 
 -- what an answered plan tells: the image has a byte a register, and the numbers are the list's
 record Answered (image : List ℕ) (s : Settings) (v : Verdict Counts) (l t b : ℕ) : Type 0 where
@@ -77,35 +79,35 @@ module _ (image : List ℕ) (s : Settings) (bytes : (r : ℕ) → getD image r 0
     judged = exactly image s address (length plan) v .0 (sym answer)
 
     module _ (l t b : ℕ) (e : v ≡ done l t b) where
-      told : Answered image s v l t b
-      told = planned image s address (length plan) v judged l t b e
+      answered : Answered image s v l t b
+      answered = planned image s address (length plan) v judged l t b e
 
       -- the bytes answered are the packed plan
       left : take l after ≡ packed (listOf image s)
       left =
           let list = listOf image s in
-          ap (λ (k : ℕ). take k after) (told .size)
-          ∙ ap (take (length (packed list))) (memory ∙ accept image s address plan (sym answer ∙ told .verdict))
+          ap (λ (k : ℕ). take k after) (answered .size)
+          ∙ ap (take (length (packed list))) (memory ∙ accept image s address plan (sym answer ∙ answered .verdict))
           ∙ take-append-seam (packed list) (drop (length (packed list)) plan)
 
       -- the numbers are those of the list that the bytes unpack to
       pub counted : Counted (take l after) l t b
       unfolding listOf
-      counted = rw (left, told .size, told .transactions, told .cost) (plan-counted image (wantedBy image s) (change (told .long)))
+      counted = rw (left, answered .size, answered .transactions, answered .cost) (plan-counted image (wantedBy image s) (change (answered .long)))
 
       -- demand 2
       pub played : Played image (wantedBy image s) (take l after)
       unfolding listOf
-      played = rw left (plan-played image (wantedBy image s) (change (told .long)))
+      played = rw left (plan-played image (wantedBy image s) (change (answered .long)))
 
       -- demand 3
       pub least : Least image (wantedBy image s) t b
       unfolding listOf
-      least = rw (told .transactions, told .cost) (plan-least image (wantedBy image s) (change (told .long)))
+      least = rw (answered .transactions, answered .cost) (plan-least image (wantedBy image s) (change (answered .long)))
 
       pub only : Only image (wantedBy image s) (listOf image s)
       unfolding listOf
-      only = plan-only image (wantedBy image s) (change (told .long))
+      only = plan-only image (wantedBy image s) (change (answered .long))
 
     -- a lent plan that is too short is shorter than any plan needs
     pub room : (f : ℕ) → v ≡ refusedAt 10 f → length plan < mostBytes
@@ -116,4 +118,4 @@ module _ (image : List ℕ) (s : Settings) (bytes : (r : ℕ) → getD image r 0
 
     -- all that planning promises
     pub clauses : Clauses image s address plan after v
-    clauses = (answer, (memory, (counted, (played, (least, (only, room))))))
+    clauses = (answer, (memory, (counted, (played, (least, (only, (room, judged)))))))

@@ -3,7 +3,7 @@ use mathlib.Core.Path.{_≡_, refl, sym, ap, _∙_, subst, subst⁻¹}
 use mathlib.Core.Logic.{_↔_}
 use mathlib.Core.Bool.{Bool, true, false}
 use mathlib.Core.List.{List, [], _∷_, _++_}
-use Prim.Native.Nat.{ℕ, _≤_, _<_}
+use Prim.Native.Nat.{ℕ}
 use lib.Dec.{T, eqb, ltb}
 use lib.ListN.{length}
 use borrow.Author.Tests.{eqb-true, eqb-false, ltb-true, ltb-false}
@@ -11,7 +11,7 @@ use Rattle.bits.proofs.FlagLaws.{first, second}
 use Rattle.refusals.specs.Verdict.{Verdict, good, refusedAt}
 use Rattle.refusals.specs.Order.{Place, NoneHolds, FirstAt}
 use Rattle.packing.specs.Packing.{packed}
-use Rattle.planning.specs.Plan.{Counts, countsOf}
+use Rattle.planning.specs.Plan.{Counts}
 use Rattle.adv7194_bus.specs.Kind.{registerCount}
 use Rattle.adv7194_bus.specs.Address.{AddressFault, addressRight}
 use Rattle.adv7194_bus.proofs.AddressLaws.{no-address-fault, an-address-fault}
@@ -23,18 +23,8 @@ use Rattle.adv7194_settings.specs.Codes.{codesOf, checkOf}
 use Rattle.adv7194_settings.proofs.OrderLaws.{check-exactly, accepted-codes}
 use Rattle.adv7194_planning.specs.Rows.{listOf}
 use Rattle.adv7194_planning.specs.Planning.{planningOf}
+use Rattle.adv7194_planning.specs.Judges.{Judges, image-fault, address-fault, settings-fault, room-fault, no-fault}
 use Rattle.adv7194_planning.proofs.CaseLaws.{bySettings, allBySettings, order-by-settings, wrong-length, wrong-address, wrong-settings, wrong-room, no-row}
-
--- what planning answers, by the rows of document 01's table, in the order in which they are checked
-pub data Judges (image : List ℕ) (s : Settings) (address room : ℕ) : Verdict Counts → Type 0 where
-  image-fault : (length image ≡ registerCount → ⊥) → Judges image s address room (refusedAt 1 0)
-  address-fault : length image ≡ registerCount → AddressFault address → Judges image s address room (refusedAt 2 0)
-  settings-fault : {n f : ℕ} → length image ≡ registerCount → (AddressFault address → ⊥)
-      → FirstAt (rowHolds s) order n f → Judges image s address room (refusedAt n f)
-  room-fault : length image ≡ registerCount → (AddressFault address → ⊥)
-      → NoneHolds (rowHolds s) order → room < length (packed (listOf image s)) → Judges image s address room (refusedAt 10 0)
-  no-fault : length image ≡ registerCount → (AddressFault address → ⊥)
-      → NoneHolds (rowHolds s) order → length (packed (listOf image s)) ≤ room → Judges image s address room (good (countsOf (listOf image s)))
 
 -- ---- the settings
 

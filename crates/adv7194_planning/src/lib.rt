@@ -9,6 +9,7 @@ ghost use Rattle.adv7194_least.specs.Change.{Change};
 ghost use Rattle.adv7194_least.specs.Plan.{planOf};
 ghost use Rattle.adv7194_least.specs.Demands.{Played, Counted, Least, Only, mostBytes};
 ghost use Rattle.adv7194_planning.specs.Rows.{wantedBy, listOf};
+ghost use Rattle.adv7194_planning.specs.Judges.{Judges};
 ghost use Rattle.adv7194_planning.specs.Planning.{planningOf, planLeft, withoutField, done, answerOf};
 use crate::image::wanted_image;
 use crate::registers::changed_registers;
@@ -87,6 +88,7 @@ pub fn plan(image: &[u8], settings: Settings, address: u32, plan: &mut [u8]) -> 
     ensures least { λ r. ⌜ ((l t b : ℕ) → answerOf r ≡ done l t b → Least (now (image .entry)) (wantedBy (now (image .entry)) settings) t b) ⌝ }
     ensures only { λ r. ⌜ ((l t b : ℕ) → answerOf r ≡ done l t b → Only (now (image .entry)) (wantedBy (now (image .entry)) settings) (listOf (now (image .entry)) settings)) ⌝ }
     ensures room { λ r. ⌜ ((f : ℕ) → answerOf r ≡ refusedAt 10 f → length (now (plan .entry)) < mostBytes) ⌝ }
+    ensures judged { λ r. ⌜ Judges (now (image .entry)) settings address (length (now (plan .entry))) (answerOf r) ⌝ }
 {
     if image.len() != REGISTERS as usize {
         return Planned::Refused {

@@ -8,12 +8,13 @@ use Prim.Native.Nat.{ℕ, _+_, _%_, _<_}
 use native.Mathlib.Omega.{arith}
 use lib.Dec.{ltb, ltb→lt}
 use lib.IntN.{ℤ, pos, natAbs}
+use Rattle.bits.specs.Maps.{has}
 use Rattle.refusals.specs.Refusal.{Judged, accepted, refused}
 use Rattle.refusals.specs.Verdict.{refusedAt}
 use Rattle.refusals.proofs.VerdictLaws.{row-holds, row-fails}
 use Rattle.rounding.proofs.Range.{below-at, imp, imp→not}
 use Rattle.adv7194_signalling.specs.Kind as kinds
-use Rattle.adv7194_signalling.specs.Kind.{kindOf, kindBy, stands}
+use Rattle.adv7194_signalling.specs.Kind.{kindOf, kindBy}
 use Rattle.adv7194_signalling.specs.Cgms.{cgmsCode}
 use Rattle.adv7194_signalling.specs.Wss.{wssOf}
 use Rattle.adv7194_signalling.specs.declared.cgms.CgmsSetting.{CgmsSetting}
@@ -33,9 +34,9 @@ use Rattle.adv7194_reading.proofs.SignalWordLaws.{wordOf, cgms-again}
 -- ---- what a kind says of register 19
 
 -- off: bits 7-4 do not stand
-off-sends : (r19 : ℕ) → kindOf r19 ≡ accepted kinds.off → (stands 7 r19 ≡ false) × (sendsCgms r19 ≡ false) × (stands 4 r19 ≡ false)
+off-sends : (r19 : ℕ) → kindOf r19 ≡ accepted kinds.off → (has r19 7 ≡ false) × (sendsCgms r19 ≡ false) × (has r19 4 ≡ false)
 unfolding kindOf
-off-sends r19 k = by (stands 7 r19) (sendsCgms r19) (stands 4 r19) k
+off-sends r19 k = by (has r19 7) (sendsCgms r19) (has r19 4) k
   where
     by : (x y z : Bool) → kindBy x y z ≡ accepted kinds.off → (x ≡ false) × (y ≡ false) × (z ≡ false)
     by false false false e = (refl, refl, refl)
@@ -47,7 +48,7 @@ off-sends r19 k = by (stands 7 r19) (sendsCgms r19) (stands 4 r19) k
 -- CGMS
 cgms-sends : (r19 : ℕ) → kindOf r19 ≡ accepted kinds.cgms → sendsCgms r19 ≡ true
 unfolding kindOf
-cgms-sends r19 k = by (stands 7 r19) (sendsCgms r19) (stands 4 r19) k
+cgms-sends r19 k = by (has r19 7) (sendsCgms r19) (has r19 4) k
   where
     by : (x y z : Bool) → kindBy x y z ≡ accepted kinds.cgms → y ≡ true
     by false false false e = let z : _≡_ {A = ℕ} 0 1 = cc in absurd (omega arith)
@@ -56,9 +57,9 @@ cgms-sends r19 k = by (stands 7 r19) (sendsCgms r19) (stands 4 r19) k
     by x true z e = refl
 
 -- WSS
-wss-sends : (r19 : ℕ) → kindOf r19 ≡ accepted kinds.wss → (stands 7 r19 ≡ true) × (sendsCgms r19 ≡ false)
+wss-sends : (r19 : ℕ) → kindOf r19 ≡ accepted kinds.wss → (has r19 7 ≡ true) × (sendsCgms r19 ≡ false)
 unfolding kindOf
-wss-sends r19 k = by (stands 7 r19) (sendsCgms r19) (stands 4 r19) k
+wss-sends r19 k = by (has r19 7) (sendsCgms r19) (has r19 4) k
   where
     by : (x y z : Bool) → kindBy x y z ≡ accepted kinds.wss → (x ≡ true) × (y ≡ false)
     by false false false e = let z : _≡_ {A = ℕ} 0 1 = cc in absurd (omega arith)
@@ -68,8 +69,8 @@ wss-sends r19 k = by (stands 7 r19) (sendsCgms r19) (stands 4 r19) k
     by true true z e = let z : _≡_ {A = ℕ} 0 1 = cc in absurd (omega arith)
 
 -- bits 7-4 do not stand in a byte below 16 only, computed at every byte
-low-byte : (b : ℕ) → b < 256 → (stands 7 b || (sendsCgms b || stands 4 b)) ≡ false → b < 16
-low-byte b h e = ltb→lt b 16 (imp→not _ _ (below-at (λ k. imp (not (stands 7 k || (sendsCgms k || stands 4 k))) (ltb k 16)) 256 tt b h) e)
+low-byte : (b : ℕ) → b < 256 → (has b 7 || (sendsCgms b || has b 4)) ≡ false → b < 16
+low-byte b h e = ltb→lt b 16 (imp→not _ _ (below-at (λ k. imp (not (has k 7 || (sendsCgms k || has k 4))) (ltb k 16)) 256 tt b h) e)
 
 -- ---- each kind at fault
 
@@ -118,7 +119,7 @@ module _ {A : Type 0} (image : List ℕ) (small : (i : ℕ) → byteAt image i <
   unfolding codedOf standardFor
   wss-fault k = by either-standard
     where
-      sent : (stands 7 (byteAt image 0x19) ≡ true) × (sendsCgms (byteAt image 0x19) ≡ false)
+      sent : (has (byteAt image 0x19) 7 ≡ true) × (sendsCgms (byteAt image 0x19) ≡ false)
       sent = wss-sends (byteAt image 0x19) k
 
       none : settingsHeld image .timing .standard ≡ pos 1 → (z : ℤ) → wssOf z ≡ accepted (signalBytes image) → ⊥

@@ -1,25 +1,25 @@
 -- Field 11: the numbers that the three registers hold are those of the setting that is coded so. Assumes nothing.
 use mathlib.Core.Path.{_≡_, refl, sym, ap, _∙_, subst}
-use mathlib.Core.Bool.{Bool, true, false, not, _&&_}
+use mathlib.Core.Bool.{true, false, not}
 use mathlib.Core.List.{List, [], _∷_, _++_}
 use mathlib.Core.Logic.{_⊎_, inl, inr}
 use Prim.Native.Nat.{ℕ, _+_, _*_, _/_, _%_, _^_, _<_}
 use native.Mathlib.Omega.{arith}
-use lib.Dec.{T, eqb}
+use lib.Dec.{T}
 use lib.IntN.{ℤ, pos, natAbs}
 use lib.ListN.{take, length}
 use lib.Signed.{pos-natAbs}
-use borrow.Author.Tests.{eqb-true, eq-eqb}
 use Rattle.bits.specs.Strings.{lsbFirst, lsbValue}
+use Rattle.bits.specs.Bytes.{sameBytes}
 use Rattle.bits.proofs.StringLaws.{lsb-length, lsb-value}
+use Rattle.bits.proofs.SameLaws.{same-bytes, same-self}
 use Rattle.refusals.specs.Refusal.{Judged, accepted, refused}
 use Rattle.rounding.proofs.First.{flag}
 use Rattle.adv7194_signalling.specs.Kind as kinds
 use Rattle.adv7194_signalling.specs.Kind.{kindOf}
-use Rattle.adv7194_signalling.specs.Cgms.{cgmsOf, cgmsCode}
+use Rattle.adv7194_signalling.specs.Cgms.{cgmsCode}
 use Rattle.adv7194_signalling.specs.Wss.{wssOf}
 use Rattle.adv7194_signalling.specs.declared.cgms.CgmsSetting.{CgmsSetting}
-use Rattle.adv7194_signalling.proofs.FlagLaws.{both}
 use Rattle.adv7194_signalling.proofs.WordLaws.{value-append, value-take, joinedOf, joined-only}
 use Rattle.adv7194_signalling.proofs.CgmsReadLaws.{parts, is-coded}
 use Rattle.adv7194_signalling.proofs.CgmsLaws.{cgmsNumber}
@@ -28,29 +28,13 @@ use Rattle.adv7194_settings.specs.declared.settings.Signalling.{Signalling}
 use Rattle.adv7194_settings.specs.Rows.{signallingOf}
 use Rattle.adv7194_settings.specs.Codes.{codesIn}
 use Rattle.adv7194_reading_groups.specs.Held.{byteAt, signalBytes, wordNumber, yesNoAt, signallingHeld}
-use Rattle.adv7194_reading_groups.specs.Rows.{sameBytes, codedOtherwise}
+use Rattle.adv7194_reading_groups.specs.Rows.{codedOtherwise}
 
 -- ---- bytes compared
 
-pub same-bytes : (cs ds : List ℕ) → sameBytes cs ds ≡ true → cs ≡ ds
-unfolding sameBytes
-same-bytes [] [] e = refl
-same-bytes [] (d ∷ ds) e = let z : _≡_ {A = ℕ} 0 1 = cc in absurd (omega arith)
-same-bytes (c ∷ cs) [] e = let z : _≡_ {A = ℕ} 0 1 = cc in absurd (omega arith)
-same-bytes (c ∷ cs) (d ∷ ds) e =
-    let b = both (eqb c d) (sameBytes cs ds) e in
-    let head : c ≡ d = eqb-true c d (b .0) in
-    let tail = same-bytes cs ds (b .1) in
-    cc
-
-pub bytes-same : (cs : List ℕ) → sameBytes cs cs ≡ true
-unfolding sameBytes
-bytes-same [] = refl
-bytes-same (c ∷ cs) = rw (eq-eqb c c refl) (bytes-same cs)
-
 -- bytes that a coding gives, and bytes that it does not
 given : (j : Judged (List ℕ)) (bs : List ℕ) → j ≡ accepted bs → not (sameBytes (codesIn j) bs) ≡ false
-given j bs e = rw e (rw (bytes-same bs))
+given j bs e = rw e (rw (same-self bs))
 
 not-given : (j : Judged (List ℕ)) (b : ℕ) (bs : List ℕ) → (j ≡ accepted (b ∷ bs) → ⊥) → not (sameBytes (codesIn j) (b ∷ bs)) ≡ true
 unfolding sameBytes
@@ -58,7 +42,7 @@ not-given (refused n) b bs h = refl
 not-given (accepted cs) b bs h = go (flag (sameBytes cs (b ∷ bs)))
   where
     go : (sameBytes cs (b ∷ bs) ≡ true) ⊎ (sameBytes cs (b ∷ bs) ≡ false) → not (sameBytes cs (b ∷ bs)) ≡ true
-    go (inl t) = absurd (h (ap accepted (same-bytes cs (b ∷ bs) t)))
+    go (inl t) = absurd (h (ap accepted (same-bytes cs (b ∷ bs) (subst T (sym t) tt))))
     go (inr f) = rw f
 
 -- ---- the signalling of a setting

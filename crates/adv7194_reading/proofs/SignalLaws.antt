@@ -1,27 +1,26 @@
 -- Field 11: the rows that hold of it, by the kind of signalling that register 19 holds. Assumes nothing.
-use mathlib.Core.Path.{_≡_, refl, sym, ap, ap₂, _∙_, subst}
+use mathlib.Core.Path.{_≡_, refl, ap, _∙_}
 use mathlib.Core.Bool.{Bool, true, false, cond, not, _&&_, _||_}
 use mathlib.Core.List.{List, [], _∷_}
 use mathlib.Core.Logic.{_⊎_, inl, inr}
-use Prim.Native.Nat.{ℕ, _/_, _%_, _^_}
+use Prim.Native.Nat.{ℕ}
 use native.Mathlib.Omega.{arith}
 use lib.Dec.{T, eqb}
 use borrow.Author.Tests.{eqb-true}
 use Rattle.bits.specs.Fields.{bit}
-use Rattle.refusals.specs.Refusal.{Judged, accepted, refused, refusedBy}
-use Rattle.refusals.specs.Verdict.{Verdict, good, refusedAt, after, faultWhere}
+use Rattle.bits.specs.Maps.{has}
+use Rattle.refusals.specs.Refusal.{accepted, refused}
+use Rattle.refusals.specs.Verdict.{good, refusedAt, after, faultWhere}
 use Rattle.refusals.specs.Order.{firstOf, placesAt}
 use Rattle.refusals.proofs.VerdictLaws.{row-before}
 use Rattle.adv7194_fields.specs.Fields.{fields}
 use Rattle.adv7194_signalling.specs.Kind as kinds
-use Rattle.adv7194_signalling.specs.Kind.{kindOf, kindBy, stands}
-use Rattle.adv7194_settings.specs.declared.settings.Signalling.{Signalling}
-use Rattle.adv7194_settings.specs.Rows.{is, conflict}
-use Rattle.adv7194_reading_groups.specs.Held.{byteAt, readings, readingIn, readingAt, silent, signallingBy, signallingHeld, settingsHeld, yesNoAt}
+use Rattle.adv7194_signalling.specs.Kind.{kindOf, kindBy}
+use Rattle.adv7194_settings.specs.Rows.{is}
+use Rattle.adv7194_reading_groups.specs.Held.{byteAt, readings, readingIn, readingAt, signallingHeld, settingsHeld}
 use Rattle.adv7194_reading_groups.specs.Rows.{codedOtherwise, signalReserved, signalConflict, checkDisagrees, rowHeld}
 use Rattle.adv7194_reading_groups.specs.Places.{placesHeld}
 use Rattle.adv7194_reading_groups.specs.Groups.{partOf}
-use Rattle.adv7194_reading_groups.proofs.RowLaws.{all-read}
 
 or-false : (b : Bool) → (b || false) ≡ b
 or-false true = refl
@@ -62,7 +61,7 @@ sent-in r k = by (eqb (bit 5 r) 0) (eqb (bit 6 r) 0) refl refl
     by true true p q =
         let odd : bit 5 r ≡ 0 = eqb-true _ _ p in
         let even : bit 6 r ≡ 0 = eqb-true _ _ q in
-        absurd (none (stands 7 r) (stands 4 r) (rw (odd, even) at k))
+        absurd (none (has r 7) (has r 4) (rw (odd, even) at k))
     by true false p q = refl
     by false e p q = refl
 
@@ -77,7 +76,7 @@ module _ {A : Type 0} (image : List ℕ) (a : A) where
   -- a register 19 that is refused
   pub kind-refused : (n : ℕ) → kindOf (byteAt image 0x19) ≡ refused n → partOf image (11 ∷ []) a ≡ refusedAt n 11
   unfolding signallingHeld kindOf
-  kind-refused n k = signal-rows image a ∙ by (refusal-of-kind (stands 7 (byteAt image 0x19)) (stands 6 (byteAt image 0x19) || stands 5 (byteAt image 0x19)) (stands 4 (byteAt image 0x19)) n k)
+  kind-refused n k = signal-rows image a ∙ by (refusal-of-kind (has (byteAt image 0x19) 7) (has (byteAt image 0x19) 6 || has (byteAt image 0x19) 5) (has (byteAt image 0x19) 4) n k)
     where
       by : (n ≡ 4) ⊎ (n ≡ 7)
           → after (faultWhere (signalConflict image) 7 11) (after (faultWhere (signalReserved image) 4 11) (after (faultWhere (checkDisagrees image) 8 11) (good a))) ≡ refusedAt n 11

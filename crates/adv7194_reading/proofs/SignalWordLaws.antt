@@ -10,13 +10,14 @@ use mir.Syntax.{w32}
 use borrow.Author.Tests.{eqb-true}
 use Rattle.bits.specs.Fields.{bit}
 use Rattle.bits.specs.Strings.{lsbFirst}
+use Rattle.bits.specs.Maps.{has}
 use Rattle.refusals.specs.Refusal.{accepted}
 use Rattle.refusals.specs.Verdict.{good}
 use Rattle.refusals.proofs.VerdictLaws.{row-fails}
 use Rattle.rounding.proofs.First.{flag}
 use Rattle.rounding.proofs.Range.{back}
 use Rattle.adv7194_signalling.specs.Kind as kinds
-use Rattle.adv7194_signalling.specs.Kind.{kindOf, stands}
+use Rattle.adv7194_signalling.specs.Kind.{kindOf}
 use Rattle.adv7194_signalling.specs.Cgms.{cgmsCode}
 use Rattle.adv7194_signalling.specs.Numbers.{numberTop}
 use Rattle.adv7194_signalling.specs.Wss.{oddOnes, wssOf}
@@ -27,7 +28,7 @@ use Rattle.adv7194_signalling.proofs.CgmsReadLaws.{payloadOf, oddOf, evenOf, ch
 use Rattle.adv7194_signalling.proofs.WssLaws.{wss-coded}
 use Rattle.adv7194_signalling.proofs.KindLaws.{wss-kind, cgms-kind}
 use Rattle.adv7194_settings.specs.Rows.{is}
-use Rattle.adv7194_reading_groups.specs.Held.{byteAt, silent, signalBytes, settingsHeld, signallingHeld}
+use Rattle.adv7194_reading_groups.specs.Held.{byteAt, noSignalling, signalBytes, settingsHeld, signallingHeld}
 use Rattle.adv7194_reading_groups.specs.Groups.{partOf}
 use Rattle.adv7194_reading.specs.Signal.{sendsCgms, codedOf, standardFor, heldOf}
 use Rattle.adv7194_reading.proofs.SignalLaws.{off-read, cgms-rows, wss-rows}
@@ -43,7 +44,7 @@ chosen-back false p q = q
 -- so is the standard that goes with the signalling
 pub standard-back : (r19 : ℕ) (z : ℤ) → back w32 z ≡ z → back w32 (standardFor r19 z) ≡ standardFor r19 z
 unfolding standardFor
-standard-back r19 z h = chosen-back (sendsCgms r19) refl (chosen-back (stands 7 r19) refl h)
+standard-back r19 z h = chosen-back (sendsCgms r19) refl (chosen-back (has r19 7) refl h)
 
 -- ---- the word
 
@@ -51,7 +52,7 @@ standard-back r19 z h = chosen-back (sendsCgms r19) refl (chosen-back (stands 7 
 abbrev pub wordOf : List ℕ → ℕ
 wordOf image = joinedOf (byteAt image 0x19) (byteAt image 0x1A) (byteAt image 0x1B)
 
--- the setting that stands in a word
+-- the setting that a word holds
 abbrev cgmsIn : ℕ → CgmsSetting
 cgmsIn word = record { payload = pos (payloadOf word); odd = pos (oddOf word); even = pos (evenOf word); «chip_check» = pos (chipOf word) }
 
@@ -61,7 +62,7 @@ unfolding kindOf
 off-kind r19 b7 b6 b5 b4 = rw (b7, b6, b5, b4)
 
 -- holds no signalling
-off-signalling : (image : List ℕ) → kindOf (byteAt image 0x19) ≡ accepted kinds.off → signallingHeld image ≡ silent
+off-signalling : (image : List ℕ) → kindOf (byteAt image 0x19) ≡ accepted kinds.off → signallingHeld image ≡ noSignalling
 unfolding signallingHeld
 off-signalling image k = rw k
 
@@ -77,7 +78,7 @@ module _ (image : List ℕ) (a : byteAt image 0x1A < 256) (b : byteAt image 0x1B
       let chip : chipOf (wordOf image) ≡ bit 4 (byteAt image 0x19) = omega arith in
       rw g (rw (odd, even, chip))
 
-  -- CGMS that is coded as it stands is coded by the registers
+  -- CGMS that is coded unchanged is coded by the registers
   cgms-in : sendsCgms (byteAt image 0x19) ≡ true → codedOf (byteAt image 0x19) (wordOf image) (wordOf image % 0x4000) ≡ wordOf image
       → cgmsCode (cgmsIn (wordOf image)) ≡ accepted (signalBytes image)
   cgms-in g h =
@@ -109,8 +110,8 @@ module _ (image : List ℕ) (a : byteAt image 0x1A < 256) (b : byteAt image 0x1B
 
   -- ---- WSS
 
-  -- WSS whose word is coded again as it stands
-  wss-again : sendsCgms (byteAt image 0x19) ≡ false → stands 7 (byteAt image 0x19) ≡ true → codedOf (byteAt image 0x19) (wordOf image) (wordOf image % 0x4000) ≡ wordOf image
+  -- WSS whose word is coded again unchanged
+  wss-again : sendsCgms (byteAt image 0x19) ≡ false → has (byteAt image 0x19) 7 ≡ true → codedOf (byteAt image 0x19) (wordOf image) (wordOf image % 0x4000) ≡ wordOf image
       → (oddOnes (lsbFirst 4 (wordOf image % 0x4000)) ≡ true) × (wordOf image % 0x4000 + 0x800000 ≡ wordOf image)
   unfolding codedOf
   wss-again g w h = by (flag (oddOnes (lsbFirst 4 (wordOf image % 0x4000)))) (rw (g, w) at h)
@@ -125,7 +126,7 @@ module _ (image : List ℕ) (a : byteAt image 0x1A < 256) (b : byteAt image 0x1B
           absurd (omega arith)
 
   -- with PAL no row holds of it, and it is what is held
-  wss-good : sendsCgms (byteAt image 0x19) ≡ false → stands 7 (byteAt image 0x19) ≡ true → codedOf (byteAt image 0x19) (wordOf image) (wordOf image % 0x4000) ≡ wordOf image
+  wss-good : sendsCgms (byteAt image 0x19) ≡ false → has (byteAt image 0x19) 7 ≡ true → codedOf (byteAt image 0x19) (wordOf image) (wordOf image % 0x4000) ≡ wordOf image
       → settingsHeld image .timing .standard ≡ pos 1 → good (heldOf (byteAt image 0x19) (wordOf image % 0x4000)) ≡ partOf image (11 ∷ []) (signallingHeld image)
   unfolding heldOf
   wss-good g w h pal =
@@ -149,7 +150,7 @@ module _ (image : List ℕ) (a : byteAt image 0x1A < 256) (b : byteAt image 0x1B
   -- ---- off
 
   -- no row holds of it, and it is what is held
-  off-good : sendsCgms (byteAt image 0x19) ≡ false → stands 7 (byteAt image 0x19) ≡ false → codedOf (byteAt image 0x19) (wordOf image) (wordOf image % 0x4000) ≡ wordOf image
+  off-good : sendsCgms (byteAt image 0x19) ≡ false → has (byteAt image 0x19) 7 ≡ false → codedOf (byteAt image 0x19) (wordOf image) (wordOf image % 0x4000) ≡ wordOf image
       → good (heldOf (byteAt image 0x19) (wordOf image % 0x4000)) ≡ partOf image (11 ∷ []) (signallingHeld image)
   unfolding codedOf heldOf
   off-good g w h =
@@ -169,9 +170,9 @@ module _ (image : List ℕ) (a : byteAt image 0x1A < 256) (b : byteAt image 0x1B
       → standardFor (byteAt image 0x19) (settingsHeld image .timing .standard) ≡ settingsHeld image .timing .standard
       → good (heldOf (byteAt image 0x19) (wordOf image % 0x4000)) ≡ partOf image (11 ∷ []) (signallingHeld image)
   unfolding standardFor
-  agreed-read h s = by (flag (sendsCgms (byteAt image 0x19))) (flag (stands 7 (byteAt image 0x19)))
+  agreed-read h s = by (flag (sendsCgms (byteAt image 0x19))) (flag (has (byteAt image 0x19) 7))
     where
-      by : (sendsCgms (byteAt image 0x19) ≡ true) ⊎ (sendsCgms (byteAt image 0x19) ≡ false) → (stands 7 (byteAt image 0x19) ≡ true) ⊎ (stands 7 (byteAt image 0x19) ≡ false)
+      by : (sendsCgms (byteAt image 0x19) ≡ true) ⊎ (sendsCgms (byteAt image 0x19) ≡ false) → (has (byteAt image 0x19) 7 ≡ true) ⊎ (has (byteAt image 0x19) 7 ≡ false)
           → good (heldOf (byteAt image 0x19) (wordOf image % 0x4000)) ≡ partOf image (11 ∷ []) (signallingHeld image)
       by (inl g) w = cgms-good g h (sym (rw g at s))
       by (inr g) (inl w) = wss-good g w h (sym (rw (g, w) at s))

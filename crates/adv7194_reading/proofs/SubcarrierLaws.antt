@@ -1,41 +1,33 @@
 -- Field 28: the word that an image's timing gives, and its four bytes compared. Assumes nothing.
 use mathlib.Core.Path.{_≡_, refl, sym, ap, ap₂, _∙_, subst}
-use mathlib.Core.Bool.{Bool, true, false, cond, not}
+use mathlib.Core.Bool.{Bool, true, false, not}
 use mathlib.Core.List.{List, [], _∷_}
 use mathlib.Core.Logic.{_⊎_, inl, inr}
 use Prim.Native.Nat.{ℕ, zero, suc, _+_, _*_, _/_, _%_, _^_, _<_}
 use native.Mathlib.Omega.{arith}
-use lib.Dec.{eqb}
+use lib.Dec.{T, eqb}
 use lib.IntN.{ℤ, pos, negsuc}
 use lib.ListN.{length, take, drop}
 use lib.Pow.{shr-shr}
 use lib.Seq.{drop-cons}
 use borrow.Author.Tests.{lt-ltb, le-ltb, eq-eqb, ne-eqb}
+use Rattle.bits.specs.Bytes.{sameBytes}
+use Rattle.bits.proofs.SameLaws.{same-bytes, same-self}
 use Rattle.refusals.specs.Refusal.{codeIn}
 use Rattle.rounding.proofs.First.{flag}
 use Rattle.adv7194_fields.specs.Coding.{encode, codeBy}
 use Rattle.adv7194_fields.specs.Fields.{fields, standard, yesNo}
-use Rattle.adv7194_subcarrier.specs.declared.Standard.{Standard}
-use Rattle.adv7194_subcarrier.specs.declared.Standard.the-variants.{Ntsc, Pal}
 use Rattle.adv7194_subcarrier.specs.Subcarrier.{wordOf}
 use Rattle.adv7194_settings.specs.declared.settings.Settings.{Settings}
 use Rattle.adv7194_settings.specs.Rows.{is, numberCodings, codings, codingIn, codingAt}
-use Rattle.adv7194_settings.specs.Codes.{standardBy, codeAt, wordAt}
+use Rattle.adv7194_settings.specs.Codes.{standardSet, standardBy, wordAt}
 use Rattle.adv7194_settings.proofs.Faults.{number-code}
+use Rattle.adv7194_settings.proofs.TimingLaws.{standard-is}
 use Rattle.adv7194_image.specs.Wanted.{wordBytes}
 use Rattle.adv7194_reading_groups.specs.Held.{byteAt, settingsHeld}
-use Rattle.adv7194_reading_groups.specs.Rows.{sameBytes, registers, wordDisagrees}
-use Rattle.adv7194_reading.proofs.SignalHeldLaws.{same-bytes, bytes-same}
+use Rattle.adv7194_reading_groups.specs.Rows.{registers, wordDisagrees}
 
 -- ---- the word that the timing gives
-
--- the standard of a setting, which is NTSC where it is none
-standard-is : (z : ℤ) → standardBy (codeIn (encode standard z)) ≡ cond (is 1 z) Pal Ntsc
-unfolding encode codeBy
-standard-is (pos zero) = refl
-standard-is (pos (suc zero)) = refl
-standard-is (pos (suc (suc n))) = rw (le-ltb (suc (suc n)) 0 (omega arith), lt-ltb 1 (suc (suc n)) (omega arith), ne-eqb (suc (suc n)) 1 (λ e. omega arith))
-standard-is (negsuc n) = refl
 
 -- a yes
 yes-is : (z : ℤ) → eqb (codeIn (encode yesNo z)) 1 ≡ is 1 z
@@ -45,7 +37,7 @@ yes-is (pos (suc zero)) = refl
 yes-is (pos (suc (suc n))) = rw (le-ltb (suc (suc n)) 0 (omega arith), lt-ltb 1 (suc (suc n)) (omega arith), ne-eqb (suc (suc n)) 1 (λ e. omega arith))
 yes-is (negsuc n) = refl
 
-pub word-of : (s : Settings) → wordAt s ≡ wordOf (cond (is 1 (s .timing .standard)) Pal Ntsc) (is 1 (s .timing .«square_pixel»))
+pub word-of : (s : Settings) → wordAt s ≡ wordOf (standardSet (s .timing .standard)) (is 1 (s .timing .«square_pixel»))
 unfolding wordAt codingAt codings codingIn numberCodings fields
 word-of s =
     ap₂ wordOf
@@ -76,7 +68,7 @@ joined-same w b0 b1 b2 b3 h0 h1 h2 = go (flag (sameBytes (wordBytes w) (b0 ∷ b
     go : (sameBytes (wordBytes w) (b0 ∷ b1 ∷ b2 ∷ b3 ∷ []) ≡ true) ⊎ (sameBytes (wordBytes w) (b0 ∷ b1 ∷ b2 ∷ b3 ∷ []) ≡ false)
         → eqb (joinedOf b0 b1 b2 b3) w ≡ sameBytes (wordBytes w) (b0 ∷ b1 ∷ b2 ∷ b3 ∷ [])
     go (inl t) =
-        let e = same-bytes (wordBytes w) (b0 ∷ b1 ∷ b2 ∷ b3 ∷ []) t in
+        let e = same-bytes (wordBytes w) (b0 ∷ b1 ∷ b2 ∷ b3 ∷ []) (subst T (sym t) tt) in
         let e0 : w % 256 ≡ b0 = cc in
         let e1 : w / 256 % 256 ≡ b1 = cc in
         let e2 : w / 65536 % 256 ≡ b2 = cc in
@@ -92,7 +84,7 @@ joined-same w b0 b1 b2 b3 h0 h1 h2 = go (flag (sameBytes (wordBytes w) (b0 ∷ b
         let e1 : w / 256 % 256 ≡ b1 = rw q1 (omega arith) in
         let e2 : w / 65536 % 256 ≡ b2 = rw q2 (omega arith) in
         let e3 : w / 16777216 ≡ b3 = omega arith in
-        let s : sameBytes (wordBytes w) (b0 ∷ b1 ∷ b2 ∷ b3 ∷ []) ≡ true = rw (e0, e1, e2, e3) (bytes-same (b0 ∷ b1 ∷ b2 ∷ b3 ∷ [])) in
+        let s : sameBytes (wordBytes w) (b0 ∷ b1 ∷ b2 ∷ b3 ∷ []) ≡ true = rw (e0, e1, e2, e3) (same-self (b0 ∷ b1 ∷ b2 ∷ b3 ∷ [])) in
         let z : _≡_ {A = ℕ} 0 1 = cc in
         omega arith)
         ∙ sym f

@@ -2,11 +2,12 @@
 ghost use mathlib.Core.Path.{_≡_};
 ghost use mathlib.Core.List.{[], _∷_, _++_};
 ghost use lib.ListN.{length};
+ghost use Rattle.refusals.specs.Order.{Exactly};
 ghost use Rattle.adv7194_settings.specs.Order.{fieldOrder};
 ghost use Rattle.adv7194_reading_groups.specs.Held.{settingsHeld};
-ghost use Rattle.adv7194_reading_groups.specs.Rows.{registers};
+ghost use Rattle.adv7194_reading_groups.specs.Rows.{registers, rowHeld};
 ghost use Rattle.adv7194_reading_groups.specs.Groups.{partOf};
-ghost use Rattle.adv7194_reading.specs.Reading.{readAs, readOf};
+ghost use Rattle.adv7194_reading.specs.Reading.{readAs, readOrder, readOf};
 use crate::Read;
 use crate::curves::read_curve;
 use crate::refusal::gains_refusal;
@@ -88,6 +89,7 @@ fn read_fields(image: &[u8]) -> Read
 // The settings that an image holds, or the refusal of the first field at fault.
 pub fn read(image: &[u8]) -> Read
     ensures answer { λ r. ⌜ readAs r ≡ readOf (now (image .entry)) ⌝ }
+    ensures exactly { λ r. ⌜ Exactly (rowHeld (now (image .entry))) readOrder (settingsHeld (now (image .entry))) (readAs r) ⌝ }
 {
     if image.len() != REGISTERS {
         return Read::Refused {

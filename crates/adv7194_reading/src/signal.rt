@@ -16,7 +16,7 @@ use crate::word::joined;
 use adv7194_reading_groups::Fault;
 use adv7194_reading_groups::NTSC;
 use adv7194_reading_groups::PAL;
-use adv7194_reading_groups::is;
+use adv7194_settings::is;
 use adv7194_settings::settings::Signalling;
 use adv7194_signalling::kind::SignallingKind;
 use adv7194_signalling::kind::kind;

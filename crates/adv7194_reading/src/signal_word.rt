@@ -2,7 +2,7 @@
 ghost use mathlib.Core.Path.{_≡_};
 ghost use mathlib.Core.Bool.{cond};
 ghost use Prim.Native.Nat.{_^_, _<_};
-ghost use Rattle.adv7194_signalling.specs.Kind.{stands};
+ghost use Rattle.bits.specs.Maps.{has};
 ghost use Rattle.adv7194_reading.specs.Signal.{sendsCgms, codedOf, standardFor, heldOf};
 use adv7194_reading_groups::NTSC;
 use adv7194_reading_groups::PAL;
@@ -66,7 +66,7 @@ fn sends_cgms(r19: u8) -> bool
 
 // Whether 19 sends WSS.
 fn sends_wss(r19: u8) -> bool
-    ensures answer { λ r. ⌜ r ≡ stands 7 r19 ⌝ }
+    ensures answer { λ r. ⌜ r ≡ has r19 7 ⌝ }
 {
     r19 / WSS_SENT == 1
 }

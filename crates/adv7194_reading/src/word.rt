@@ -1,27 +1,14 @@
 // Reading field 28, the subcarrier word, which is worked out and not set.
 ghost use mathlib.Core.Path.{_≡_};
-ghost use mathlib.Core.Bool.{not, cond};
+ghost use mathlib.Core.Bool.{not};
 ghost use Prim.Native.Nat.{_+_, _*_, _^_};
 ghost use lib.ListN.{length};
-ghost use Rattle.adv7194_subcarrier.specs.declared.Standard.the-variants as standards;
-ghost use Rattle.adv7194_settings.specs.Rows.{is as isOf};
 ghost use Rattle.adv7194_reading_groups.specs.Held.{settingsHeld};
 ghost use Rattle.adv7194_reading_groups.specs.Rows.{registers, wordDisagrees};
-use adv7194_reading_groups::PAL;
 use adv7194_reading_groups::YES;
-use adv7194_reading_groups::is;
+use adv7194_settings::is;
 use adv7194_settings::settings::Timing;
-use adv7194_subcarrier::Standard;
-
-// The standard by its setting.
-fn standard_of(standard: i32) -> Standard
-    ensures answer { λ r. ⌜ r ≡ cond (isOf 1 standard) standards.Pal standards.Ntsc ⌝ }
-{
-    if is(standard, PAL) {
-        return Standard::Pal;
-    }
-    Standard::Ntsc
-}
+use adv7194_settings::standard_of;
 
 // The word in four bytes, lowest first.
 pub fn joined(b0: u8, b1: u8, b2: u8, b3: u8) -> u32

@@ -10,7 +10,7 @@ use lib.Signed.{mag}
 use mir.Syntax.{w32}
 use mir.ValLaws.{toZ-ofZ}
 use Rattle.refusals.specs.declared.Refusal.{Refusal}
-use Rattle.refusals.specs.Refusal.{Judged, accepted, numberOf}
+use Rattle.refusals.specs.Refusal.{numberOf}
 use Rattle.refusals.specs.Verdict.{after, faultWhere}
 use Rattle.rounding.proofs.Range.{back}
 use Rattle.adv7194_fields.specs.declared.Decoded.{Decoded}
@@ -33,9 +33,9 @@ zero-in-image image r t h = (subst (λ (n : ℕ). r < n) (sym h) (lit< t), lit< 
 
 module _ (image : List ℕ) (f : ℕ) {d : Decoded} (reading : decoded d ≡ readingAt image f) where
   -- a refusal is the answer
-  pub halted : {A : Type 0} {r : Fault} (fs : List ℕ) (a : A) (why : Refusal) → eqb f 11 ≡ false → r ≡ faultBy d f → d ≡ Unreadable why
+  pub reading-refused : {A : Type 0} {r : Fault} (fs : List ℕ) (a : A) (why : Refusal) → eqb f 11 ≡ false → r ≡ faultBy d f → d ≡ Unreadable why
       → faultAs r ≡ partOf image (f ∷ fs) a
-  halted fs a why h e u = ap faultAs (e ∙ ap (λ (x : Decoded). faultBy x f) u) ∙ stopped image f fs a (numberOf why) h (sym reading ∙ ap decoded u)
+  reading-refused fs a why h e u = ap faultAs (e ∙ ap (λ (x : Decoded). faultBy x f) u) ∙ stopped image f fs a (numberOf why) h (sym reading ∙ ap decoded u)
 
   -- a setting lets the next fields come
   pub passed : {A : Type 0} (fs : List ℕ) (a : A) (z : ℤ) → eqb f 11 ≡ false → d ≡ Setting z

@@ -1,19 +1,18 @@
 -- The rows of one field, and what comes after them, for every field but signalling. Assumes nothing.
 use mathlib.Core.Path.{_≡_, refl, sym, ap, _∙_, subst}
 use mathlib.Core.Bool.{Bool, true, false, cond, not, _&&_, _||_}
-use mathlib.Core.List.{List, [], _∷_, _++_}
+use mathlib.Core.List.{List, [], _∷_}
 use Prim.Native.Nat.{ℕ, _^_}
 use lib.Dec.{T, eqb, eqb→eq, ltb}
 use lib.IntN.{ℤ}
 use Rattle.refusals.specs.Refusal.{Judged, accepted, refused, refusedBy}
 use Rattle.refusals.specs.Verdict.{Verdict, good, refusedAt, after, faultOf, faultWhere}
-use Rattle.refusals.specs.Order.{Place, firstOf, placesAt}
+use Rattle.refusals.specs.Order.{firstOf, placesAt}
 use Rattle.refusals.proofs.VerdictLaws.{row-before}
 use Rattle.adv7194_fields.specs.Coding.{Format, decode, hasAt, settingAt, leastMagnitude, reserves}
 use Rattle.adv7194_fields.specs.Fields.{Field, fields}
-use Rattle.adv7194_settings.specs.Order.{rowsAt}
 use Rattle.adv7194_settings.specs.Rows.{squareWithOversampling, pedestalWithPal}
-use Rattle.adv7194_settings.proofs.Codings.{threeOrFour, Sound}
+use Rattle.adv7194_settings.proofs.Codings.{Sound}
 use Rattle.adv7194_reading_groups.specs.Held.{FieldReading, codeHeld, readings, readingIn, readingAt, settingsHeld}
 use Rattle.adv7194_reading_groups.specs.Rows.{zeroBitSet, wordDisagrees, rowHeld}
 use Rattle.adv7194_reading_groups.specs.Places.{placesHeld}

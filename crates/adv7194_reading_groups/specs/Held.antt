@@ -70,16 +70,16 @@ abbrev pub yesNoAt : List ℕ → ℕ → ℤ
 yesNoAt image i = pos (bit i (byteAt image 0x19))
 
 -- no signalling
-abbrev pub silent : Signalling
-silent = record { kind = pos 0; number = pos 0; odd = pos 0; even = pos 0; «chip_check» = pos 0 }
+abbrev pub noSignalling : Signalling
+noSignalling = record { kind = pos 0; number = pos 0; odd = pos 0; even = pos 0; «chip_check» = pos 0 }
 
 -- the setting by its kind: bits 5 and 6 of 19 send CGMS in odd and even fields, bit 4 is the chip check
 abbrev pub signallingBy : List ℕ → Judged kinds.Signalling → Signalling
-signallingBy image (accepted kinds.off) = silent
+signallingBy image (accepted kinds.off) = noSignalling
 signallingBy image (accepted kinds.cgms) =
     record { kind = pos 1; number = wordNumber image; odd = yesNoAt image 5; even = yesNoAt image 6; «chip_check» = yesNoAt image 4 }
 signallingBy image (accepted kinds.wss) = record { kind = pos 2; number = wordNumber image; odd = pos 0; even = pos 0; «chip_check» = pos 0 }
-signallingBy image (refused n) = silent
+signallingBy image (refused n) = noSignalling
 
 -- the signalling that the image holds
 unfoldable pub signallingHeld : List ℕ → Signalling

@@ -1,10 +1,11 @@
 -- Document 01, "Refusals", rows 1 and 3 to 8 of the table, as they hold of an image.
-use mathlib.Core.Bool.{Bool, true, false, cond, not, _&&_, _||_}
-use mathlib.Core.List.{List, [], _∷_}
+use mathlib.Core.Bool.{Bool, cond, not, _&&_, _||_}
+use mathlib.Core.List.{List}
 use Prim.Native.Nat.{ℕ}
 use lib.Dec.{eqb}
 use lib.ListN.{length, take, drop}
 use Rattle.bits.specs.Fields.{field}
+use Rattle.bits.specs.Bytes.{sameBytes}
 use Rattle.refusals.specs.Refusal.{refusedBy}
 use Rattle.adv7194_signalling.specs.Kind.{kindOf}
 use Rattle.adv7194_settings.specs.Rows.{is, signallingOf, squareWithOversampling, pedestalWithPal, conflict}
@@ -12,13 +13,6 @@ use Rattle.adv7194_settings.specs.Codes.{codesIn, wordAt}
 use Rattle.adv7194_bus.specs.Kind.{registerCount}
 use Rattle.adv7194_image.specs.Wanted.{wordBytes}
 use Rattle.adv7194_reading_groups.specs.Held.{byteAt, readingAt, signalBytes, signallingHeld, settingsHeld}
-
--- two lists of bytes are the same
-unfoldable pub sameBytes : List ℕ → List ℕ → Bool
-sameBytes [] [] = true
-sameBytes [] (b ∷ bs) = false
-sameBytes (a ∷ as′) [] = false
-sameBytes (a ∷ as′) (b ∷ bs) = eqb a b && sameBytes as′ bs
 
 -- how many registers an image has
 abbrev pub registers : ℕ

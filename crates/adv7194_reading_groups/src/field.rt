@@ -1,4 +1,4 @@
-// What the fields' readers share: the code in a field's bits, a yes/no in one bit, the must-be-zero bits of a register, and a setting compared.
+// What the fields' readers share: the code in a field's bits, a yes/no in one bit, and the must-be-zero bits of a register.
 ghost use mathlib.Core.Path.{_≡_};
 ghost use mathlib.Core.Bool.{not};
 ghost use Prim.Native.Nat.{_+_, _≤_, _<_};
@@ -10,7 +10,6 @@ ghost use Rattle.adv7194_fields.specs.Answers.{decoded};
 ghost use Rattle.adv7194_fields.specs.Coding.{decode};
 ghost use Rattle.adv7194_fields.specs.Fields.{yesNo};
 ghost use Rattle.adv7194_image.specs.Masks.{zeroMask};
-ghost use Rattle.adv7194_settings.specs.Rows.{is as isOf};
 ghost use Rattle.adv7194_reading_groups.specs.Held.{byteAt};
 use adv7194_fields::Decoded;
 use adv7194_fields::plain::Plain;
@@ -47,11 +46,4 @@ pub fn zero_bit_set(image: &[u8], register: usize) -> bool
     ensures answer { λ r. ⌜ r ≡ not (eqb (bitAnd (byteAt (now (image .entry)) register) (zeroMask register)) 0) ⌝ }
 {
     image[register] & adv7194_image::must_be_zero(register) != 0
-}
-
-// Whether a setting is this number.
-pub fn is(setting: i32, number: u8) -> bool
-    ensures answer { λ r. ⌜ r ≡ isOf number setting ⌝ }
-{
-    setting == number as i32
 }

@@ -12,7 +12,6 @@ pub use field::NTSC;
 pub use field::PAL;
 pub use field::REGISTERS;
 pub use field::YES;
-pub use field::is;
 use refusals::Refusal;
 
 // A refusal, and the field that it is given at.

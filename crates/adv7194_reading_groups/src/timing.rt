@@ -9,10 +9,10 @@ use crate::Fault;
 use crate::faults::refused;
 use crate::field::YES;
 use crate::field::code;
-use crate::field::is;
 use crate::field::yes_no;
 use adv7194_fields::Decoded;
 use adv7194_fields::plain::Plain;
+use adv7194_settings::is;
 use adv7194_settings::settings::Timing;
 use refusals::Refusal;
 

@@ -6,10 +6,10 @@ use mathlib.Core.List.{List, [], _∷_, _++_}
 use Prim.Native.Nat.{ℕ, _≤_}
 use native.Mathlib.Omega.{arith}
 use lib.ListN.{length, drop}
-use Rattle.refusals.specs.Verdict.{Verdict, good}
+use Rattle.refusals.specs.Verdict.{good}
 use Rattle.bus.specs.Transactions.{Transaction, busBytes}
 use Rattle.packing.specs.Packing.{packed}
-use Rattle.planning.specs.Plan.{Counts, countsOf}
+use Rattle.planning.specs.Plan.{countsOf}
 use Rattle.adv7194_bus.specs.Kind.{registerCount}
 use Rattle.adv7194_bus.specs.Address.{addressRight}
 use Rattle.adv7194_settings.specs.declared.settings.Settings.{Settings}

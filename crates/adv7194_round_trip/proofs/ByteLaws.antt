@@ -1,16 +1,14 @@
 -- Whole registers of an image, taken as a list: curves and the subcarrier word. Assumes nothing.
-use mathlib.Core.Path.{_≡_, refl, sym, ap, ap₂, _∙_, subst}
-use mathlib.Core.Bool.{true}
+use mathlib.Core.Path.{_≡_, refl, sym, ap, _∙_, subst}
 use mathlib.Core.List.{List, [], _∷_}
 use Prim.Native.Nat.{ℕ, zero, suc, _+_, _≤_, _<_}
 use native.Mathlib.Omega.{arith}
-use lib.Dec.{T, eqb, eqb→eq}
+use lib.Dec.{T}
 use lib.IntN.{pos}
 use lib.ListN.{length, getD, take, drop}
 use lib.Seq.{drop-cons, getD-drop}
-use borrow.Author.Tests.{eq-eqb, le-ltb}
+use borrow.Author.Tests.{le-ltb}
 use Rattle.bits.specs.Fields.{field}
-use Rattle.bits.proofs.FlagLaws.{first, second}
 use Rattle.refusals.specs.Refusal.{accepted}
 use Rattle.adv7194_fields.specs.Coding.{encode, codeBy}
 use Rattle.adv7194_fields.proofs.Judging.{inside-coded}
@@ -18,23 +16,7 @@ use Rattle.adv7194_settings.specs.Rows.{curveByte, together, bytesSet, gammaOf}
 use Rattle.adv7194_image.specs.Wanted.{byteWrites}
 use Rattle.adv7194_image.proofs.ApartLaws.{AllThere}
 use Rattle.adv7194_reading_groups.specs.Held.{curveAt}
-use Rattle.adv7194_reading_groups.specs.Rows.{sameBytes}
 use Rattle.adv7194_round_trip.specs.RoundTrip.{Bytes}
-
--- two lists that a test finds the same
-pub same-bytes : (xs ys : List ℕ) → T (sameBytes xs ys) → xs ≡ ys
-unfolding sameBytes
-same-bytes [] [] t = refl
-same-bytes [] (y ∷ ys) t = absurd t
-same-bytes (x ∷ xs) [] t = absurd t
-same-bytes (x ∷ xs) (y ∷ ys) t =
-    ap₂ (λ (a : ℕ) (l : List ℕ). a ∷ l) (eqb→eq x y (first (eqb x y) (sameBytes xs ys) t)) (same-bytes xs ys (second (eqb x y) (sameBytes xs ys) t))
-
--- a list is the same as itself
-pub same-self : (l : List ℕ) → sameBytes l l ≡ true
-unfolding sameBytes
-same-self [] = refl
-same-self (x ∷ xs) = rw (eq-eqb x x refl) (same-self xs)
 
 -- n elements of a list from the k-th on
 abbrev pub elements : List ℕ → ℕ → ℕ → List ℕ

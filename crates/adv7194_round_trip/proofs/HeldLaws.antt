@@ -7,7 +7,9 @@ use lib.Dec.{T, eqb, eqb→eq}
 use lib.IntN.{ℤ}
 use lib.ListN.{length, take, drop}
 use Rattle.bits.specs.Fields.{field}
+use Rattle.bits.specs.Bytes.{sameBytes}
 use Rattle.bits.proofs.FlagLaws.{first, second}
+use Rattle.bits.proofs.SameLaws.{same-bytes, same-self}
 use Rattle.refusals.specs.Refusal.{Judged, refusedBy}
 use Rattle.refusals.specs.Verdict.{good}
 use Rattle.refusals.specs.Order.{placesAt}
@@ -19,11 +21,10 @@ use Rattle.adv7194_settings.specs.Rows.{conflict, is, squareWithOversampling, p
 use Rattle.adv7194_settings.specs.Codes.{wordAt}
 use Rattle.adv7194_image.specs.Wanted.{wordBytes}
 use Rattle.adv7194_reading_groups.specs.Held.{byteAt, codeHeld, readings, readingIn, readingAt, signallingHeld, settingsHeld}
-use Rattle.adv7194_reading_groups.specs.Rows.{sameBytes, registers, zeroBitSet, codedOtherwise, signalReserved, wordDisagrees, rowHeld}
+use Rattle.adv7194_reading_groups.specs.Rows.{registers, zeroBitSet, codedOtherwise, signalReserved, wordDisagrees, rowHeld}
 use Rattle.adv7194_reading.specs.Reading.{placesHeld, readOrder, readOf}
 use Rattle.adv7194_round_trip.proofs.FirstLaws.{among, all-clear, chosen-fails, and-fails, or-fails}
 use Rattle.adv7194_round_trip.proofs.NumberLaws.{AllReadable, all-readable}
-use Rattle.adv7194_round_trip.proofs.ByteLaws.{same-bytes, same-self}
 use Rattle.adv7194_round_trip.proofs.SignalLaws.{SignalClear}
 
 -- no row of the reading order holds

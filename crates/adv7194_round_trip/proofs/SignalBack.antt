@@ -9,7 +9,9 @@ use lib.IntN.{ℤ, pos, natAbs}
 use lib.Signed.{pos-natAbs}
 use Rattle.bits.specs.Fields.{bit}
 use Rattle.bits.specs.Strings.{lsbFirst, lsbValue}
+use Rattle.bits.specs.Bytes.{sameBytes}
 use Rattle.bits.proofs.StringLaws.{lsb-length, lsb-value}
+use Rattle.bits.proofs.SameLaws.{same-self}
 use Rattle.refusals.specs.Refusal.{Judged, accepted, refusedBy}
 use Rattle.rounding.proofs.Range.{below, below-at, imp, imp→not, T→true}
 use Rattle.adv7194_fields.proofs.Judging.{neither-l, neither-r}
@@ -30,11 +32,11 @@ use Rattle.adv7194_settings.specs.Codes.{codesIn, signalBy}
 use Rattle.adv7194_settings.proofs.ByKind.{off-is, cgms-is, wss-is, no-kind-is}
 use Rattle.adv7194_image.specs.Wanted.{byteWrites, signalWrites}
 use Rattle.adv7194_image.proofs.ApartLaws.{AllThere}
-use Rattle.adv7194_reading_groups.specs.Held.{byteAt, signalBytes, wordNumber, yesNoAt, silent, signallingBy, signallingHeld}
-use Rattle.adv7194_reading_groups.specs.Rows.{sameBytes, codedOtherwise}
+use Rattle.adv7194_reading_groups.specs.Held.{byteAt, signalBytes, wordNumber, yesNoAt, noSignalling, signallingBy, signallingHeld}
+use Rattle.adv7194_reading_groups.specs.Rows.{codedOtherwise}
 use Rattle.adv7194_round_trip.specs.RoundTrip.{Bytes}
 use Rattle.adv7194_round_trip.proofs.FirstLaws.{and-fails, or-fails}
-use Rattle.adv7194_round_trip.proofs.ByteLaws.{whole, same-self}
+use Rattle.adv7194_round_trip.proofs.ByteLaws.{whole}
 use Rattle.adv7194_round_trip.proofs.InsideLaws.{AllNarrow}
 use Rattle.adv7194_round_trip.proofs.SmallLaws.{bytes-narrow}
 use Rattle.adv7194_round_trip.proofs.SignalLaws.{SignalClear, zero-off}
@@ -99,9 +101,9 @@ off-back : (image : List ℕ) → Bytes image → (standard : ℤ) → AllThere 
 unfolding signallingHeld
 off-back image b standard h =
     let kind = zero-off (byteAt image 0x19) (b .byte 0x19) (h .0) in
-    let read : signallingHeld image ≡ silent = ap (signallingBy image) kind in
+    let read : signallingHeld image ≡ noSignalling = ap (signallingBy image) kind in
     record {
-      coded = ap signallingOf read ∙ off-is silent refl;
+      coded = ap signallingOf read ∙ off-is noSignalling refl;
       clear = record {
         not-both = ap (refusedBy 7) kind;
         not-reserved = ap (refusedBy 4) kind;

@@ -5,6 +5,8 @@ use mathlib.Core.List.{List}
 use Prim.Native.Nat.{ℕ, _<_}
 use lib.Dec.{T, eqb, eqb→eq}
 use Rattle.bits.specs.Fields.{field}
+use Rattle.bits.specs.Bytes.{sameBytes}
+use Rattle.bits.proofs.SameLaws.{same-bytes}
 use Rattle.refusals.specs.Refusal.{Judged, accepted, refused, refusedBy, refusedBy}
 use Rattle.rounding.proofs.Range.{below-at, imp, imp→}
 use Rattle.adv7194_signalling.specs.Kind as kinds
@@ -15,10 +17,10 @@ use Rattle.adv7194_settings.specs.Codes.{codesIn, signalBy}
 use Rattle.adv7194_settings.proofs.ByKind.{off-is}
 use Rattle.adv7194_image.specs.Wanted.{byteWrites, signalWrites}
 use Rattle.adv7194_image.proofs.ApartLaws.{AllThere}
-use Rattle.adv7194_reading_groups.specs.Held.{byteAt, signalBytes, silent, signallingBy, signallingHeld}
-use Rattle.adv7194_reading_groups.specs.Rows.{sameBytes, codedOtherwise}
+use Rattle.adv7194_reading_groups.specs.Held.{byteAt, signalBytes, noSignalling, signallingBy, signallingHeld}
+use Rattle.adv7194_reading_groups.specs.Rows.{codedOtherwise}
 use Rattle.adv7194_round_trip.specs.RoundTrip.{Bytes}
-use Rattle.adv7194_round_trip.proofs.ByteLaws.{same-bytes, whole}
+use Rattle.adv7194_round_trip.proofs.ByteLaws.{whole}
 
 -- ---- the kind that register 19 holds, by computing it for each byte
 
@@ -105,7 +107,7 @@ signal-held image b c =
         → (is 1 (signallingBy image k .kind) && other (signallingBy image k)) ≡ false → (is 2 (signallingBy image k .kind) && other (signallingBy image k)) ≡ false
         → T (not (refusedElse k)) → Signalled image (signallingOf (signallingBy image k))
     by (accepted kinds.off) e p q r s t =
-        subst (Signalled image) (sym (off-is silent refl)) (record { taken = λ n. refl; there = (off-zero (byteAt image 0x19) (b .byte 0x19) e, tt) })
+        subst (Signalled image) (sym (off-is noSignalling refl)) (record { taken = λ n. refl; there = (off-zero (byteAt image 0x19) (b .byte 0x19) e, tt) })
     by (accepted kinds.cgms) e p q r s t = coded-there image b (signallingOf (signallingBy image (accepted kinds.cgms))) r
     by (accepted kinds.wss) e p q r s t = coded-there image b (signallingOf (signallingBy image (accepted kinds.wss))) s
     by (refused n) e p q r s t = absurd (neither n (eqb n 4) (eqb n 7) q p t)

@@ -31,7 +31,13 @@ const NUMBER: usize = 11;
 
 const ODD: usize = 12;
 
+const EVEN: usize = 13;
+
 const CHIP_CHECK: usize = 14;
+
+const HUE: usize = 18;
+
+const DNR_INPUT: usize = 26;
 
 const CURVE_A: usize = 29;
 
@@ -88,12 +94,40 @@ fn run(base: &[u8], numbers: &mut [i32], to: u32)
     images::both(base, numbers);
 }
 
+// Two rows at once over the house setting: of different fields, and of one field.
+fn house_twice(numbers: &mut [i32])
+    requires { ⌜ length (now numbers) ≡ 49 ⌝ }
+{
+    checks::two(b"house", numbers, HUE, -226, DNR_INPUT, 5);
+    checks::two(b"house", numbers, STANDARD, 2, SQUARE_PIXEL, 1);
+    checks::two(b"house", numbers, STANDARD, 4, SQUARE_PIXEL, 1);
+    checks::two(b"house", numbers, STANDARD, 1, SQUARE_PIXEL, 1);
+    checks::two(b"house", numbers, SQUARE_PIXEL, 1, OVERSAMPLING, 2);
+}
+
+// The same of field 11, over CGMS.
+fn cgms_twice(numbers: &mut [i32])
+    requires { ⌜ length (now numbers) ≡ 49 ⌝ }
+{
+    checks::two(b"cgms", numbers, NUMBER, 16384, ODD, 0);
+    checks::two(b"cgms", numbers, STANDARD, 1, PEDESTAL, 0);
+}
+
+// The same over WSS, which uses neither field.
+fn wss_twice(numbers: &mut [i32])
+    requires { ⌜ length (now numbers) ≡ 49 ⌝ }
+{
+    checks::two(b"wss", numbers, STANDARD, 0, NUMBER, 3);
+    checks::two(b"wss", numbers, ODD, 7, EVEN, 7);
+}
+
 // The cases of the house setting, and of two numbers at once.
 fn house(numbers: &mut [i32])
     requires { ⌜ length (now numbers) ≡ 49 ⌝ }
 {
     set_house(numbers);
     checks::pairs(numbers);
+    house_twice(numbers);
     run(b"house", numbers, LAST);
 }
 
@@ -102,8 +136,10 @@ fn signalling(numbers: &mut [i32])
     requires { ⌜ length (now numbers) ≡ 49 ⌝ }
 {
     set_cgms(numbers);
+    cgms_twice(numbers);
     run(b"cgms", numbers, LAST);
     set_wss(numbers);
+    wss_twice(numbers);
     run(b"wss", numbers, COARSE);
 }
 

@@ -125,6 +125,36 @@ pub(crate) fn all(base: &[u8], numbers: &mut [i32], to: u32)
     }
 }
 
+// A number's index and value.
+fn setting(index: usize, value: i32) {
+    print::text(b" ");
+    print::decimal((index % 256) as u32);
+    print::text(b" ");
+    print::signed(value);
+}
+
+// A line with a base, two numbers' indices and values, and the verdict with both changed.
+pub(crate) fn two(
+    base: &[u8],
+    numbers: &mut [i32],
+    index: usize,
+    value: i32,
+    other: usize,
+    second: i32,
+)
+    requires { ⌜ (length (now numbers) ≡ 49) × (index < 49) × (other < 49) ⌝ }
+{
+    let kept = numbers[index];
+    put(numbers, index, value);
+    let verdict = verdict_with(numbers, other, second);
+    put(numbers, index, kept);
+    print::text(b"two ");
+    print::text(base);
+    setting(index, value);
+    setting(other, second);
+    print::verdict(verdict);
+}
+
 // A line with a number's index, a range of indices of others, and the verdict with both far outside.
 fn pair(index: usize, first: usize, last: usize, verdict: u32) {
     print::text(b"pair ");

@@ -8,4 +8,3 @@ pub mod TimingLaws
 pub mod GroupLaws
 pub mod CheckLaws
 pub mod OrderLaws
-pub mod Cases

@@ -1,28 +1,11 @@
--- Settings compared with a number, and read from the machine. Assumes nothing.
-use mathlib.Core.Path.{_≡_, refl, ap, _∙_}
-use mathlib.Core.Bool.{true, false}
-use Prim.Native.Nat.{ℕ, _^_, _<_}
-use native.Mathlib.Omega.{arith}
-use lib.Dec.{eqb}
-use lib.IntN.{ℤ, pos, negsuc, natAbs}
-use lib.Signed.{ltZ, mag}
+-- What the machine passes to a coding. Assumes nothing.
+use mathlib.Core.Path.{_≡_, ap, _∙_}
+use Prim.Native.Nat.{_^_, _<_}
+use lib.IntN.{ℤ}
+use lib.Signed.{mag}
 use mir.Syntax.{w32}
 use mir.ValLaws.{toZ-ofZ}
-use borrow.Author.Tests.{ltb-true}
 use Rattle.rounding.proofs.Range.{back}
-use Rattle.adv7194_settings.specs.Rows.{is}
-
--- a negative number is none of these
-pub negative-is : (k : ℕ) (z : ℤ) → ltZ z (pos 0) ≡ true → false ≡ is k z
-negative-is k (pos n) h = absurd (omega (arith, ltb-true n 0 h))
-negative-is k (negsuc n) h = refl
-
--- of one that is not, the number is compared
-pub number-is : (k : ℕ) (z : ℤ) → ltZ z (pos 0) ≡ false → eqb (natAbs z) k ≡ is k z
-number-is k (pos n) h = refl
-number-is k (negsuc n) h = let z : _≡_ {A = ℕ} 0 1 = cc in absurd (omega arith)
-
--- ---- what the machine passes to a coding
 
 -- a coding of what was passed is the coding of the setting
 pub passed : {A : Type 0} (code : ℤ → A) (z : ℤ) {v : A} → v ≡ code (back w32 z) → mag z < 2 ^ 31 → v ≡ code z

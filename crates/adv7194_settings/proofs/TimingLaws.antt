@@ -7,17 +7,18 @@ use native.Mathlib.Omega.{arith}
 use lib.Dec.{eqb}
 use lib.IntN.{ℤ, pos, negsuc}
 use lib.Signed.{ltZ}
-use borrow.Author.Tests.{ltb-false}
+use borrow.Author.Tests.{ltb-false, lt-ltb, le-ltb, ne-eqb}
 use Rattle.refusals.specs.Refusal.{accepted, refused, codeIn}
 use Rattle.refusals.specs.Verdict.{after, faultWhere, good}
 use Rattle.adv7194_fields.specs.Coding.{encode, codeBy, isCode, plain}
-use Rattle.adv7194_fields.specs.Fields.{plainTo}
+use Rattle.adv7194_fields.specs.Fields.{plainTo, standard}
 use Rattle.adv7194_settings.specs.Rows.{is}
+use Rattle.adv7194_settings.specs.Codes.{standardSet, standardBy}
 use Rattle.adv7194_settings.proofs.Turns.{Found, dueFrom, on-where}
 
 -- a row that doesn't hold lets the next faults come
-pub spared : {B : Type 0} {b : Bool} (n f : ℕ) (ws : List Found) (a : B) → b ≡ false → dueFrom (faultWhere b n f ∷ ws) a ≡ dueFrom ws a
-spared n f ws a e = ap (λ (v : Found). after v (good a)) (on-where n f ws e)
+pub past-row : {B : Type 0} {b : Bool} (n f : ℕ) (ws : List Found) (a : B) → b ≡ false → dueFrom (faultWhere b n f ∷ ws) a ≡ dueFrom ws a
+past-row n f ws a e = ap (λ (v : Found). after v (good a)) (on-where n f ws e)
 
 -- ---- a setting that is 0 or 1
 
@@ -51,3 +52,13 @@ both (suc zero) (suc (suc s)) hp hs = absurd (omega (arith, hs))
 -- so their sum tells pedestal with PAL
 pub sum-flag : {pedestal standard : ℤ} {p s : ℕ} → Bit pedestal p → Bit standard s → (is 1 pedestal && is 1 standard) ≡ eqb (p + s) 2
 sum-flag b d = ap₂ _&&_ (ap (is 1) (b .setting)) (ap (is 1) (d .setting)) ∙ sym (both _ _ (b .small) (d .small))
+
+-- ---- the standard
+
+-- the standard of a setting, which is NTSC where it is none
+pub standard-is : (z : ℤ) → standardBy (codeIn (encode standard z)) ≡ standardSet z
+unfolding encode codeBy
+standard-is (pos zero) = refl
+standard-is (pos (suc zero)) = refl
+standard-is (pos (suc (suc n))) = rw (le-ltb (suc (suc n)) 0 (omega arith), lt-ltb 1 (suc (suc n)) (omega arith), ne-eqb (suc (suc n)) 1 (λ e. omega arith))
+standard-is (negsuc n) = refl

@@ -1,7 +1,7 @@
 -- Faults met in turn: a coding that is a code goes on to the next, one that is a refusal ends. Assumes nothing.
-use mathlib.Core.Path.{_≡_, refl, sym, ap, _∙_}
+use mathlib.Core.Path.{_≡_, sym, ap, _∙_}
 use mathlib.Core.Bool.{Bool, true, false}
-use mathlib.Core.List.{List, [], _∷_}
+use mathlib.Core.List.{List, _∷_}
 use Prim.Native.Nat.{ℕ}
 use Rattle.refusals.specs.declared.Refusal.{Refusal}
 use Rattle.refusals.specs.Refusal.{Judged, accepted, refused, codeIn}
@@ -45,9 +45,9 @@ dueFrom ws a = after (inTurn (good tt) ws) (good a)
 
 module _ (f : ℕ) {d : Coded} {j : Judged ℕ} (coding : coded d ≡ j) where
   -- a refusal is the answer
-  pub halted : {B : Type 0} {r : Fault} {why : Refusal} (ws : List Found) (a : B) → d ≡ Refused why → r ≡ faultBy d f
+  pub coding-refused : {B : Type 0} {r : Fault} {why : Refusal} (ws : List Found) (a : B) → d ≡ Refused why → r ≡ faultBy d f
       → faultAs r ≡ dueFrom (faultOf f j ∷ ws) a
-  halted ws a u e = ap faultAs (e ∙ ap (λ (x : Coded). faultBy x f) u) ∙ sym (ends f ws a (sym coding ∙ ap coded u))
+  coding-refused ws a u e = ap faultAs (e ∙ ap (λ (x : Coded). faultBy x f) u) ∙ sym (ends f ws a (sym coding ∙ ap coded u))
 
   -- a code lets the next fields come
   pub next : {B : Type 0} {n : ℕ} (ws : List Found) (a : B) → d ≡ Code n

@@ -4,6 +4,7 @@ use mathlib.Core.Bool.{cond}
 use mathlib.Core.List.{List, [], _∷_}
 use Prim.Native.Nat.{ℕ}
 use lib.Dec.{eqb}
+use lib.IntN.{ℤ}
 use lib.ListN.{getD}
 use Rattle.refusals.specs.Refusal.{Judged, accepted, refused}
 use Rattle.refusals.specs.Verdict.{Verdict}
@@ -22,7 +23,7 @@ use Rattle.adv7194_settings.specs.declared.codes.GainsCodes.{GainsCodes}
 use Rattle.adv7194_settings.specs.declared.codes.ModeCodes.{ModeCodes}
 use Rattle.adv7194_settings.specs.declared.codes.Codes.{Codes}
 use Rattle.adv7194_settings.specs.Order.{order}
-use Rattle.adv7194_settings.specs.Rows.{codingAt, rowHolds}
+use Rattle.adv7194_settings.specs.Rows.{is, codingAt, rowHolds}
 
 -- the codes of a coding; none where it is a refusal
 abbrev pub codesIn : Judged (List ℕ) → List ℕ
@@ -32,6 +33,10 @@ codesIn (refused n) = []
 -- the code of a field that holds one number
 unfoldable pub codeAt : Settings → ℕ → ℕ
 codeAt s f = getD (codesIn (codingAt s f)) 0 0
+
+-- the standard by its setting: 1 is PAL
+abbrev pub standardSet : ℤ → Standard
+standardSet z = cond (is 1 z) Pal Ntsc
 
 -- the standard by its code
 abbrev pub standardBy : ℕ → Standard

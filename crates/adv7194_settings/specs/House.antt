@@ -1,12 +1,6 @@
 -- Document 01, "House setting": NTSC, not square, 4x on, pedestal on, contrast and scales 1000, DNR input 1, both curves ratio 1/1,
 -- signalling off, every other field 0 or no.
 use lib.IntN.{pos}
-use Rattle.adv7194_settings.specs.declared.settings.Timing.{Timing}
-use Rattle.adv7194_settings.specs.declared.settings.Output.{Output}
-use Rattle.adv7194_settings.specs.declared.settings.Signalling.{Signalling}
-use Rattle.adv7194_settings.specs.declared.settings.Picture.{Picture}
-use Rattle.adv7194_settings.specs.declared.settings.Gains.{Gains}
-use Rattle.adv7194_settings.specs.declared.settings.Mode.{Mode}
 use Rattle.adv7194_settings.specs.declared.settings.Curve.{Curve}
 use Rattle.adv7194_settings.specs.declared.settings.Settings.{Settings}
 

@@ -1,6 +1,9 @@
 // The check of a whole set of settings.
 ghost use mathlib.Core.Path.{_≡_};
-ghost use Rattle.adv7194_settings.specs.Codes.{checkOf};
+ghost use Rattle.refusals.specs.Order.{Exactly};
+ghost use Rattle.adv7194_settings.specs.Order.{order};
+ghost use Rattle.adv7194_settings.specs.Rows.{rowHolds};
+ghost use Rattle.adv7194_settings.specs.Codes.{codesOf, checkOf};
 ghost use Rattle.adv7194_settings.specs.Answers.{checkedAs};
 use crate::codes::Codes;
 use crate::curves::CurveChecked;
@@ -43,6 +46,7 @@ pub enum Checked {
 // The check: the codes of the settings, or the first refusal in the checking order with its field.
 pub fn check(settings: Settings) -> Checked
     ensures answer { λ r. ⌜ checkedAs r ≡ checkOf settings ⌝ }
+    ensures exactly { λ r. ⌜ Exactly (rowHolds settings) order (codesOf settings) (checkedAs r) ⌝ }
 {
     let timing_checked = checked_timing(settings.timing);
     let TimingChecked::Codes(timing) = timing_checked else {

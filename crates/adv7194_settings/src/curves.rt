@@ -15,9 +15,9 @@ use adv7194_gamma::Points;
 use refusals::Refusal;
 
 // The kinds.
-const RATIO: u32 = 0;
+const RATIO: u8 = 0;
 
-const BYTES: u32 = 1;
+const BYTES: u8 = 1;
 
 // The codes of a curve's field, or its fault.
 pub enum CurveChecked {

@@ -25,11 +25,8 @@ pub fn refused(coded: Coded, field: u8) -> Fault
 }
 
 // Whether a setting is this number.
-pub fn is(setting: i32, number: u32) -> bool
+pub fn is(setting: i32, number: u8) -> bool
     ensures answer { λ r. ⌜ r ≡ isOf number setting ⌝ }
 {
-    if setting < 0 {
-        return false;
-    }
-    setting as u32 == number
+    setting == number as i32
 }

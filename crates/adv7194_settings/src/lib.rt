@@ -14,3 +14,5 @@ mod timing;
 
 pub use checking::Checked;
 pub use checking::check;
+pub use fault::is;
+pub use timing::standard_of;

@@ -18,17 +18,17 @@ use refusals::Refusal;
 const FIELD: u8 = 11;
 
 // The kinds.
-const OFF: u32 = 0;
+const OFF: u8 = 0;
 
-const CGMS: u32 = 1;
+const CGMS: u8 = 1;
 
-const WSS: u32 = 2;
+const WSS: u8 = 2;
 
-const NO: u32 = 0;
+const NO: u8 = 0;
 
-const NTSC: u32 = 0;
+const NTSC: u8 = 0;
 
-const PAL: u32 = 1;
+const PAL: u8 = 1;
 
 // The codes of the field, or its fault.
 pub enum SignalChecked {

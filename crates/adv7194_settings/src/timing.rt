@@ -1,7 +1,7 @@
 // The check of fields 1 to 4.
 ghost use mathlib.Core.Path.{_≡_};
 ghost use Rattle.refusals.specs.Verdict.{good, after};
-ghost use Rattle.adv7194_settings.specs.Codes.{standardBy};
+ghost use Rattle.adv7194_settings.specs.Codes.{standardSet};
 ghost use Rattle.adv7194_settings.specs.Answers.{timingAs};
 ghost use Rattle.adv7194_settings.specs.Groups.{inTurn, timingFaults, timingCodes};
 use crate::codes::TimingCodes;
@@ -17,8 +17,11 @@ use refusals::Refusal;
 // The codes of a pedestal and of PAL, added.
 const BOTH: u8 = 2;
 
+// The standard's number.
+const PAL: u8 = 1;
+
 // A yes.
-const YES: u32 = 1;
+const YES: u8 = 1;
 
 // The codes of these fields, or the first fault among them.
 pub enum TimingChecked {
@@ -26,14 +29,14 @@ pub enum TimingChecked {
     Codes(TimingCodes),
 }
 
-// The standard by its code.
-fn standard_of(code: u8) -> Standard
-    ensures answer { λ r. ⌜ r ≡ standardBy code ⌝ }
+// The standard by its setting.
+pub fn standard_of(standard: i32) -> Standard
+    ensures answer { λ r. ⌜ r ≡ standardSet standard ⌝ }
 {
-    if code == 0 {
-        return Standard::Ntsc;
+    if is(standard, PAL) {
+        return Standard::Pal;
     }
-    Standard::Pal
+    Standard::Ntsc
 }
 
 // The check of these fields, with square pixel set against 4x, and pedestal against PAL.
@@ -69,7 +72,7 @@ pub fn checked_timing(timing: Timing) -> TimingChecked
         });
     }
     TimingChecked::Codes(TimingCodes {
-        standard: standard_of(standard),
+        standard: standard_of(timing.standard),
         square_pixel,
         oversampling,
         pedestal,

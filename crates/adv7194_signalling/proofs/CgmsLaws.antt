@@ -9,19 +9,19 @@ use Rattle.bits.specs.Strings.{lsbFirst, msbFirst, lsbValue, bitValue}
 use Rattle.bits.proofs.StringLaws.{lsb-length, msb-length, lsb-value, lsbValue-lt}
 use Rattle.refusals.specs.Refusal.{accepted, refused}
 use Rattle.adv7194_signalling.specs.Numbers.{within, yes, numberTop, yesTop}
-use Rattle.adv7194_signalling.specs.Check.{checkOf, turned}
+use Rattle.adv7194_signalling.specs.Check.{checkOf, reversed}
 use Rattle.adv7194_signalling.specs.Cgms.{cgmsBits, cgmsOf}
 use Rattle.adv7194_signalling.proofs.FlagLaws.{both}
 use Rattle.adv7194_signalling.proofs.NumberLaws.{Within, is-within}
-use Rattle.adv7194_signalling.proofs.CheckLaws.{turned-lt}
+use Rattle.adv7194_signalling.proofs.CheckLaws.{reversed-lt}
 use Rattle.adv7194_signalling.proofs.WordLaws.{value-append, wordBytes, bytes-of-value}
 
 -- the check bits' part of the number
 abbrev pub checkPart : ℕ → ℕ
-checkPart payload = turned (checkOf payload)
+checkPart payload = reversed (checkOf payload)
 
 pub checkPart-lt : (payload : ℕ) → checkPart payload < 64
-checkPart-lt payload = turned-lt (checkOf payload)
+checkPart-lt payload = reversed-lt (checkOf payload)
 
 -- the number of a CGMS word
 pub cgms-value : (payload : ℕ) (odd even chip : Bool) → payload < 2 ^ 14

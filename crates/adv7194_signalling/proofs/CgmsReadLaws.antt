@@ -69,7 +69,7 @@ is-coded payload odd even chip bytes h = go (flag (inside payload odd even chip)
         let z : _≡_ {A = ℕ} 0 1 = cc in
         absurd (omega arith)
 
--- the word of the setting that stands in a word
+-- the word of the setting that a word holds
 abbrev pub coded-again : ℕ → ℕ
 coded-again word = lsbValue (cgmsBits (payloadOf word) (eqb (oddOf word) 1) (eqb (evenOf word) 1) (eqb (chipOf word) 1))
 
@@ -77,14 +77,14 @@ coded-again word = lsbValue (cgmsBits (payloadOf word) (eqb (oddOf word) 1) (eqb
 again-inside : (word : ℕ) → inside (pos (payloadOf word)) (pos (oddOf word)) (pos (evenOf word)) (pos (chipOf word)) ≡ true
 again-inside word = rw (rest-within word numberTop, rest-within (word / 0x200000) yesTop, rest-within (word / 0x400000) yesTop, rest-within (word / 0x100000) yesTop)
 
--- a word that is coded again as it stands holds a setting
+-- a word that is coded again unchanged holds a setting
 pub again-held : (word : ℕ) → coded-again word ≡ word
     → cgmsOf (pos (payloadOf word)) (pos (oddOf word)) (pos (evenOf word)) (pos (chipOf word)) ≡ accepted (wordBytes word)
 again-held word h =
     cgms-coded (pos (payloadOf word)) (pos (oddOf word)) (pos (evenOf word)) (pos (chipOf word)) (again-inside word)
     ∙ ap (λ (v : ℕ). accepted (wordBytes v)) h
 
--- and one that holds a setting is coded again as it stands
+-- and one that holds a setting is coded again unchanged
 pub held-again : {payload odd even chip : ℤ} → Inside payload odd even chip → coded-again (cgmsNumber payload odd even chip) ≡ cgmsNumber payload odd even chip
 held-again i =
     let p = parts i in

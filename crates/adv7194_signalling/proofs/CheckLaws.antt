@@ -1,4 +1,4 @@
--- The check register: it keeps within its six bits; what some payload bits make of it turned round, from one computed test over its 64 values
+-- The check register: it keeps within its six bits; what some payload bits make of it with its bits reversed, from one computed test over its 64 values
 -- and theirs; and the payload's fourteen bits in steps of five, five and four. Assumes nothing.
 use mathlib.Core.Path.{_≡_, refl, sym, ap, _∙_}
 use mathlib.Core.Bool.{Bool, true, false, xor}
@@ -11,7 +11,7 @@ use lib.Pow.{pow-pos, shr-shr}
 use Rattle.bits.specs.Strings.{lsbFirst, msbFirst, lsbValue}
 use Rattle.bits.proofs.StringLaws.{lsb-cat, msb-length, lsbValue-lt}
 use Rattle.rounding.proofs.Range.{below, below-at}
-use Rattle.adv7194_signalling.specs.Check.{afterBit, afterBits, feedback, checkOf, sixOnes, turned}
+use Rattle.adv7194_signalling.specs.Check.{afterBit, afterBits, feedback, checkOf, sixOnes, reversed}
 use Rattle.adv7194_signalling.proofs.WordLaws.{lsb-low}
 
 -- a test at each register and each number below n
@@ -36,25 +36,25 @@ unfolding afterBits
 afterBits-lt [] r h = h
 afterBits-lt (b ∷ bs) r h = afterBits-lt bs (afterBit r b) (afterBit-lt r b h)
 
--- ---- the register turned round
+-- ---- the register with its bits reversed
 
 -- it has six bits
-pub turned-lt : (r : ℕ) → turned r < 64
-turned-lt r = rw (msb-length 6 r) at (lsbValue-lt (msbFirst 6 r))
+pub reversed-lt : (r : ℕ) → reversed r < 64
+reversed-lt r = rw (msb-length 6 r) at (lsbValue-lt (msbFirst 6 r))
 
 -- twice is as it was
-turned-twice : (r : ℕ) → r < 64 → turned (turned r) ≡ r
+reversed-twice : (r : ℕ) → r < 64 → reversed (reversed r) ≡ r
 unfolding msbFirst lsbValue
-turned-twice r h = eqb→eq _ _ (below-at (λ r. eqb (turned (turned r)) r) 64 tt r h)
+reversed-twice r h = eqb→eq _ _ (below-at (λ r. eqb (reversed (reversed r)) r) 64 tt r h)
 
 -- six ones are as they were at once
-turned-ones : turned sixOnes ≡ sixOnes
+reversed-ones : reversed sixOnes ≡ sixOnes
 unfolding msbFirst lsbValue
-turned-ones = refl
+reversed-ones = refl
 
--- whether w payload bits make of a register turned round what f makes of it and their feedback
+-- whether w payload bits make of a register with its bits reversed what f makes of it and their feedback
 abbrev goes-at : ℕ → (ℕ → ℕ → ℕ) → ℕ → ℕ → Bool
-goes-at w f check bits = eqb (f check (bitXor check bits % 2 ^ w)) (turned (afterBits (turned check) (lsbFirst w bits)))
+goes-at w f check bits = eqb (f check (bitXor check bits % 2 ^ w)) (reversed (afterBits (reversed check) (lsbFirst w bits)))
 
 -- they do at each register
 abbrev pub Goes : ℕ → (ℕ → ℕ → ℕ) → Type 0
@@ -62,13 +62,13 @@ Goes w f = T (each (2 ^ w) (goes-at w f))
 
 -- and so do the w lowest bits of any number
 pub by-feedback : (w : ℕ) (f : ℕ → ℕ → ℕ) → Goes w f → (check bits : ℕ) → check < 64
-    → f check (bitXor check bits % 2 ^ w) ≡ turned (afterBits (turned check) (lsbFirst w bits))
+    → f check (bitXor check bits % 2 ^ w) ≡ reversed (afterBits (reversed check) (lsbFirst w bits))
 by-feedback w f t check bits h =
     let low : bitXor check bits % 2 ^ w ≡ bitXor check (bits % 2 ^ w) % 2 ^ w =
     xor-mod check bits w ∙ ap (λ (b : ℕ). bitXor (check % 2 ^ w) b) (sym (mod-mod bits (2 ^ w))) ∙ sym (xor-mod check (bits % 2 ^ w) w) in
     ap (λ (feedback : ℕ). f check feedback) low
     ∙ eqb→eq _ _ (at (2 ^ w) (goes-at w f) t check (bits % 2 ^ w) h (mod-lt bits (pow-pos w)))
-    ∙ ap (λ (bs : List Bool). turned (afterBits (turned check) bs)) (lsb-low w bits)
+    ∙ ap (λ (bs : List Bool). reversed (afterBits (reversed check) bs)) (lsb-low w bits)
 
 -- ---- the payload's bits in steps
 
@@ -82,16 +82,16 @@ steps : (payload : ℕ) → checkOf payload ≡ afterBits (afterBits (afterBits 
 unfolding checkOf
 steps payload = rw (lsb-cat 5 9 payload, lsb-cat 5 4 (payload / 32), afterBits-append, afterBits-append, shr-shr payload 5 5)
 
--- the register's turned form after some bits, turned back for the next
-turned-back : (check r : ℕ) (bs : List Bool) → turned check ≡ r → r < 64 → turned (turned (afterBits (turned check) bs)) ≡ afterBits r bs
-turned-back check r bs e h = rw e (turned-twice (afterBits r bs) (afterBits-lt bs r h))
+-- the register's reversed form after some bits, reversed back for the next
+reversed-back : (check r : ℕ) (bs : List Bool) → reversed check ≡ r → r < 64 → reversed (reversed (afterBits (reversed check) bs)) ≡ afterBits r bs
+reversed-back check r bs e h = rw e (reversed-twice (afterBits r bs) (afterBits-lt bs r h))
 
--- the steps with the register turned round between them
-pub check-turned : (payload five ten : ℕ) → five ≡ turned (afterBits (turned sixOnes) (lsbFirst 5 payload))
-    → ten ≡ turned (afterBits (turned five) (lsbFirst 5 (payload / 32)))
-    → turned (afterBits (turned ten) (lsbFirst 4 (payload / 1024))) ≡ turned (checkOf payload)
-check-turned payload five ten e f =
+-- the steps with the register reversed between them
+pub check-reversed : (payload five ten : ℕ) → five ≡ reversed (afterBits (reversed sixOnes) (lsbFirst 5 payload))
+    → ten ≡ reversed (afterBits (reversed five) (lsbFirst 5 (payload / 32)))
+    → reversed (afterBits (reversed ten) (lsbFirst 4 (payload / 1024))) ≡ reversed (checkOf payload)
+check-reversed payload five ten e f =
     let one = afterBits sixOnes (lsbFirst 5 payload) in
-    let at-five : turned five ≡ one = ap turned e ∙ turned-back sixOnes sixOnes (lsbFirst 5 payload) turned-ones (lit< tt) in
-    let at-ten = ap turned f ∙ turned-back five one (lsbFirst 5 (payload / 32)) at-five (afterBits-lt (lsbFirst 5 payload) sixOnes (lit< tt)) in
+    let at-five : reversed five ≡ one = ap reversed e ∙ reversed-back sixOnes sixOnes (lsbFirst 5 payload) reversed-ones (lit< tt) in
+    let at-ten = ap reversed f ∙ reversed-back five one (lsbFirst 5 (payload / 32)) at-five (afterBits-lt (lsbFirst 5 payload) sixOnes (lit< tt)) in
     rw (at-ten, steps payload)

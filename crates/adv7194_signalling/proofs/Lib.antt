@@ -7,4 +7,3 @@ pub mod CgmsReadLaws
 pub mod WssLaws
 pub mod HeldLaws
 pub mod KindLaws
-pub mod Cases

@@ -37,6 +37,6 @@ sixOnes = 0b111111
 unfoldable pub checkOf : ℕ → ℕ
 checkOf payload = afterBits sixOnes (lsbFirst 14 payload)
 
--- a register turned round, its top bit lowest: C14 is the register's top bit, C19 its last
-abbrev pub turned : ℕ → ℕ
-turned register = lsbValue (msbFirst 6 register)
+-- a register with its bits reversed, its top bit lowest: C14 is the register's top bit, C19 its last
+abbrev pub reversed : ℕ → ℕ
+reversed register = lsbValue (msbFirst 6 register)

@@ -2,8 +2,8 @@
 -- bit 7 sends WSS; both at once are refused 7; bit 4 with bits 5-7 clear is refused 4; off is bits 7-4 zero.
 use mathlib.Core.Bool.{Bool, true, false, _||_}
 use Prim.Native.Nat.{ℕ}
-use lib.Dec.{eqb}
-use Rattle.bits.specs.Fields.{bit, withField}
+use Rattle.bits.specs.Fields.{withField}
+use Rattle.bits.specs.Maps.{has}
 use Rattle.refusals.specs.Refusal.{Judged, accepted, refused, numberOf}
 use Rattle.adv7194_signalling.specs.declared.kind.SignallingKind.{SignallingKind}
 use Rattle.adv7194_signalling.specs.declared.kind.SignallingKind.the-variants as kind
@@ -18,7 +18,7 @@ pub data Signalling : Type 0 where
   cgms : Signalling
   wss : Signalling
 
--- the kind, by whether bit 7, one of bits 6 and 5, and bit 4 stand
+-- the kind, by whether bit 7, one of bits 6 and 5, and bit 4 are set
 abbrev pub kindBy : Bool → Bool → Bool → Judged Signalling
 kindBy false false false = accepted off
 kindBy false false true = refused 4
@@ -26,13 +26,9 @@ kindBy false true chip = accepted cgms
 kindBy true false chip = accepted wss
 kindBy true true chip = refused 7
 
--- whether bit i of a register stands
-abbrev pub stands : ℕ → ℕ → Bool
-stands i r = eqb (bit i r) 1
-
 -- the kind that register 19 holds
 unfoldable pub kindOf : ℕ → Judged Signalling
-kindOf r19 = kindBy (stands 7 r19) (stands 6 r19 || stands 5 r19) (stands 4 r19)
+kindOf r19 = kindBy (has r19 7) (has r19 6 || has r19 5) (has r19 4)
 
 -- what the reader of the kind answers
 abbrev pub kindAs : SignallingKind → Judged Signalling

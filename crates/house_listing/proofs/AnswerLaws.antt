@@ -6,7 +6,7 @@ use native.Mathlib.Omega.{arith}
 use lib.ListN.{length, getD, take, drop, length-append}
 use lib.Seq.{take-append-seam}
 use Rattle.refusals.specs.Refusal.{accepted}
-use Rattle.refusals.specs.Verdict.{Verdict, good, refusedAt}
+use Rattle.refusals.specs.Verdict.{Verdict, refusedAt}
 use Rattle.packing.specs.Packing.{packed}
 use Rattle.unpacking.specs.Unpacking.{unpack}
 use Rattle.unpacking.specs.Ahead.{listed, Accepted}
@@ -18,7 +18,8 @@ use Rattle.adv7194_settings.specs.House.{house}
 use Rattle.adv7194_least.proofs.PlayedPlan.{plan-unpacks}
 use Rattle.adv7194_planning.specs.Rows.{wantedBy, listOf}
 use Rattle.adv7194_planning.specs.Planning.{planningOf, leftBy, planLeft, done}
-use Rattle.adv7194_planning.proofs.ExactLaws.{Judges, image-fault, address-fault, settings-fault, room-fault, no-fault, exactly}
+use Rattle.adv7194_planning.specs.Judges.{Judges, image-fault, address-fault, settings-fault, room-fault, no-fault}
+use Rattle.adv7194_planning.proofs.ExactLaws.{exactly}
 use Rattle.adv7194_planning.proofs.Clauses.{change}
 use Rattle.house_listing.specs.HouseText.{boardAddress, answerText, houseTextIn}
 

@@ -12,7 +12,8 @@ use Rattle.refusals.proofs.VerdictLaws.{after-assoc, row-before}
 -- ---- places before others
 
 -- the places of one list before those of another
-pub first-append : {A : Type 0} (holds : ℕ → ℕ → Bool) (ps qs : List Place) (a : A) → firstOf holds (ps ++ qs) a ≡ after (firstOf holds ps (tt {0})) (firstOf holds qs a)
+pub first-append : {A : Type 0} (holds : ℕ → ℕ → Bool) (ps qs : List Place) (a : A)
+    → firstOf holds (ps ++ qs) a ≡ after (firstOf holds ps (tt {0})) (firstOf holds qs a)
 unfolding firstOf
 first-append holds [] qs a = refl
 first-append holds (p ∷ ps) qs a =
@@ -20,7 +21,8 @@ first-append holds (p ∷ ps) qs a =
     row-before (holds (p .row) (p .field)) (p .row) (p .field) (firstOf holds (ps ++ qs) a)
     ∙ ap (after here) (first-append holds ps qs a)
     ∙ sym (after-assoc here (firstOf holds ps (tt {0})) (firstOf holds qs a))
-    ∙ ap (λ (v : Verdict (Unit {0})). after v (firstOf holds qs a)) (sym (row-before (holds (p .row) (p .field)) (p .row) (p .field) (firstOf holds ps (tt {0}))))
+    ∙ ap (λ (v : Verdict (Unit {0})). after v (firstOf holds qs a))
+    (sym (row-before (holds (p .row) (p .field)) (p .row) (p .field) (firstOf holds ps (tt {0}))))
 
 -- a value where there is no fault
 pub with-value : {A : Type 0} (holds : ℕ → ℕ → Bool) (ps : List Place) (a : A) → after (firstOf holds ps (tt {0})) (good a) ≡ firstOf holds ps a

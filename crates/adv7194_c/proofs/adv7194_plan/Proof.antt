@@ -1,5 +1,5 @@
 -- `adv7194_plan` meets its contract: it is the library's planning, answered in numbers. Assumes nothing.
-use mathlib.Core.Path.{_≡_, sym, ap, _∙_, subst}
+use mathlib.Core.Path.{sym, ap, _∙_, subst}
 use Prim.Native.Nat.{ℕ}
 use borrow.Author.Needs.{needs}
 use denote.Ref.{now}
@@ -7,7 +7,6 @@ use Rattle.refusals.specs.Verdict.{refusedAt}
 use Rattle.adv7194_settings.specs.declared.settings.Settings.{Settings}
 use Rattle.adv7194_planning.specs.Planning.{answerOf}
 use Rattle.adv7194_planning.proofs.Clauses.{Clauses}
-use Rattle.adv7194_c.specs.declared.plan_numbers.PlanAnswer.{PlanAnswer}
 use Rattle.adv7194_c.specs.Answers.{planAnswer}
 use Rattle.adv7194_c.proofs.Promises.{Promises, miscounted, promised}
 use Rattle.adv7194_c.proofs.adv7194_plan.Statement.{statement}

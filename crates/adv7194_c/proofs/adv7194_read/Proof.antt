@@ -26,7 +26,7 @@ called image numbers after v r e answer memory = (answer ∙ ap readAnswer (sym 
 -- where the numbers are 49, the verdict is the library's
 counted : (c : tie.After-read) → (let a = c .before .before .before .args in readCall (now (a .image)) (now (a .settings)) ≡ readAs (c .read .result))
 unfolding readCall
-counted c = rw (eq-eqb _ _ (c .before .if1 .left)) (sym (c .read .ensures))
+counted c = rw (eq-eqb _ _ (c .before .if1 .left)) (sym (c .read .ensures .0))
 
 returns : tie.Need-returns
 unfolding readCall

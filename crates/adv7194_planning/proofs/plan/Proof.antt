@@ -43,7 +43,7 @@ right c = sym (c .before .address-right .ensures) ∙ not-false _ (c .if2 .left)
 
 -- the settings are accepted, with their codes
 accepted : (c : tie.After-codes) → checkOf (c .before .before .before .before .before .before .before .before .args .settings) ≡ good (c .codes .given .0 .0)
-accepted c = sym (c .before .before .check .ensures) ∙ ap checkedAs (c .codes .given .1)
+accepted c = sym (c .before .before .check .ensures .0) ∙ ap checkedAs (c .codes .given .1)
 
 codes-are : (c : tie.After-codes) → codesOf (c .before .before .before .before .before .before .before .before .args .settings) ≡ c .codes .given .0 .0
 codes-are c = accepted-codes (c .before .before .before .before .before .before .before .before .args .settings) (c .codes .given .0 .0) (accepted c)
@@ -81,7 +81,7 @@ returns-3 c =
     let f = r .refusal .given .0 .1 .0 in
     refused (e .before .before .before) n f
     (wrong-settings (now (a .image)) (a .settings) (a .address) (length (now (a .plan))) (long (e .before .before)) (right e) n f
-    (sym (k .check .ensures) ∙ ap checkedAs (r .refusal .given .1)))
+    (sym (k .check .ensures .0) ∙ ap checkedAs (r .refusal .given .1)))
 
 returns-2 : tie.Need-returns-2
 returns-2 c =

@@ -1,5 +1,4 @@
 -- `curves::byte_setting` meets its contract: a byte is a small number. Assumes nothing.
-use mathlib.Core.Path.{_≡_}
 use native.Mathlib.Omega.{arith}
 use borrow.Author.Needs.{needs}
 use Rattle.adv7194_fields.proofs.Signed.{as-signed}

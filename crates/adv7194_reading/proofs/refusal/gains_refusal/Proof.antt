@@ -1,5 +1,5 @@
 -- `refusal::gains_refusal` meets its contract. Assumes nothing.
-use mathlib.Core.Path.{_≡_, sym, ap, _∙_}
+use mathlib.Core.Path.{sym, ap, _∙_}
 use borrow.Author.Needs.{needs}
 use Rattle.adv7194_reading_groups.specs.Groups.{gainsAs}
 use Rattle.adv7194_reading.specs.Answers.{refusalOf}

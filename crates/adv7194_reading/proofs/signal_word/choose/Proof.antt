@@ -1,5 +1,4 @@
 -- `signal_word::choose` meets its contract. Assumes nothing.
-use mathlib.Core.Path.{_≡_}
 use Rattle.adv7194_reading.proofs.signal_word.choose.Statement.{statement}
 use Rattle.adv7194_reading.proofs.signal_word.choose.Tie as tie
 

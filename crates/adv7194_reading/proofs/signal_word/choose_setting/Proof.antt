@@ -1,5 +1,4 @@
 -- `signal_word::choose_setting` meets its contract. Assumes nothing.
-use mathlib.Core.Path.{_≡_}
 use mir.Syntax.{w32}
 use mir.ValLaws.{toZ-ofZ}
 use Rattle.adv7194_reading.proofs.signal_word.choose_setting.Statement.{statement}

@@ -1,5 +1,5 @@
 -- `signal_word::coded` meets its contract: the value of each kind, and of them the one that is sent. Assumes nothing.
-use mathlib.Core.Path.{_≡_, ap, _∙_}
+use mathlib.Core.Path.{ap, _∙_}
 use mathlib.Core.Bool.{Bool, cond}
 use Prim.Native.Nat.{_+_}
 use borrow.Author.Needs.{needs}

@@ -9,8 +9,8 @@ use mir.Val.{toZ}
 use mir.ValLaws.{toZ-pos}
 use borrow.Author.Needs.{needs}
 use Rattle.bits.specs.Fields.{bit}
+use Rattle.bits.specs.Maps.{has}
 use Rattle.rounding.proofs.Range.{back}
-use Rattle.adv7194_signalling.specs.Kind.{stands}
 use Rattle.adv7194_settings.specs.declared.settings.Signalling.{Signalling}
 use Rattle.adv7194_reading.specs.Signal.{sendsCgms, heldOf}
 use Rattle.adv7194_reading.proofs.signal_word.held.Statement.{statement}
@@ -51,10 +51,10 @@ returns c =
     let g = w .before in
     let r19 = g .before .args .r19 in
     let m = g .before .args .number in
-    let which = cond (sendsCgms r19) (pos 1) (cond (stands 7 r19) (pos 2) (pos 0)) in
-    let much = pos (cond (sendsCgms r19) m (cond (stands 7 r19) m 0)) in
+    let which = cond (sendsCgms r19) (pos 1) (cond (has r19 7) (pos 2) (pos 0)) in
+    let much = pos (cond (sendsCgms r19) m (cond (has r19 7) m 0)) in
     let kind : back w32 (k .choose-setting2 .result) ≡ which =
-    rw (k .choose-setting2 .ensures, o .choose-setting .ensures, w .sends-wss .ensures, g .sends-cgms .ensures) (kind-by (sendsCgms r19) (stands 7 r19)) in
+    rw (k .choose-setting2 .ensures, o .choose-setting .ensures, w .sends-wss .ensures, g .sends-cgms .ensures) (kind-by (sendsCgms r19) (has r19 7)) in
     let number : toZ w32 (c .choose2 .result) ≡ much =
     toZ-pos w32 (c .choose2 .result) (omega (arith, number-small c)) ∙ ap pos (rw (c .choose2 .ensures, n .choose .ensures, w .sends-wss .ensures, g .sends-cgms .ensures)) in
     let odd = toZ-pos w32 (r19 / 32 % 2) (omega arith) in

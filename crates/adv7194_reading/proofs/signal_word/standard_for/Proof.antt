@@ -1,10 +1,10 @@
 -- `signal_word::standard_for` meets its contract. Assumes nothing.
-use mathlib.Core.Path.{_≡_, refl}
+use mathlib.Core.Path.{refl}
 use lib.IntN.{pos}
 use mir.Syntax.{w32}
 use mir.ValLaws.{toZ-ofZ}
 use borrow.Author.Needs.{needs}
-use Rattle.adv7194_signalling.specs.Kind.{stands}
+use Rattle.bits.specs.Maps.{has}
 use Rattle.adv7194_reading.specs.Signal.{standardFor}
 use Rattle.adv7194_reading.proofs.SignalWordLaws.{chosen-back, standard-back}
 use Rattle.adv7194_reading.proofs.signal_word.standard_for.Statement.{statement}
@@ -21,7 +21,7 @@ returns c =
     let z = s .args .standard in
     let kept = toZ-ofZ w32 z (s .fits .standard) in
     rw (c .choose-setting2 .ensures, g .sends-cgms .ensures, o .choose-setting .ensures, w .sends-wss .ensures)
-    (rw kept (rw (chosen-back (stands 7 r19) {x = pos 1} {y = z} refl kept) (standard-back r19 z kept)))
+    (rw kept (rw (chosen-back (has r19 7) {x = pos 1} {y = z} refl kept) (standard-back r19 z kept)))
 
 pub standard-for-spec : {M : Type 1} → statement M
 standard-for-spec =

@@ -1,13 +1,11 @@
 -- `word::word_agrees` meets its contract: the four bytes joined are compared with the word. Assumes nothing.
 use mathlib.Core.Path.{_≡_, sym, ap, ap₂, _∙_}
-use mathlib.Core.Bool.{cond}
 use lib.Dec.{eqb}
 use borrow.Author.Needs.{needs}
-use Rattle.adv7194_subcarrier.specs.declared.Standard.the-variants.{Ntsc, Pal}
 use Rattle.adv7194_subcarrier.specs.Subcarrier.{wordOf}
 use Rattle.adv7194_settings.specs.declared.settings.Timing.{Timing}
 use Rattle.adv7194_settings.specs.Rows.{is}
-use Rattle.adv7194_settings.specs.Codes.{wordAt}
+use Rattle.adv7194_settings.specs.Codes.{standardSet, wordAt}
 use Rattle.adv7194_settings.proofs.Numbers.{passed}
 use Rattle.adv7194_reading_groups.specs.Held.{settingsHeld}
 use Rattle.adv7194_reading.proofs.SubcarrierLaws.{word-of, agrees}
@@ -24,9 +22,9 @@ word-is c =
     let image = k .before .args .image .now in
     c .word .ensures .0
     ∙ ap₂ wordOf
-    (passed (λ z. cond (is 1 z) Pal Ntsc) (t .standard) (s .standard-of .ensures) (s .before .struct-told .given .0 .1))
+    (passed standardSet (t .standard) (s .standard-of .ensures) (s .before .struct-told .given .0 .1))
     (passed (is 1) (t .«square_pixel») (i .is .ensures) (i .before .struct-told2 .given .1 .0 .1))
-    ∙ ap (λ (u : Timing). wordOf (cond (is 1 (u .standard)) Pal Ntsc) (is 1 (u .«square_pixel»))) (k .before .pre .1)
+    ∙ ap (λ (u : Timing). wordOf (standardSet (u .standard)) (is 1 (u .«square_pixel»))) (k .before .pre .1)
     ∙ sym (word-of (settingsHeld image))
 
 returns : tie.Need-returns

@@ -1,5 +1,4 @@
 -- `faults::refused` meets its contract. Assumes nothing.
-use mathlib.Core.Path.{_≡_}
 use borrow.Author.Needs.{needs}
 use Rattle.adv7194_reading_groups.proofs.faults.refused.Statement.{statement}
 use Rattle.adv7194_reading_groups.proofs.faults.refused.Tie as tie

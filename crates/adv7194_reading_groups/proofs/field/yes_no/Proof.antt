@@ -1,5 +1,5 @@
 -- `field::yes_no` meets its contract: the bit's code, read as a yes/no. Assumes nothing.
-use mathlib.Core.Path.{_≡_, ap, _∙_}
+use mathlib.Core.Path.{ap, _∙_}
 use borrow.Author.Needs.{needs}
 use Rattle.adv7194_fields.specs.Coding.{decode}
 use Rattle.adv7194_fields.specs.Fields.{yesNo}

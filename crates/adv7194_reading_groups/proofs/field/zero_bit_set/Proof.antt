@@ -1,5 +1,4 @@
 -- `field::zero_bit_set` meets its contract. Assumes nothing.
-use mathlib.Core.Path.{_≡_}
 use borrow.Author.Needs.{needs}
 use Rattle.adv7194_reading_groups.proofs.field.zero_bit_set.Statement.{statement}
 use Rattle.adv7194_reading_groups.proofs.field.zero_bit_set.Tie as tie

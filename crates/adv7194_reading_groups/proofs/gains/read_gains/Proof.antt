@@ -12,7 +12,7 @@ use Rattle.adv7194_settings.specs.declared.settings.Gains.{Gains}
 use Rattle.adv7194_reading_groups.specs.Held.{readings, readingIn, readingAt, settingAt, settingsHeld}
 use Rattle.adv7194_reading_groups.specs.Groups.{partOf}
 use Rattle.adv7194_reading_groups.proofs.RowLaws.{all-read}
-use Rattle.adv7194_reading_groups.proofs.ChainLaws.{in-image, halted, passed, kept-back}
+use Rattle.adv7194_reading_groups.proofs.ChainLaws.{in-image, reading-refused, passed, kept-back}
 use Rattle.adv7194_reading_groups.proofs.gains.read_gains.Statement.{statement}
 use Rattle.adv7194_reading_groups.proofs.gains.read_gains.Tie as tie
 
@@ -37,7 +37,7 @@ reading18 c = c .setting .ensures ∙ ap (decode gain) (c .before .code .ensures
 returns : tie.Need-returns
 returns c =
     let r = c .before .before .before in
-    halted _ 18 (reading18 r) (19 ∷ 20 ∷ 21 ∷ 22 ∷ []) (part (image0 (r .before .before))) (c .before .enum-told .given .0 .0) refl (c .refused .ensures) (c .before .enum-told .given .1)
+    reading-refused _ 18 (reading18 r) (19 ∷ 20 ∷ 21 ∷ 22 ∷ []) (part (image0 (r .before .before))) (c .before .enum-told .given .0 .0) refl (c .refused .ensures) (c .before .enum-told .given .1)
 
 held18 : (c : tie.After-known-told) → back w32 (c .before .border-read .given .0 .0) ≡ settingAt (image0 (c .before .before .before .before .before)) 18
 held18 c = kept-back _ 18 (reading18 (c .before .before .before)) (c .before .border-read .given .0 .0) (c .before .border-read .given .1) (c .known-told .given .0 .1)
@@ -57,7 +57,7 @@ reading19 c = c .setting2 .ensures ∙ ap (decode gain) (c .before .code2 .ensur
 returns-2 : tie.Need-returns-2
 returns-2 c =
     let r = c .before .before .before in
-    halted _ 19 (reading19 r) (20 ∷ 21 ∷ 22 ∷ []) (part (image1 (r .before .before))) (c .before .enum-told2 .given .0 .0) refl (c .refused2 .ensures) (c .before .enum-told2 .given .1) ∙ sym (to18 (r .before .before))
+    reading-refused _ 19 (reading19 r) (20 ∷ 21 ∷ 22 ∷ []) (part (image1 (r .before .before))) (c .before .enum-told2 .given .0 .0) refl (c .refused2 .ensures) (c .before .enum-told2 .given .1) ∙ sym (to18 (r .before .before))
 
 held19 : (c : tie.After-known-told2) → back w32 (c .before .data-read .given .0 .0) ≡ settingAt (image1 (c .before .before .before .before .before)) 19
 held19 c = kept-back _ 19 (reading19 (c .before .before .before)) (c .before .data-read .given .0 .0) (c .before .data-read .given .1) (c .known-told2 .given .0 .1)
@@ -78,7 +78,7 @@ reading20 c = c .setting3 .ensures ∙ ap (decode threshold) (c .before .code3 .
 returns-3 : tie.Need-returns-3
 returns-3 c =
     let r = c .before .before .before in
-    halted _ 20 (reading20 r) (21 ∷ 22 ∷ []) (part (image2 (r .before .before))) (c .before .enum-told3 .given .0 .0) refl (c .refused3 .ensures) (c .before .enum-told3 .given .1) ∙ sym (to19 (r .before .before))
+    reading-refused _ 20 (reading20 r) (21 ∷ 22 ∷ []) (part (image2 (r .before .before))) (c .before .enum-told3 .given .0 .0) refl (c .refused3 .ensures) (c .before .enum-told3 .given .1) ∙ sym (to19 (r .before .before))
 
 held20 : (c : tie.After-known-told3) → back w32 (c .before .threshold-read .given .0 .0) ≡ settingAt (image2 (c .before .before .before .before .before)) 20
 held20 c = kept-back _ 20 (reading20 (c .before .before .before)) (c .before .threshold-read .given .0 .0) (c .before .threshold-read .given .1) (c .known-told3 .given .0 .1)
@@ -99,7 +99,7 @@ reading21 c = c .yes-no .ensures
 returns-4 : tie.Need-returns-4
 returns-4 c =
     let r = c .before .before .before in
-    halted _ 21 (reading21 r) (22 ∷ []) (part (image3 (r .before))) (c .before .enum-told4 .given .0 .0) refl (c .refused4 .ensures) (c .before .enum-told4 .given .1) ∙ sym (to20 (r .before))
+    reading-refused _ 21 (reading21 r) (22 ∷ []) (part (image3 (r .before))) (c .before .enum-told4 .given .0 .0) refl (c .refused4 .ensures) (c .before .enum-told4 .given .1) ∙ sym (to20 (r .before))
 
 held21 : (c : tie.After-known-told4) → back w32 (c .before .area-read .given .0 .0) ≡ settingAt (image3 (c .before .before .before .before)) 21
 held21 c = kept-back _ 21 (reading21 (c .before .before .before)) (c .before .area-read .given .0 .0) (c .before .area-read .given .1) (c .known-told4 .given .0 .1)
@@ -120,7 +120,7 @@ reading22 c = c .yes-no2 .ensures
 returns-5 : tie.Need-returns-5
 returns-5 c =
     let r = c .before .before .before in
-    halted _ 22 (reading22 r) ([]) (part (image4 (r .before))) (c .before .enum-told5 .given .0 .0) refl (c .refused5 .ensures) (c .before .enum-told5 .given .1) ∙ sym (to21 (r .before))
+    reading-refused _ 22 (reading22 r) ([]) (part (image4 (r .before))) (c .before .enum-told5 .given .0 .0) refl (c .refused5 .ensures) (c .before .enum-told5 .given .1) ∙ sym (to21 (r .before))
 
 held22 : (c : tie.After-known-told5) → back w32 (c .before .size-read .given .0 .0) ≡ settingAt (image4 (c .before .before .before .before)) 22
 held22 c = kept-back _ 22 (reading22 (c .before .before .before)) (c .before .size-read .given .0 .0) (c .before .size-read .given .1) (c .known-told5 .given .0 .1)

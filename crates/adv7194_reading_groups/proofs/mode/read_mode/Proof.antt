@@ -12,7 +12,7 @@ use Rattle.adv7194_settings.specs.declared.settings.Mode.{Mode}
 use Rattle.adv7194_reading_groups.specs.Held.{readings, readingIn, readingAt, settingAt, settingsHeld}
 use Rattle.adv7194_reading_groups.specs.Groups.{partOf}
 use Rattle.adv7194_reading_groups.proofs.RowLaws.{all-read}
-use Rattle.adv7194_reading_groups.proofs.ChainLaws.{in-image, halted, passed, kept-back}
+use Rattle.adv7194_reading_groups.proofs.ChainLaws.{in-image, reading-refused, passed, kept-back}
 use Rattle.adv7194_reading_groups.proofs.mode.read_mode.Statement.{statement}
 use Rattle.adv7194_reading_groups.proofs.mode.read_mode.Tie as tie
 
@@ -37,7 +37,7 @@ reading23 c = c .setting .ensures ∙ ap (decode dnrInput) (c .before .code .ens
 returns : tie.Need-returns
 returns c =
     let r = c .before .before .before in
-    halted _ 23 (reading23 r) (24 ∷ 25 ∷ []) (part (image0 (r .before .before))) (c .before .enum-told .given .0 .0) refl (c .refused .ensures) (c .before .enum-told .given .1)
+    reading-refused _ 23 (reading23 r) (24 ∷ 25 ∷ []) (part (image0 (r .before .before))) (c .before .enum-told .given .0 .0) refl (c .refused .ensures) (c .before .enum-told .given .1)
 
 held23 : (c : tie.After-known-told) → back w32 (c .before .input-read .given .0 .0) ≡ settingAt (image0 (c .before .before .before .before .before)) 23
 held23 c = kept-back _ 23 (reading23 (c .before .before .before)) (c .before .input-read .given .0 .0) (c .before .input-read .given .1) (c .known-told .given .0 .1)
@@ -57,7 +57,7 @@ reading24 c = c .yes-no .ensures
 returns-2 : tie.Need-returns-2
 returns-2 c =
     let r = c .before .before .before in
-    halted _ 24 (reading24 r) (25 ∷ []) (part (image1 (r .before))) (c .before .enum-told2 .given .0 .0) refl (c .refused2 .ensures) (c .before .enum-told2 .given .1) ∙ sym (to23 (r .before))
+    reading-refused _ 24 (reading24 r) (25 ∷ []) (part (image1 (r .before))) (c .before .enum-told2 .given .0 .0) refl (c .refused2 .ensures) (c .before .enum-told2 .given .1) ∙ sym (to23 (r .before))
 
 held24 : (c : tie.After-known-told2) → back w32 (c .before .mode-read .given .0 .0) ≡ settingAt (image1 (c .before .before .before .before)) 24
 held24 c = kept-back _ 24 (reading24 (c .before .before .before)) (c .before .mode-read .given .0 .0) (c .before .mode-read .given .1) (c .known-told2 .given .0 .1)
@@ -78,7 +78,7 @@ reading25 c = c .setting2 .ensures ∙ ap (decode blockOffset) (c .before .code2
 returns-3 : tie.Need-returns-3
 returns-3 c =
     let r = c .before .before .before in
-    halted _ 25 (reading25 r) ([]) (part (image2 (r .before .before))) (c .before .enum-told3 .given .0 .0) refl (c .refused3 .ensures) (c .before .enum-told3 .given .1) ∙ sym (to24 (r .before .before))
+    reading-refused _ 25 (reading25 r) ([]) (part (image2 (r .before .before))) (c .before .enum-told3 .given .0 .0) refl (c .refused3 .ensures) (c .before .enum-told3 .given .1) ∙ sym (to24 (r .before .before))
 
 held25 : (c : tie.After-known-told3) → back w32 (c .before .offset-read .given .0 .0) ≡ settingAt (image2 (c .before .before .before .before .before)) 25
 held25 c = kept-back _ 25 (reading25 (c .before .before .before)) (c .before .offset-read .given .0 .0) (c .before .offset-read .given .1) (c .known-told3 .given .0 .1)

@@ -12,7 +12,7 @@ use Rattle.adv7194_settings.specs.declared.settings.Output.{Output}
 use Rattle.adv7194_reading_groups.specs.Held.{readings, readingIn, readingAt, settingAt, settingsHeld}
 use Rattle.adv7194_reading_groups.specs.Groups.{partOf}
 use Rattle.adv7194_reading_groups.proofs.RowLaws.{all-read}
-use Rattle.adv7194_reading_groups.proofs.ChainLaws.{in-image, halted, passed, kept-back}
+use Rattle.adv7194_reading_groups.proofs.ChainLaws.{in-image, reading-refused, passed, kept-back}
 use Rattle.adv7194_reading_groups.proofs.output.read_output.Statement.{statement}
 use Rattle.adv7194_reading_groups.proofs.output.read_output.Tie as tie
 
@@ -37,7 +37,7 @@ reading5 c = c .yes-no .ensures
 returns : tie.Need-returns
 returns c =
     let r = c .before .before .before in
-    halted _ 5 (reading5 r) (6 ∷ 7 ∷ 8 ∷ 9 ∷ 10 ∷ []) (part (image0 (r .before))) (c .before .enum-told .given .0 .0) refl (c .refused .ensures) (c .before .enum-told .given .1)
+    reading-refused _ 5 (reading5 r) (6 ∷ 7 ∷ 8 ∷ 9 ∷ 10 ∷ []) (part (image0 (r .before))) (c .before .enum-told .given .0 .0) refl (c .refused .ensures) (c .before .enum-told .given .1)
 
 held5 : (c : tie.After-known-told) → back w32 (c .before .y-read .given .0 .0) ≡ settingAt (image0 (c .before .before .before .before)) 5
 held5 c = kept-back _ 5 (reading5 (c .before .before .before)) (c .before .y-read .given .0 .0) (c .before .y-read .given .1) (c .known-told .given .0 .1)
@@ -57,7 +57,7 @@ reading6 c = c .setting .ensures ∙ ap (decode uvLevel) (c .before .code .ensur
 returns-2 : tie.Need-returns-2
 returns-2 c =
     let r = c .before .before .before in
-    halted _ 6 (reading6 r) (7 ∷ 8 ∷ 9 ∷ 10 ∷ []) (part (image1 (r .before .before))) (c .before .enum-told2 .given .0 .0) refl (c .refused2 .ensures) (c .before .enum-told2 .given .1) ∙ sym (to5 (r .before .before))
+    reading-refused _ 6 (reading6 r) (7 ∷ 8 ∷ 9 ∷ 10 ∷ []) (part (image1 (r .before .before))) (c .before .enum-told2 .given .0 .0) refl (c .refused2 .ensures) (c .before .enum-told2 .given .1) ∙ sym (to5 (r .before .before))
 
 held6 : (c : tie.After-known-told2) → back w32 (c .before .uv-read .given .0 .0) ≡ settingAt (image1 (c .before .before .before .before .before)) 6
 held6 c = kept-back _ 6 (reading6 (c .before .before .before)) (c .before .uv-read .given .0 .0) (c .before .uv-read .given .1) (c .known-told2 .given .0 .1)
@@ -78,7 +78,7 @@ reading7 c = c .yes-no2 .ensures
 returns-3 : tie.Need-returns-3
 returns-3 c =
     let r = c .before .before .before in
-    halted _ 7 (reading7 r) (8 ∷ 9 ∷ 10 ∷ []) (part (image2 (r .before))) (c .before .enum-told3 .given .0 .0) refl (c .refused3 .ensures) (c .before .enum-told3 .given .1) ∙ sym (to6 (r .before))
+    reading-refused _ 7 (reading7 r) (8 ∷ 9 ∷ 10 ∷ []) (part (image2 (r .before))) (c .before .enum-told3 .given .0 .0) refl (c .refused3 .ensures) (c .before .enum-told3 .given .1) ∙ sym (to6 (r .before))
 
 held7 : (c : tie.After-known-told3) → back w32 (c .before .sync-read .given .0 .0) ≡ settingAt (image2 (c .before .before .before .before)) 7
 held7 c = kept-back _ 7 (reading7 (c .before .before .before)) (c .before .sync-read .given .0 .0) (c .before .sync-read .given .1) (c .known-told3 .given .0 .1)
@@ -99,7 +99,7 @@ reading8 c = c .clamp-delay-setting .ensures ∙ ap (decode clampDelay) (c .befo
 returns-4 : tie.Need-returns-4
 returns-4 c =
     let r = c .before .before .before in
-    halted _ 8 (reading8 r) (9 ∷ 10 ∷ []) (part (image3 (r .before .before))) (c .before .enum-told4 .given .0 .0) refl (c .refused4 .ensures) (c .before .enum-told4 .given .1) ∙ sym (to7 (r .before .before))
+    reading-refused _ 8 (reading8 r) (9 ∷ 10 ∷ []) (part (image3 (r .before .before))) (c .before .enum-told4 .given .0 .0) refl (c .refused4 .ensures) (c .before .enum-told4 .given .1) ∙ sym (to7 (r .before .before))
 
 held8 : (c : tie.After-known-told4) → back w32 (c .before .delay-read .given .0 .0) ≡ settingAt (image3 (c .before .before .before .before .before)) 8
 held8 c = kept-back _ 8 (reading8 (c .before .before .before)) (c .before .delay-read .given .0 .0) (c .before .delay-read .given .1) (c .known-told4 .given .0 .1)
@@ -120,7 +120,7 @@ reading9 c = c .yes-no3 .ensures
 returns-5 : tie.Need-returns-5
 returns-5 c =
     let r = c .before .before .before in
-    halted _ 9 (reading9 r) (10 ∷ []) (part (image4 (r .before))) (c .before .enum-told5 .given .0 .0) refl (c .refused5 .ensures) (c .before .enum-told5 .given .1) ∙ sym (to8 (r .before))
+    reading-refused _ 9 (reading9 r) (10 ∷ []) (part (image4 (r .before))) (c .before .enum-told5 .given .0 .0) refl (c .refused5 .ensures) (c .before .enum-told5 .given .1) ∙ sym (to8 (r .before))
 
 held9 : (c : tie.After-known-told5) → back w32 (c .before .porch-read .given .0 .0) ≡ settingAt (image4 (c .before .before .before .before)) 9
 held9 c = kept-back _ 9 (reading9 (c .before .before .before)) (c .before .porch-read .given .0 .0) (c .before .porch-read .given .1) (c .known-told5 .given .0 .1)
@@ -141,7 +141,7 @@ reading10 c = c .setting2 .ensures ∙ ap (decode phase) (c .before .code3 .ensu
 returns-6 : tie.Need-returns-6
 returns-6 c =
     let r = c .before .before .before in
-    halted _ 10 (reading10 r) ([]) (part (image5 (r .before .before))) (c .before .enum-told6 .given .0 .0) refl (c .refused6 .ensures) (c .before .enum-told6 .given .1) ∙ sym (to9 (r .before .before))
+    reading-refused _ 10 (reading10 r) ([]) (part (image5 (r .before .before))) (c .before .enum-told6 .given .0 .0) refl (c .refused6 .ensures) (c .before .enum-told6 .given .1) ∙ sym (to9 (r .before .before))
 
 held10 : (c : tie.After-known-told6) → back w32 (c .before .phase-read .given .0 .0) ≡ settingAt (image5 (c .before .before .before .before .before)) 10
 held10 c = kept-back _ 10 (reading10 (c .before .before .before)) (c .before .phase-read .given .0 .0) (c .before .phase-read .given .1) (c .known-told6 .given .0 .1)

@@ -15,7 +15,7 @@ use Rattle.adv7194_reading_groups.specs.Held.{readings, readingIn, readi
 use Rattle.adv7194_reading_groups.specs.Groups.{partOf}
 use Rattle.adv7194_reading_groups.proofs.RowLaws.{all-read}
 use Rattle.adv7194_reading_groups.proofs.ZeroLaws.{zero-bits-21, zero-bits-22}
-use Rattle.adv7194_reading_groups.proofs.ChainLaws.{in-image, zero-in-image, halted, passed, kept-back}
+use Rattle.adv7194_reading_groups.proofs.ChainLaws.{in-image, zero-in-image, reading-refused, passed, kept-back}
 use Rattle.adv7194_reading_groups.proofs.picture.read_picture.Statement.{statement}
 use Rattle.adv7194_reading_groups.proofs.picture.read_picture.Tie as tie
 
@@ -40,7 +40,7 @@ reading12 c = c .contrast-setting .ensures ∙ ap (decode contrast) (c .before .
 returns : tie.Need-returns
 returns c =
     let r = c .before .before .before in
-    halted _ 12 (reading12 r) (13 ∷ 14 ∷ 15 ∷ 16 ∷ 17 ∷ []) (part (image0 (r .before .before))) (c .before .enum-told .given .0 .0) refl (c .refused .ensures) (c .before .enum-told .given .1)
+    reading-refused _ 12 (reading12 r) (13 ∷ 14 ∷ 15 ∷ 16 ∷ 17 ∷ []) (part (image0 (r .before .before))) (c .before .enum-told .given .0 .0) refl (c .refused .ensures) (c .before .enum-told .given .1)
 
 held12 : (c : tie.After-known-told) → back w32 (c .before .contrast-read .given .0 .0) ≡ settingAt (image0 (c .before .before .before .before .before)) 12
 held12 c = kept-back _ 12 (reading12 (c .before .before .before)) (c .before .contrast-read .given .0 .0) (c .before .contrast-read .given .1) (c .known-told .given .0 .1)
@@ -60,7 +60,7 @@ reading13 c = c .scale-setting .ensures ∙ ap (decode scale) (c .before .code2 
 returns-2 : tie.Need-returns-2
 returns-2 c =
     let r = c .before .before .before in
-    halted _ 13 (reading13 r) (14 ∷ 15 ∷ 16 ∷ 17 ∷ []) (part (image1 (r .before .before))) (c .before .enum-told2 .given .0 .0) refl (c .refused2 .ensures) (c .before .enum-told2 .given .1) ∙ sym (to12 (r .before .before))
+    reading-refused _ 13 (reading13 r) (14 ∷ 15 ∷ 16 ∷ 17 ∷ []) (part (image1 (r .before .before))) (c .before .enum-told2 .given .0 .0) refl (c .refused2 .ensures) (c .before .enum-told2 .given .1) ∙ sym (to12 (r .before .before))
 
 held13 : (c : tie.After-known-told2) → back w32 (c .before .u-read .given .0 .0) ≡ settingAt (image1 (c .before .before .before .before .before)) 13
 held13 c = kept-back _ 13 (reading13 (c .before .before .before)) (c .before .u-read .given .0 .0) (c .before .u-read .given .1) (c .known-told2 .given .0 .1)
@@ -81,7 +81,7 @@ reading14 c = c .scale-setting2 .ensures ∙ ap (decode scale) (c .before .code3
 returns-3 : tie.Need-returns-3
 returns-3 c =
     let r = c .before .before .before in
-    halted _ 14 (reading14 r) (15 ∷ 16 ∷ 17 ∷ []) (part (image2 (r .before .before))) (c .before .enum-told3 .given .0 .0) refl (c .refused3 .ensures) (c .before .enum-told3 .given .1) ∙ sym (to13 (r .before .before))
+    reading-refused _ 14 (reading14 r) (15 ∷ 16 ∷ 17 ∷ []) (part (image2 (r .before .before))) (c .before .enum-told3 .given .0 .0) refl (c .refused3 .ensures) (c .before .enum-told3 .given .1) ∙ sym (to13 (r .before .before))
 
 held14 : (c : tie.After-known-told3) → back w32 (c .before .v-read .given .0 .0) ≡ settingAt (image2 (c .before .before .before .before .before)) 14
 held14 c = kept-back _ 14 (reading14 (c .before .before .before)) (c .before .v-read .given .0 .0) (c .before .v-read .given .1) (c .known-told3 .given .0 .1)
@@ -102,7 +102,7 @@ reading15 c = c .hue-setting .ensures ∙ ap (decode hue) (c .before .code4 .ens
 returns-4 : tie.Need-returns-4
 returns-4 c =
     let r = c .before .before .before in
-    halted _ 15 (reading15 r) (16 ∷ 17 ∷ []) (part (image3 (r .before .before))) (c .before .enum-told4 .given .0 .0) refl (c .refused4 .ensures) (c .before .enum-told4 .given .1) ∙ sym (to14 (r .before .before))
+    reading-refused _ 15 (reading15 r) (16 ∷ 17 ∷ []) (part (image3 (r .before .before))) (c .before .enum-told4 .given .0 .0) refl (c .refused4 .ensures) (c .before .enum-told4 .given .1) ∙ sym (to14 (r .before .before))
 
 held15 : (c : tie.After-known-told4) → back w32 (c .before .hue-read .given .0 .0) ≡ settingAt (image3 (c .before .before .before .before .before)) 15
 held15 c = kept-back _ 15 (reading15 (c .before .before .before)) (c .before .hue-read .given .0 .0) (c .before .hue-read .given .1) (c .known-told4 .given .0 .1)
@@ -123,7 +123,7 @@ reading16 c = c .brightness-setting .ensures ∙ ap (decode brightness) (c .befo
 returns-5 : tie.Need-returns-5
 returns-5 c =
     let r = c .before .before .before in
-    halted _ 16 (reading16 r) (17 ∷ []) (part (image4 (r .before .before))) (c .before .enum-told5 .given .0 .0) refl (c .refused5 .ensures) (c .before .enum-told5 .given .1) ∙ sym (to15 (r .before .before))
+    reading-refused _ 16 (reading16 r) (17 ∷ []) (part (image4 (r .before .before))) (c .before .enum-told5 .given .0 .0) refl (c .refused5 .ensures) (c .before .enum-told5 .given .1) ∙ sym (to15 (r .before .before))
 
 held16 : (c : tie.After-known-told5) → back w32 (c .before .brightness-read .given .0 .0) ≡ settingAt (image4 (c .before .before .before .before .before)) 16
 held16 c = kept-back _ 16 (reading16 (c .before .before .before)) (c .before .brightness-read .given .0 .0) (c .before .brightness-read .given .1) (c .known-told5 .given .0 .1)
@@ -154,7 +154,7 @@ reading17 c = c .sharpness-setting .ensures ∙ ap (decode sharpness) (c .before
 returns-7 : tie.Need-returns-7
 returns-7 c =
     let r = c .before .before .before in
-    halted _ 17 (reading17 r) ([]) (part (image5 (r .before .before))) (c .before .enum-told6 .given .0 .0) refl (c .refused6 .ensures) (c .before .enum-told6 .given .1) ∙ sym (to16 (r .before .before))
+    reading-refused _ 17 (reading17 r) ([]) (part (image5 (r .before .before))) (c .before .enum-told6 .given .0 .0) refl (c .refused6 .ensures) (c .before .enum-told6 .given .1) ∙ sym (to16 (r .before .before))
 
 held17 : (c : tie.After-known-told6) → back w32 (c .before .sharpness-read .given .0 .0) ≡ settingAt (image5 (c .before .before .before .before .before)) 17
 held17 c = kept-back _ 17 (reading17 (c .before .before .before)) (c .before .sharpness-read .given .0 .0) (c .before .sharpness-read .given .1) (c .known-told6 .given .0 .1)

@@ -16,7 +16,7 @@ use Rattle.adv7194_settings.specs.Rows.{is, squareWithOversampling, pedestalWit
 use Rattle.adv7194_reading_groups.specs.Held.{readings, readingIn, readingAt, settingAt, settingsHeld}
 use Rattle.adv7194_reading_groups.specs.Groups.{partOf}
 use Rattle.adv7194_reading_groups.proofs.RowLaws.{all-read}
-use Rattle.adv7194_reading_groups.proofs.ChainLaws.{in-image, halted, passed, kept-back}
+use Rattle.adv7194_reading_groups.proofs.ChainLaws.{in-image, reading-refused, passed, kept-back}
 use Rattle.adv7194_reading_groups.proofs.PedestalLaws.{ZeroOrOne, pedestal-held, standard-held, sum-fits, sum-is-2}
 use Rattle.adv7194_reading_groups.proofs.timing.read_timing.Statement.{statement}
 use Rattle.adv7194_reading_groups.proofs.timing.read_timing.Tie as tie
@@ -42,7 +42,7 @@ reading1 c = c .setting .ensures ∙ ap (decode standard) (c .before .code .ensu
 returns : tie.Need-returns
 returns c =
     let r = c .before .before .before in
-    halted _ 1 (reading1 r) (2 ∷ 3 ∷ 4 ∷ []) (part (image0 (r .before .before))) (c .before .enum-told .given .0 .0) refl (c .refused .ensures) (c .before .enum-told .given .1)
+    reading-refused _ 1 (reading1 r) (2 ∷ 3 ∷ 4 ∷ []) (part (image0 (r .before .before))) (c .before .enum-told .given .0 .0) refl (c .refused .ensures) (c .before .enum-told .given .1)
 
 held1 : (c : tie.After-known-told) → back w32 (c .before .standard-read .given .0 .0) ≡ settingAt (image0 (c .before .before .before .before .before)) 1
 held1 c = kept-back _ 1 (reading1 (c .before .before .before)) (c .before .standard-read .given .0 .0) (c .before .standard-read .given .1) (c .known-told .given .0 .1)
@@ -62,7 +62,7 @@ reading2 c = c .yes-no .ensures
 returns-2 : tie.Need-returns-2
 returns-2 c =
     let r = c .before .before .before in
-    halted _ 2 (reading2 r) (3 ∷ 4 ∷ []) (part (image1 (r .before))) (c .before .enum-told2 .given .0 .0) refl (c .refused2 .ensures) (c .before .enum-told2 .given .1) ∙ sym (to1 (r .before))
+    reading-refused _ 2 (reading2 r) (3 ∷ 4 ∷ []) (part (image1 (r .before))) (c .before .enum-told2 .given .0 .0) refl (c .refused2 .ensures) (c .before .enum-told2 .given .1) ∙ sym (to1 (r .before))
 
 held2 : (c : tie.After-known-told2) → back w32 (c .before .square-read .given .0 .0) ≡ settingAt (image1 (c .before .before .before .before)) 2
 held2 c = kept-back _ 2 (reading2 (c .before .before .before)) (c .before .square-read .given .0 .0) (c .before .square-read .given .1) (c .known-told2 .given .0 .1)
@@ -83,7 +83,7 @@ reading3 c = c .yes-no2 .ensures
 returns-3 : tie.Need-returns-3
 returns-3 c =
     let r = c .before .before .before in
-    halted _ 3 (reading3 r) (4 ∷ []) (part (image2 (r .before))) (c .before .enum-told3 .given .0 .0) refl (c .refused3 .ensures) (c .before .enum-told3 .given .1) ∙ sym (to2 (r .before))
+    reading-refused _ 3 (reading3 r) (4 ∷ []) (part (image2 (r .before))) (c .before .enum-told3 .given .0 .0) refl (c .refused3 .ensures) (c .before .enum-told3 .given .1) ∙ sym (to2 (r .before))
 
 held3 : (c : tie.After-known-told3) → back w32 (c .before .oversampling-read .given .0 .0) ≡ settingAt (image2 (c .before .before .before .before)) 3
 held3 c = kept-back _ 3 (reading3 (c .before .before .before)) (c .before .oversampling-read .given .0 .0) (c .before .oversampling-read .given .1) (c .known-told3 .given .0 .1)
@@ -115,7 +115,7 @@ reading4 c = c .yes-no3 .ensures
 returns-5 : tie.Need-returns-5
 returns-5 c =
     let r = c .before .before .before in
-    halted _ 4 (reading4 r) ([]) (part (image3 (r .before))) (c .before .enum-told4 .given .0 .0) refl (c .refused4 .ensures) (c .before .enum-told4 .given .1) ∙ sym (to3 (r .before))
+    reading-refused _ 4 (reading4 r) ([]) (part (image3 (r .before))) (c .before .enum-told4 .given .0 .0) refl (c .refused4 .ensures) (c .before .enum-told4 .given .1) ∙ sym (to3 (r .before))
 
 held4 : (c : tie.After-known-told4) → back w32 (c .before .pedestal-read .given .0 .0) ≡ settingAt (image3 (c .before .before .before .before)) 4
 held4 c = kept-back _ 4 (reading4 (c .before .before .before)) (c .before .pedestal-read .given .0 .0) (c .before .pedestal-read .given .1) (c .known-told4 .given .0 .1)

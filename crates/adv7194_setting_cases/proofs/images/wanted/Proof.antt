@@ -1,5 +1,5 @@
 -- `images::wanted` is safe: the codes that the check accepts fit their fields. Assumes nothing.
-use mathlib.Core.Path.{_≡_, sym, ap, _∙_, subst}
+use mathlib.Core.Path.{sym, ap, _∙_, subst}
 use borrow.Author.Needs.{needs}
 use Rattle.adv7194_settings.specs.Answers.{checkedAs}
 use Rattle.adv7194_settings.proofs.OrderLaws.{accepted-codes}
@@ -13,7 +13,7 @@ want-requires c κs =
     let m = c .before .before in
     let k = m .before .before in
     let s = k .before .settings-of .result in
-    subst CodesFit (accepted-codes s (m .checked .given .0 .0) (sym (k .check .ensures) ∙ ap checkedAs (m .checked .given .1))) (codes-fit s)
+    subst CodesFit (accepted-codes s (m .checked .given .0 .0) (sym (k .check .ensures .0) ∙ ap checkedAs (m .checked .given .1))) (codes-fit s)
 
 pub wanted-spec : {M : Type 1} → statement M
 wanted-spec =

@@ -4,18 +4,26 @@ use mathlib.Core.List.{[], _∷_}
 use lib.Dec.{eqb}
 use lib.IntN.{ℤ}
 use borrow.Author.Needs.{needs}
-use Rattle.refusals.specs.Verdict.{good, after}
+use Rattle.refusals.specs.Verdict.{Verdict, good, after}
+use Rattle.refusals.specs.Order.{Exactly}
 use Rattle.adv7194_subcarrier.specs.Subcarrier.{wordOf}
 use Rattle.adv7194_settings.specs.declared.codes.TimingCodes.{TimingCodes}
 use Rattle.adv7194_settings.specs.declared.settings.Settings.{Settings}
-use Rattle.adv7194_settings.specs.Rows.{signallingOf}
+use Rattle.adv7194_settings.specs.declared.codes.Codes.{Codes}
+use Rattle.adv7194_settings.specs.Order.{order}
+use Rattle.adv7194_settings.specs.Rows.{signallingOf, rowHolds}
 use Rattle.adv7194_settings.specs.Codes.{codesIn, signalBy, timingOf, outputOf, signalOf, pictureOf, gainsOf, modeOf, pointsOf, wordAt, codesOf, checkOf}
 use Rattle.adv7194_settings.specs.Answers.{timingAs, outputAs, signalAs, pictureAs, gainsAs, modeAs, curveAs}
 use Rattle.adv7194_settings.specs.Groups.{inTurn, signalFaults}
 use Rattle.adv7194_settings.proofs.Numbers.{passed}
 use Rattle.adv7194_settings.proofs.CheckLaws.{partOf, due, due-all, due-none, part-on, part-is, part-stop, timingFields, outputFields, pictureFields, gainsFields, modeFields, from5, from11, from12, from18, from23, from26, timing-part, output-part, signal-part, picture-part, gains-part, mode-part, curve-a-part, curve-b-part}
+use Rattle.adv7194_settings.proofs.OrderLaws.{check-exactly}
 use Rattle.adv7194_settings.proofs.checking.check.Statement.{statement}
 use Rattle.adv7194_settings.proofs.checking.check.Tie as tie
+
+-- the check's answer, and that it is given exactly when its row is the first that holds
+both : (s : Settings) {v : Verdict Codes} → v ≡ checkOf s → (v ≡ checkOf s) × Exactly (rowHolds s) order (codesOf s) v
+both s e = (e, check-exactly s e)
 
 -- the settings, from each stage on
 abbrev set0 : tie.Start → Settings
@@ -29,7 +37,8 @@ timing-due c = c .checked-timing .ensures ∙ timing-part (set0 (c .before))
 returns : tie.Need-returns
 returns c =
     let r = c .before .before .before in
-    part-stop (set0 (r .before)) timingFields (timingOf (set0 (r .before))) (timing-due r) from5 (c .timing-refusal .ensures) (ap timingAs (c .before .enum-told .given .1)) ∙ due-all (set0 (r .before))
+    both (set0 (r .before))
+    (part-stop (set0 (r .before)) timingFields (timingOf (set0 (r .before))) (timing-due r) from5 (c .timing-refusal .ensures) (ap timingAs (c .before .enum-told .given .1)) ∙ due-all (set0 (r .before)))
 
 abbrev set1 : tie.After-known-told → Settings
 set1 c = set0 (c .before .before .before .before)
@@ -48,7 +57,8 @@ output-due c = c .checked-output .ensures ∙ output-part (set1 (c .before))
 returns-2 : tie.Need-returns-2
 returns-2 c =
     let r = c .before .before .before in
-    part-stop (set1 (r .before)) outputFields (outputOf (set1 (r .before))) (output-due r) from11 (c .output-refusal .ensures) (ap outputAs (c .before .enum-told2 .given .1)) ∙ past-timing (r .before)
+    both (set1 (r .before))
+    (part-stop (set1 (r .before)) outputFields (outputOf (set1 (r .before))) (output-due r) from11 (c .output-refusal .ensures) (ap outputAs (c .before .enum-told2 .given .1)) ∙ past-timing (r .before))
 
 abbrev set2 : tie.After-known-told2 → Settings
 set2 c = set1 (c .before .before .before .before)
@@ -70,7 +80,8 @@ signal-due c =
 returns-3 : tie.Need-returns-3
 returns-3 c =
     let r = c .before .before .before in
-    part-stop (set2 (r .before .before)) (11 ∷ []) (signalOf (set2 (r .before .before))) (signal-due r) from12 (c .signal-refusal .ensures) (ap signalAs (c .before .enum-told3 .given .1)) ∙ past-output (r .before .before)
+    both (set2 (r .before .before))
+    (part-stop (set2 (r .before .before)) (11 ∷ []) (signalOf (set2 (r .before .before))) (signal-due r) from12 (c .signal-refusal .ensures) (ap signalAs (c .before .enum-told3 .given .1)) ∙ past-output (r .before .before))
 
 abbrev set3 : tie.After-known-told3 → Settings
 set3 c = set2 (c .before .before .before .before .before)
@@ -89,7 +100,8 @@ picture-due c = c .checked-picture .ensures ∙ picture-part (set3 (c .before))
 returns-4 : tie.Need-returns-4
 returns-4 c =
     let r = c .before .before .before in
-    part-stop (set3 (r .before)) pictureFields (pictureOf (set3 (r .before))) (picture-due r) from18 (c .picture-refusal .ensures) (ap pictureAs (c .before .enum-told4 .given .1)) ∙ past-signal (r .before)
+    both (set3 (r .before))
+    (part-stop (set3 (r .before)) pictureFields (pictureOf (set3 (r .before))) (picture-due r) from18 (c .picture-refusal .ensures) (ap pictureAs (c .before .enum-told4 .given .1)) ∙ past-signal (r .before))
 
 abbrev set4 : tie.After-known-told4 → Settings
 set4 c = set3 (c .before .before .before .before)
@@ -108,7 +120,8 @@ gains-due c = c .checked-gains .ensures ∙ gains-part (set4 (c .before))
 returns-5 : tie.Need-returns-5
 returns-5 c =
     let r = c .before .before .before in
-    part-stop (set4 (r .before)) gainsFields (gainsOf (set4 (r .before))) (gains-due r) from23 (c .gains-refusal .ensures) (ap gainsAs (c .before .enum-told5 .given .1)) ∙ past-picture (r .before)
+    both (set4 (r .before))
+    (part-stop (set4 (r .before)) gainsFields (gainsOf (set4 (r .before))) (gains-due r) from23 (c .gains-refusal .ensures) (ap gainsAs (c .before .enum-told5 .given .1)) ∙ past-picture (r .before))
 
 abbrev set5 : tie.After-known-told5 → Settings
 set5 c = set4 (c .before .before .before .before)
@@ -127,7 +140,8 @@ mode-due c = c .checked-mode .ensures ∙ mode-part (set5 (c .before))
 returns-6 : tie.Need-returns-6
 returns-6 c =
     let r = c .before .before .before in
-    part-stop (set5 (r .before)) modeFields (modeOf (set5 (r .before))) (mode-due r) from26 (c .mode-refusal .ensures) (ap modeAs (c .before .enum-told6 .given .1)) ∙ past-gains (r .before)
+    both (set5 (r .before))
+    (part-stop (set5 (r .before)) modeFields (modeOf (set5 (r .before))) (mode-due r) from26 (c .mode-refusal .ensures) (ap modeAs (c .before .enum-told6 .given .1)) ∙ past-gains (r .before))
 
 abbrev set6 : tie.After-known-told6 → Settings
 set6 c = set5 (c .before .before .before .before)
@@ -146,7 +160,8 @@ curve-a-due c = c .checked-curve .ensures ∙ curve-a-part (set6 (c .before .bef
 returns-7 : tie.Need-returns-7
 returns-7 c =
     let r = c .before .before .before in
-    part-stop (set6 (r .before .before)) (26 ∷ []) (pointsOf (set6 (r .before .before)) 26) (curve-a-due r) (27 ∷ []) (c .curve-refusal .ensures) (ap curveAs (c .before .enum-told7 .given .1)) ∙ past-mode (r .before .before)
+    both (set6 (r .before .before))
+    (part-stop (set6 (r .before .before)) (26 ∷ []) (pointsOf (set6 (r .before .before)) 26) (curve-a-due r) (27 ∷ []) (c .curve-refusal .ensures) (ap curveAs (c .before .enum-told7 .given .1)) ∙ past-mode (r .before .before))
 
 abbrev set7 : tie.After-known-told7 → Settings
 set7 c = set6 (c .before .before .before .before .before)
@@ -165,7 +180,8 @@ curve-b-due c = c .checked-curve2 .ensures ∙ curve-b-part (set7 (c .before .be
 returns-8 : tie.Need-returns-8
 returns-8 c =
     let r = c .before .before .before in
-    part-stop (set7 (r .before .before)) (27 ∷ []) (pointsOf (set7 (r .before .before)) 27) (curve-b-due r) [] (c .curve-refusal2 .ensures) (ap curveAs (c .before .enum-told8 .given .1)) ∙ past-curve-a (r .before .before)
+    both (set7 (r .before .before))
+    (part-stop (set7 (r .before .before)) (27 ∷ []) (pointsOf (set7 (r .before .before)) 27) (curve-b-due r) [] (c .curve-refusal2 .ensures) (ap curveAs (c .before .enum-told8 .given .1)) ∙ past-curve-a (r .before .before))
 
 abbrev set8 : tie.After-known-told8 → Settings
 set8 c = set7 (c .before .before .before .before .before)
@@ -191,7 +207,8 @@ returns-9 c =
     let c1 = c2 .before .before .before .before in
     let s = set8 c8 in
     let word-is : c .word .result ≡ wordAt s = c .word .ensures .0 ∙ ap (λ (k : TimingCodes). wordOf (k .standard) (eqb (k .«square_pixel») 1)) (timing-is c1) in
-    rw (timing-is c1, output-is c2, signal-is c3, picture-is c4, gains-is c5, mode-is c6, curve-a-is c7, curve-b-is c8, word-is) (sym (due-none s) ∙ past-curve-b c8)
+    both s
+    (rw (timing-is c1, output-is c2, signal-is c3, picture-is c4, gains-is c5, mode-is c6, curve-a-is c7, curve-b-is c8, word-is) (sym (due-none s) ∙ past-curve-b c8))
 
 pub check-spec : {M : Type 1} → statement M
 check-spec =

@@ -19,8 +19,8 @@ returns : tie.Need-returns
 returns c =
     let t = c .before .before .before in
     let v = t .before .before .before .args .curve in
-    let told = c .before .struct-told3 .given in
-    passed2 curveOf (v .p) (v .q) (c .curve .ensures .0) (told .1 .0 .1) (told .1 .1 .0 .1) ∙ sym (ratio-is v (sym (ratio-test (t .before)) ∙ t .if1 .taken))
+    let fits = c .before .struct-told3 .given in
+    passed2 curveOf (v .p) (v .q) (c .curve .ensures .0) (fits .1 .0 .1) (fits .1 .1 .0 .1) ∙ sym (ratio-is v (sym (ratio-test (t .before)) ∙ t .if1 .taken))
 
 returns-2 : tie.Need-returns-2
 returns-2 c =

@@ -1,24 +1,23 @@
--- `fault::is` meets its contract: the sign is tested, then the number. Assumes nothing.
-use mathlib.Core.Path.{_≡_}
+-- `fault::is` meets its contract: the bits of a negative number are none of a small one. Assumes nothing.
+use mathlib.Core.Path.{_≡_, refl}
+use Prim.Native.Nat.{ℕ, _<_}
+use native.Mathlib.Omega.{arith}
+use lib.Dec.{eqb}
+use lib.IntN.{ℤ, pos, negsuc}
 use mir.Syntax.{w32}
-use mir.ValLaws.{toZ-ofZ}
-use Rattle.rounding.proofs.Range.{back}
-use Rattle.adv7194_fields.proofs.Signed.{cast-positive}
-use Rattle.adv7194_settings.proofs.Numbers.{negative-is, number-is}
+use mir.Val.{SFits, ofZ}
+use borrow.Author.Needs.{needs}
+use borrow.Author.Tests.{ne-eqb}
+use Rattle.adv7194_settings.specs.Rows.{is}
 use Rattle.adv7194_settings.proofs.fault.is.Statement.{statement}
 use Rattle.adv7194_settings.proofs.fault.is.Tie as tie
 
-same : (c : tie.Start) → back w32 (c .args .setting) ≡ c .args .setting
-same c = toZ-ofZ w32 (c .args .setting) (c .fits .setting)
+by-bits : (n : ℕ) (z : ℤ) → n < 256 → SFits w32 z → eqb (ofZ w32 z) n ≡ is n z
+by-bits n (pos m) h f = refl
+by-bits n (negsuc m) h f = ne-eqb (ofZ w32 (negsuc m)) n (λ e. omega (arith, f .sfits, e))
 
 returns : tie.Need-returns
-returns c = negative-is (c .before .args .number) (c .before .args .setting) (rw (same (c .before)) at (c .if1 .taken))
-
-cast-result : tie.Need-cast-result
-cast-result c = rw (same (c .before)) (cast-positive (c .before .args .setting) (rw (same (c .before)) at (c .if1 .left)) (c .before .fits .setting))
-
-returns-2 : tie.Need-returns-2
-returns-2 c = rw (same (c .before)) (number-is (c .before .args .number) (c .before .args .setting) (rw (same (c .before)) at (c .if1 .left)))
+returns c = by-bits (c .args .number) (c .args .setting) (c .fits .number .fits) (c .fits .setting)
 
 pub is-spec : {M : Type 1} → statement M
-is-spec = tie.close (tie.spec returns cast-result returns-2)
+is-spec = tie.close (tie.spec (λ c. search needs) returns)

@@ -1,5 +1,4 @@
 -- `fault::refused` meets its contract. Assumes nothing.
-use mathlib.Core.Path.{_≡_}
 use borrow.Author.Needs.{needs}
 use Rattle.adv7194_settings.proofs.fault.refused.Statement.{statement}
 use Rattle.adv7194_settings.proofs.fault.refused.Tie as tie

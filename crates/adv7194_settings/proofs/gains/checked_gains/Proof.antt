@@ -13,7 +13,7 @@ use Rattle.adv7194_settings.specs.declared.settings.Gains.{Gains}
 use Rattle.adv7194_settings.specs.declared.codes.GainsCodes.{GainsCodes}
 use Rattle.adv7194_settings.specs.Groups.{gainsFaults, gainsCodes}
 use Rattle.adv7194_settings.proofs.Numbers.{passed}
-use Rattle.adv7194_settings.proofs.Turns.{Found, dueFrom, halted, next, taken}
+use Rattle.adv7194_settings.proofs.Turns.{Found, dueFrom, coding-refused, next, taken}
 use Rattle.adv7194_settings.proofs.gains.checked_gains.Statement.{statement}
 use Rattle.adv7194_settings.proofs.gains.checked_gains.Tie as tie
 
@@ -36,7 +36,7 @@ returns : tie.Need-returns
 returns c =
     let r = c .before .before .before in
     let g = r .before .before .args .gains in
-    halted 18 (code18 r) (later 1 g) (gainsCodes g) (c .before .enum-told .given .1) (c .refused .ensures)
+    coding-refused 18 (code18 r) (later 1 g) (gainsCodes g) (c .before .enum-told .given .1) (c .refused .ensures)
 
 -- the settings, from each stage on
 abbrev gains1 : tie.After-known-told → Gains
@@ -59,7 +59,7 @@ returns-2 : tie.Need-returns-2
 returns-2 c =
     let r = c .before .before .before in
     let g = gains1 (r .before .before) in
-    halted 19 (code19 r) (later 2 g) (gainsCodes g) (c .before .enum-told2 .given .1) (c .refused2 .ensures) ∙ sym (to18 (r .before .before))
+    coding-refused 19 (code19 r) (later 2 g) (gainsCodes g) (c .before .enum-told2 .given .1) (c .refused2 .ensures) ∙ sym (to18 (r .before .before))
 
 abbrev gains2 : tie.After-known-told2 → Gains
 gains2 c = gains1 (c .before .before .before .before .before)
@@ -80,7 +80,7 @@ returns-3 : tie.Need-returns-3
 returns-3 c =
     let r = c .before .before .before in
     let g = gains2 (r .before .before) in
-    halted 20 (code20 r) (later 3 g) (gainsCodes g) (c .before .enum-told3 .given .1) (c .refused3 .ensures) ∙ sym (to19 (r .before .before))
+    coding-refused 20 (code20 r) (later 3 g) (gainsCodes g) (c .before .enum-told3 .given .1) (c .refused3 .ensures) ∙ sym (to19 (r .before .before))
 
 abbrev gains3 : tie.After-known-told3 → Gains
 gains3 c = gains2 (c .before .before .before .before .before)
@@ -101,7 +101,7 @@ returns-4 : tie.Need-returns-4
 returns-4 c =
     let r = c .before .before .before in
     let g = gains3 (r .before .before) in
-    halted 21 (code21 r) (later 4 g) (gainsCodes g) (c .before .enum-told4 .given .1) (c .refused4 .ensures) ∙ sym (to20 (r .before .before))
+    coding-refused 21 (code21 r) (later 4 g) (gainsCodes g) (c .before .enum-told4 .given .1) (c .refused4 .ensures) ∙ sym (to20 (r .before .before))
 
 abbrev gains4 : tie.After-known-told4 → Gains
 gains4 c = gains3 (c .before .before .before .before .before)
@@ -122,7 +122,7 @@ returns-5 : tie.Need-returns-5
 returns-5 c =
     let r = c .before .before .before in
     let g = gains4 (r .before .before) in
-    halted 22 (code22 r) (later 5 g) (gainsCodes g) (c .before .enum-told5 .given .1) (c .refused5 .ensures) ∙ sym (to21 (r .before .before))
+    coding-refused 22 (code22 r) (later 5 g) (gainsCodes g) (c .before .enum-told5 .given .1) (c .refused5 .ensures) ∙ sym (to21 (r .before .before))
 
 abbrev gains5 : tie.After-known-told5 → Gains
 gains5 c = gains4 (c .before .before .before .before .before)

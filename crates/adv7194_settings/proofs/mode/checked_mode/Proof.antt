@@ -13,7 +13,7 @@ use Rattle.adv7194_settings.specs.declared.settings.Mode.{Mode}
 use Rattle.adv7194_settings.specs.declared.codes.ModeCodes.{ModeCodes}
 use Rattle.adv7194_settings.specs.Groups.{modeFaults, modeCodes}
 use Rattle.adv7194_settings.proofs.Numbers.{passed}
-use Rattle.adv7194_settings.proofs.Turns.{Found, dueFrom, halted, next, taken}
+use Rattle.adv7194_settings.proofs.Turns.{Found, dueFrom, coding-refused, next, taken}
 use Rattle.adv7194_settings.proofs.mode.checked_mode.Statement.{statement}
 use Rattle.adv7194_settings.proofs.mode.checked_mode.Tie as tie
 
@@ -36,7 +36,7 @@ returns : tie.Need-returns
 returns c =
     let r = c .before .before .before in
     let m = r .before .before .args .mode in
-    halted 23 (code23 r) (later 1 m) (modeCodes m) (c .before .enum-told .given .1) (c .refused .ensures)
+    coding-refused 23 (code23 r) (later 1 m) (modeCodes m) (c .before .enum-told .given .1) (c .refused .ensures)
 
 -- the settings, from each stage on
 abbrev mode1 : tie.After-known-told → Mode
@@ -59,7 +59,7 @@ returns-2 : tie.Need-returns-2
 returns-2 c =
     let r = c .before .before .before in
     let m = mode1 (r .before .before) in
-    halted 24 (code24 r) (later 2 m) (modeCodes m) (c .before .enum-told2 .given .1) (c .refused2 .ensures) ∙ sym (to23 (r .before .before))
+    coding-refused 24 (code24 r) (later 2 m) (modeCodes m) (c .before .enum-told2 .given .1) (c .refused2 .ensures) ∙ sym (to23 (r .before .before))
 
 abbrev mode2 : tie.After-known-told2 → Mode
 mode2 c = mode1 (c .before .before .before .before .before)
@@ -80,7 +80,7 @@ returns-3 : tie.Need-returns-3
 returns-3 c =
     let r = c .before .before .before in
     let m = mode2 (r .before .before) in
-    halted 25 (code25 r) (later 3 m) (modeCodes m) (c .before .enum-told3 .given .1) (c .refused3 .ensures) ∙ sym (to24 (r .before .before))
+    coding-refused 25 (code25 r) (later 3 m) (modeCodes m) (c .before .enum-told3 .given .1) (c .refused3 .ensures) ∙ sym (to24 (r .before .before))
 
 abbrev mode3 : tie.After-known-told3 → Mode
 mode3 c = mode2 (c .before .before .before .before .before)

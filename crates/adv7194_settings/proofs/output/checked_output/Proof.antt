@@ -12,7 +12,7 @@ use Rattle.adv7194_settings.specs.declared.settings.Output.{Output}
 use Rattle.adv7194_settings.specs.declared.codes.OutputCodes.{OutputCodes}
 use Rattle.adv7194_settings.specs.Groups.{outputFaults, outputCodes}
 use Rattle.adv7194_settings.proofs.Numbers.{passed}
-use Rattle.adv7194_settings.proofs.Turns.{Found, dueFrom, halted, next, taken}
+use Rattle.adv7194_settings.proofs.Turns.{Found, dueFrom, coding-refused, next, taken}
 use Rattle.adv7194_settings.proofs.output.checked_output.Statement.{statement}
 use Rattle.adv7194_settings.proofs.output.checked_output.Tie as tie
 
@@ -37,7 +37,7 @@ returns : tie.Need-returns
 returns c =
     let r = c .before .before .before in
     let o = output0 (r .before .before) in
-    halted 5 (code5 r) (later 1 o) (outputCodes o) (c .before .enum-told .given .1) (c .refused .ensures)
+    coding-refused 5 (code5 r) (later 1 o) (outputCodes o) (c .before .enum-told .given .1) (c .refused .ensures)
 
 abbrev output1 : tie.After-known-told → Output
 output1 c = output0 (c .before .before .before .before .before)
@@ -57,7 +57,7 @@ returns-2 : tie.Need-returns-2
 returns-2 c =
     let r = c .before .before .before in
     let o = output1 (r .before .before) in
-    halted 6 (code6 r) (later 2 o) (outputCodes o) (c .before .enum-told2 .given .1) (c .refused2 .ensures) ∙ sym (to5 (r .before .before))
+    coding-refused 6 (code6 r) (later 2 o) (outputCodes o) (c .before .enum-told2 .given .1) (c .refused2 .ensures) ∙ sym (to5 (r .before .before))
 
 abbrev output2 : tie.After-known-told2 → Output
 output2 c = output1 (c .before .before .before .before .before)
@@ -78,7 +78,7 @@ returns-3 : tie.Need-returns-3
 returns-3 c =
     let r = c .before .before .before in
     let o = output2 (r .before .before) in
-    halted 7 (code7 r) (later 3 o) (outputCodes o) (c .before .enum-told3 .given .1) (c .refused3 .ensures) ∙ sym (to6 (r .before .before))
+    coding-refused 7 (code7 r) (later 3 o) (outputCodes o) (c .before .enum-told3 .given .1) (c .refused3 .ensures) ∙ sym (to6 (r .before .before))
 
 abbrev output3 : tie.After-known-told3 → Output
 output3 c = output2 (c .before .before .before .before .before)
@@ -99,7 +99,7 @@ returns-4 : tie.Need-returns-4
 returns-4 c =
     let r = c .before .before .before in
     let o = output3 (r .before .before) in
-    halted 8 (code8 r) (later 4 o) (outputCodes o) (c .before .enum-told4 .given .1) (c .refused4 .ensures) ∙ sym (to7 (r .before .before))
+    coding-refused 8 (code8 r) (later 4 o) (outputCodes o) (c .before .enum-told4 .given .1) (c .refused4 .ensures) ∙ sym (to7 (r .before .before))
 
 abbrev output4 : tie.After-known-told4 → Output
 output4 c = output3 (c .before .before .before .before .before)
@@ -120,7 +120,7 @@ returns-5 : tie.Need-returns-5
 returns-5 c =
     let r = c .before .before .before in
     let o = output4 (r .before .before) in
-    halted 9 (code9 r) (later 5 o) (outputCodes o) (c .before .enum-told5 .given .1) (c .refused5 .ensures) ∙ sym (to8 (r .before .before))
+    coding-refused 9 (code9 r) (later 5 o) (outputCodes o) (c .before .enum-told5 .given .1) (c .refused5 .ensures) ∙ sym (to8 (r .before .before))
 
 abbrev output5 : tie.After-known-told5 → Output
 output5 c = output4 (c .before .before .before .before .before)
@@ -141,7 +141,7 @@ returns-6 : tie.Need-returns-6
 returns-6 c =
     let r = c .before .before .before in
     let o = output5 (r .before .before) in
-    halted 10 (code10 r) (later 6 o) (outputCodes o) (c .before .enum-told6 .given .1) (c .refused6 .ensures) ∙ sym (to9 (r .before .before))
+    coding-refused 10 (code10 r) (later 6 o) (outputCodes o) (c .before .enum-told6 .given .1) (c .refused6 .ensures) ∙ sym (to9 (r .before .before))
 
 abbrev output6 : tie.After-known-told6 → Output
 output6 c = output5 (c .before .before .before .before .before)

@@ -12,7 +12,7 @@ use Rattle.adv7194_settings.specs.declared.settings.Picture.{Picture}
 use Rattle.adv7194_settings.specs.declared.codes.PictureCodes.{PictureCodes}
 use Rattle.adv7194_settings.specs.Groups.{pictureFaults, pictureCodes}
 use Rattle.adv7194_settings.proofs.Numbers.{passed}
-use Rattle.adv7194_settings.proofs.Turns.{Found, dueFrom, halted, next, taken}
+use Rattle.adv7194_settings.proofs.Turns.{Found, dueFrom, coding-refused, next, taken}
 use Rattle.adv7194_settings.proofs.picture.checked_picture.Statement.{statement}
 use Rattle.adv7194_settings.proofs.picture.checked_picture.Tie as tie
 
@@ -37,7 +37,7 @@ returns : tie.Need-returns
 returns c =
     let r = c .before .before .before in
     let p = picture0 (r .before .before) in
-    halted 12 (code12 r) (later 1 p) (pictureCodes p) (c .before .enum-told .given .1) (c .refused .ensures)
+    coding-refused 12 (code12 r) (later 1 p) (pictureCodes p) (c .before .enum-told .given .1) (c .refused .ensures)
 
 abbrev picture1 : tie.After-known-told → Picture
 picture1 c = picture0 (c .before .before .before .before .before)
@@ -57,7 +57,7 @@ returns-2 : tie.Need-returns-2
 returns-2 c =
     let r = c .before .before .before in
     let p = picture1 (r .before .before) in
-    halted 13 (code13 r) (later 2 p) (pictureCodes p) (c .before .enum-told2 .given .1) (c .refused2 .ensures) ∙ sym (to12 (r .before .before))
+    coding-refused 13 (code13 r) (later 2 p) (pictureCodes p) (c .before .enum-told2 .given .1) (c .refused2 .ensures) ∙ sym (to12 (r .before .before))
 
 abbrev picture2 : tie.After-known-told2 → Picture
 picture2 c = picture1 (c .before .before .before .before .before)
@@ -78,7 +78,7 @@ returns-3 : tie.Need-returns-3
 returns-3 c =
     let r = c .before .before .before in
     let p = picture2 (r .before .before) in
-    halted 14 (code14 r) (later 3 p) (pictureCodes p) (c .before .enum-told3 .given .1) (c .refused3 .ensures) ∙ sym (to13 (r .before .before))
+    coding-refused 14 (code14 r) (later 3 p) (pictureCodes p) (c .before .enum-told3 .given .1) (c .refused3 .ensures) ∙ sym (to13 (r .before .before))
 
 abbrev picture3 : tie.After-known-told3 → Picture
 picture3 c = picture2 (c .before .before .before .before .before)
@@ -99,7 +99,7 @@ returns-4 : tie.Need-returns-4
 returns-4 c =
     let r = c .before .before .before in
     let p = picture3 (r .before .before) in
-    halted 15 (code15 r) (later 4 p) (pictureCodes p) (c .before .enum-told4 .given .1) (c .refused4 .ensures) ∙ sym (to14 (r .before .before))
+    coding-refused 15 (code15 r) (later 4 p) (pictureCodes p) (c .before .enum-told4 .given .1) (c .refused4 .ensures) ∙ sym (to14 (r .before .before))
 
 abbrev picture4 : tie.After-known-told4 → Picture
 picture4 c = picture3 (c .before .before .before .before .before)
@@ -120,7 +120,7 @@ returns-5 : tie.Need-returns-5
 returns-5 c =
     let r = c .before .before .before in
     let p = picture4 (r .before .before) in
-    halted 16 (code16 r) (later 5 p) (pictureCodes p) (c .before .enum-told5 .given .1) (c .refused5 .ensures) ∙ sym (to15 (r .before .before))
+    coding-refused 16 (code16 r) (later 5 p) (pictureCodes p) (c .before .enum-told5 .given .1) (c .refused5 .ensures) ∙ sym (to15 (r .before .before))
 
 abbrev picture5 : tie.After-known-told5 → Picture
 picture5 c = picture4 (c .before .before .before .before .before)
@@ -141,7 +141,7 @@ returns-6 : tie.Need-returns-6
 returns-6 c =
     let r = c .before .before .before in
     let p = picture5 (r .before .before) in
-    halted 17 (code17 r) (later 6 p) (pictureCodes p) (c .before .enum-told6 .given .1) (c .refused6 .ensures) ∙ sym (to16 (r .before .before))
+    coding-refused 17 (code17 r) (later 6 p) (pictureCodes p) (c .before .enum-told6 .given .1) (c .refused6 .ensures) ∙ sym (to16 (r .before .before))
 
 abbrev picture6 : tie.After-known-told6 → Picture
 picture6 c = picture5 (c .before .before .before .before .before)

@@ -1,5 +1,5 @@
 -- `refusal::output_refusal` meets its contract. Assumes nothing.
-use mathlib.Core.Path.{_≡_, sym, ap, _∙_}
+use mathlib.Core.Path.{sym, ap, _∙_}
 use borrow.Author.Needs.{needs}
 use Rattle.adv7194_settings.specs.Answers.{outputAs, checkedAs, refusalOf}
 use Rattle.adv7194_settings.proofs.refusal.output_refusal.Statement.{statement}

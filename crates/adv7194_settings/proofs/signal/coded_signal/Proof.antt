@@ -29,9 +29,9 @@ returns-2 c =
     let t = c .before .before .before .before .before .before in
     let s = t .before .before .before in
     let g = s .before .before .before .args .signalling in
-    let told = c .before .before .struct-told6 .given in
+    let fits = c .before .before .struct-told6 .given in
     let e = cgms-is g (sym (off-test (s .before)) ∙ s .if1 .left) (sym (cgms-test (t .before)) ∙ t .if2 .taken) in
-    let r = passed4 cgmsOf (g .number) (g .odd) (g .even) (g .«chip_check») (c .before .cgms-code .ensures) (told .1 .0 .1) (told .1 .1 .0 .1) (told .1 .1 .1 .0 .1) (told .1 .1 .1 .1 .0 .1) in
+    let r = passed4 cgmsOf (g .number) (g .odd) (g .even) (g .«chip_check») (c .before .cgms-code .ensures) (fits .1 .0 .1) (fits .1 .1 .0 .1) (fits .1 .1 .1 .0 .1) (fits .1 .1 .1 .1 .0 .1) in
     c .sent .ensures ∙ ap (λ j. after (faultOf 11 j) (good (signalBy (codesIn j)))) (r ∙ sym e)
 
 returns-3 : tie.Need-returns-3

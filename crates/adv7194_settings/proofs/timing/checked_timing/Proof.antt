@@ -17,11 +17,11 @@ use Rattle.adv7194_fields.specs.Fields.{standard, yesNo}
 use Rattle.adv7194_settings.specs.declared.settings.Timing.{Timing}
 use Rattle.adv7194_settings.specs.declared.codes.TimingCodes.{TimingCodes}
 use Rattle.adv7194_settings.specs.Rows.{is, squareWithOversampling, pedestalWithPal}
-use Rattle.adv7194_settings.specs.Codes.{standardBy}
+use Rattle.adv7194_settings.specs.Codes.{standardSet}
 use Rattle.adv7194_settings.specs.Groups.{timingFaults, timingCodes}
 use Rattle.adv7194_settings.proofs.Numbers.{passed}
-use Rattle.adv7194_settings.proofs.Turns.{Found, dueFrom, ends-where, halted, next, taken}
-use Rattle.adv7194_settings.proofs.TimingLaws.{Bit, bit, spared, sum-flag}
+use Rattle.adv7194_settings.proofs.Turns.{Found, dueFrom, ends-where, coding-refused, next, taken}
+use Rattle.adv7194_settings.proofs.TimingLaws.{Bit, bit, past-row, sum-flag, standard-is}
 use Rattle.adv7194_settings.proofs.timing.checked_timing.Statement.{statement}
 use Rattle.adv7194_settings.proofs.timing.checked_timing.Tie as tie
 
@@ -44,7 +44,7 @@ returns : tie.Need-returns
 returns c =
     let r = c .before .before .before in
     let t = r .before .before .args .timing in
-    halted 1 (code1 r) (later 1 t) (timingCodes t) (c .before .enum-told .given .1) (c .refused .ensures)
+    coding-refused 1 (code1 r) (later 1 t) (timingCodes t) (c .before .enum-told .given .1) (c .refused .ensures)
 
 -- the settings, from each stage on
 abbrev timing1 : tie.After-known-told → Timing
@@ -67,7 +67,7 @@ returns-2 : tie.Need-returns-2
 returns-2 c =
     let r = c .before .before .before in
     let t = timing1 (r .before .before) in
-    halted 2 (code2 r) (later 2 t) (timingCodes t) (c .before .enum-told2 .given .1) (c .refused2 .ensures) ∙ sym (to1 (r .before .before))
+    coding-refused 2 (code2 r) (later 2 t) (timingCodes t) (c .before .enum-told2 .given .1) (c .refused2 .ensures) ∙ sym (to1 (r .before .before))
 
 abbrev timing2 : tie.After-known-told2 → Timing
 timing2 c = timing1 (c .before .before .before .before .before)
@@ -88,7 +88,7 @@ returns-3 : tie.Need-returns-3
 returns-3 c =
     let r = c .before .before .before in
     let t = timing2 (r .before .before) in
-    halted 3 (code3 r) (later 3 t) (timingCodes t) (c .before .enum-told3 .given .1) (c .refused3 .ensures) ∙ sym (to2 (r .before .before))
+    coding-refused 3 (code3 r) (later 3 t) (timingCodes t) (c .before .enum-told3 .given .1) (c .refused3 .ensures) ∙ sym (to2 (r .before .before))
 
 abbrev timing3 : tie.After-known-told3 → Timing
 timing3 c = timing2 (c .before .before .before .before .before)
@@ -118,7 +118,7 @@ timing4 c = timing3 (c .before .before .before .before .before)
 
 past3 : (c : tie.Else1) → due 0 (timing4 c) ≡ due 4 (timing4 c)
 past3 c = to3 (c .before .before .before .before .before)
-    ∙ spared 5 3 (later 4 (timing4 c)) (timingCodes (timing4 c)) (sym (square-flag (c .before)) ∙ c .if1 .left)
+    ∙ past-row 5 3 (later 4 (timing4 c)) (timingCodes (timing4 c)) (sym (square-flag (c .before)) ∙ c .if1 .left)
 
 -- ---- field 4
 
@@ -129,7 +129,7 @@ returns-5 : tie.Need-returns-5
 returns-5 c =
     let r = c .before .before .before in
     let t = timing4 (r .before .before) in
-    halted 4 (code4 r) (later 5 t) (timingCodes t) (c .before .enum-told4 .given .1) (c .refused4 .ensures) ∙ sym (past3 (r .before .before))
+    coding-refused 4 (code4 r) (later 5 t) (timingCodes t) (c .before .enum-told4 .given .1) (c .refused4 .ensures) ∙ sym (past3 (r .before .before))
 
 abbrev timing5 : tie.After-known-told4 → Timing
 timing5 c = timing4 (c .before .before .before .before .before)
@@ -167,17 +167,19 @@ returns-6 c =
 past4 : (c : tie.Else2) → due 0 (timing5 (c .before)) ≡ due 6 (timing5 (c .before))
 past4 c =
     let k = c .before in
-    to4 k ∙ spared 6 4 (later 6 (timing5 k)) (timingCodes (timing5 k)) (pal-flag k ∙ ne-eqb _ 2 (c .if2 .left))
+    to4 k ∙ past-row 6 4 (later 6 (timing5 k)) (timingCodes (timing5 k)) (pal-flag k ∙ ne-eqb _ 2 (c .if2 .left))
 
 -- ---- all of them
 
 returns-7 : tie.Need-returns-7
 returns-7 c =
-    let k4 = c .before .before in
+    let k4 = c .before .before .before in
     let k3 = k4 .before .before .before .before .before .before .before .before .before .before in
     let k2 = k3 .before .before .before .before .before in
     let k1 = k2 .before .before .before .before .before in
-    rw (c .standard-of .ensures ∙ ap standardBy (taken1 k1), taken2 k2, taken3 k3, taken4 k4) (sym (past4 (c .before)))
+    let z = timing1 k1 .standard in
+    let set = passed standardSet z (c .standard-of .ensures) (c .before .struct-told7 .given .0 .1) in
+    rw (set ∙ sym (standard-is z), taken2 k2, taken3 k3, taken4 k4) (sym (past4 (c .before .before)))
 
 pub checked-timing-spec : {M : Type 1} → statement M
 checked-timing-spec =

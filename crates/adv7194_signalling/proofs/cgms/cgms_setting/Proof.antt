@@ -1,5 +1,5 @@
--- `cgms::cgms_setting` meets its contract: a word that is coded again as it stands holds the setting, and one that holds a setting is coded
--- again as it stands. Assumes nothing.
+-- `cgms::cgms_setting` meets its contract: a word that is coded again unchanged holds the setting, and one that holds a setting is coded
+-- again unchanged. Assumes nothing.
 use mathlib.Core.Path.{_≡_, refl, sym, ap, _∙_}
 use native.Mathlib.Omega.{arith}
 use mir.Syntax.{w32}

@@ -4,7 +4,8 @@ use mathlib.Core.Bool.{not, _||_, Bool·beq}
 use Prim.Native.Nat.{ℕ, _/_, _%_, _<_}
 use lib.Dec.{eqb}
 use borrow.Author.Tests.{ne-eqb}
-use Rattle.adv7194_signalling.specs.Kind.{kindOf, kindBy, stands}
+use Rattle.bits.specs.Maps.{has}
+use Rattle.adv7194_signalling.specs.Kind.{kindOf, kindBy}
 use Rattle.rounding.proofs.Range.{below-at}
 use Rattle.adv7194_signalling.proofs.FlagLaws.{same}
 use Rattle.adv7194_signalling.proofs.kind.kind.Statement.{statement}
@@ -14,8 +15,8 @@ use Rattle.adv7194_signalling.proofs.kind.kind.Tie as tie
 by-tests : (b : ℕ) → b < 256 → kindOf b ≡ kindBy (eqb (b / 128) 1) (not (eqb (b / 32 % 4) 0)) (eqb (b / 16 % 2) 1)
 unfolding kindOf
 by-tests b h =
-    let seven = same (stands 7 b) (eqb (b / 128) 1) (below-at (λ b. Bool·beq (stands 7 b) (eqb (b / 128) 1)) 256 tt b h) in
-    let fields = same (stands 6 b || stands 5 b) (not (eqb (b / 32 % 4) 0)) (below-at (λ b. Bool·beq (stands 6 b || stands 5 b) (not (eqb (b / 32 % 4) 0))) 256 tt b h) in
+    let seven = same (has b 7) (eqb (b / 128) 1) (below-at (λ b. Bool·beq (has b 7) (eqb (b / 128) 1)) 256 tt b h) in
+    let fields = same (has b 6 || has b 5) (not (eqb (b / 32 % 4) 0)) (below-at (λ b. Bool·beq (has b 6 || has b 5) (not (eqb (b / 32 % 4) 0))) 256 tt b h) in
     rw (seven, fields)
 
 returns : tie.Need-returns
