@@ -2,18 +2,18 @@
 use mathlib.Core.Path.{_≡_, refl, sym, ap, _∙_, subst}
 use mathlib.Core.Bool.{Bool, true, false, _||_, _&&_}
 use mathlib.Core.Logic.{_⊎_, inl, inr}
-use Prim.Native.Nat.{ℕ, zero, suc, _+_, _-_, _*_, _/_, _^_, _≤_, _<_}
+use Prim.Native.Nat.{ℕ, zero, suc, _+_, _-_, _*_, _/_, _≤_, _<_}
 use native.Mathlib.Nat.{lt-of-not-le, eq-or-lt-of-le, add-zero, zero-add, sub-zero}
 use native.Mathlib.Omega.{arith}
 use lib.Dec.{T, ltb}
-use lib.IntN.{ℤ, pos, negsuc, negℤ, natAbs, _+ℤ_, _-ℤ_}
+use lib.IntN.{ℤ, pos, negsuc, negℤ, natAbs, _+ℤ_}
 use lib.Signed.{ltZ, nonNeg}
 use borrow.Author.Tests.{le-ltb, ltb-false}
 use Rattle.refusals.specs.Refusal.{accepted}
 use Rattle.rounding.specs.Nearest.{nearest, Nearest, LeastMultiple}
 use Rattle.rounding.proofs.Rounding.{nearest-is, nearest-only, nearestb, nearest-by}
 use Rattle.rounding.proofs.Range.{both-l, both-r, eqZ, eqZ→eq}
-use Rattle.adv7194_fields.specs.Coding.{Format, nearestTimes, outside, codeOf, codeBy, has, decode}
+use Rattle.adv7194_fields.specs.Coding.{nearestTimes, outside, codeOf, codeBy, has, decode}
 use Rattle.adv7194_fields.specs.Fields.{hue, contrast, scale, thousandths}
 use Rattle.adv7194_fields.proofs.Judging.{neither-l, neither-r}
 use Rattle.adv7194_fields.proofs.Decoding.{NearestZero, has-inside, has-code, code-has, no-code, decode-found}

@@ -27,8 +27,8 @@ const MIDDLE: i32 = 128;
 const TWICE_NUMERATOR: i32 = 2 * NUMERATOR;
 
 const TWICE_DENOMINATOR: i32 = 2 * DENOMINATOR;
-// What is added before a division by TWICE_NUMERATOR: its rest at most, to round up, less half a step.
-const NUDGE: i32 = TWICE_NUMERATOR - 1 - DENOMINATOR;
+// What is added before a division by TWICE_NUMERATOR, so that it rounds up: the largest remainder, less half a step.
+const ROUNDING_OFFSET: i32 = TWICE_NUMERATOR - 1 - DENOMINATOR;
 
 // The number of steps nearest to a hue in the range, by signed division.
 fn steps(tenths: i32) -> i32
@@ -57,8 +57,12 @@ fn tenths(steps: i32) -> i32
     ensures answer { λ r. ⌜ accepted r ≡ decode hue (natAbs (pos 128 +ℤ steps)) ⌝ }
 {
     let product = TWICE_DENOMINATOR * steps;
-    let nudge = if product < 0 { -NUDGE } else { NUDGE };
-    (product + nudge) / TWICE_NUMERATOR
+    let offset = if product < 0 {
+        -ROUNDING_OFFSET
+    } else {
+        ROUNDING_OFFSET
+    };
+    (product + offset) / TWICE_NUMERATOR
 }
 
 // The hue of a code: every code has one.

@@ -24,28 +24,28 @@ at P t c = in-range 128 127 P t (c .args .steps) (c .pre)
 abbrev product : ℤ → ℤ
 product s = pos 900 *ℤ back w32 s
 
-abbrev nudge : ℤ → ℕ
-nudge s = cond (ltZ (back w32 (product s)) (pos 0)) (ofZ w32 (pos 0 -ℤ pos 61)) 61
+abbrev offset : ℤ → ℕ
+offset s = cond (ltZ (back w32 (product s)) (pos 0)) (ofZ w32 (pos 0 -ℤ pos 61)) 61
 
 abbrev sum : ℤ → ℤ
-sum s = back w32 (product s) +ℤ toZ w32 (nudge s)
+sum s = back w32 (product s) +ℤ toZ w32 (offset s)
 
 abbrev quotient : ℤ → ℤ
 quotient s = quotZ (back w32 (sum s)) (pos 512)
 
--- the nudge that either arm chose
-nudged : (c : tie.Joined1) → c .if1 .nudge ≡ nudge (c .before .args .steps)
-nudged c = ⊎-elim (λ w. rw (w .0 .taken) (w .1)) (λ w. rw (w .0 .left) (w .1)) (c .if1 .came)
+-- the offset that either arm chose
+offset-is : (c : tie.Joined1) → c .if1 .offset ≡ offset (c .before .args .steps)
+offset-is c = ⊎-elim (λ w. rw (w .0 .taken) (w .1)) (λ w. rw (w .0 .left) (w .1)) (c .if1 .came)
 
 add-result : tie.Need-add-result
-add-result c = rw (nudged c) (fits→ w32 _ (at (λ s. sfitsb w32 (sum s)) tt (c .before)))
+add-result c = rw (offset-is c) (fits→ w32 _ (at (λ s. sfitsb w32 (sum s)) tt (c .before)))
 
 div-result : tie.Need-div-result
-div-result c = rw (nudged c) (lit< tt, fits→ w32 _ (at (λ s. sfitsb w32 (quotient s)) tt (c .before)))
+div-result c = rw (offset-is c) (lit< tt, fits→ w32 _ (at (λ s. sfitsb w32 (quotient s)) tt (c .before)))
 
 returns : tie.Need-returns
 returns c =
-    rw (nudged c)
+    rw (offset-is c)
     (ap accepted (eqZ→eq _ _ (at (λ s. eqZ (back w32 (quotient s)) (leastHue s)) tt (c .before)))
     ∙ hue-at (c .before .args .steps) (c .before .pre))
 
