@@ -34,14 +34,12 @@ fn print_settings(settings: Settings) {
     }
 }
 
-// Prints a refusal with its field. The line has room.
+// Prints a refusal with its field.
 fn print_refusal(refusal: Refusal, field: u8) {
-    let mut line = [0u8; LINE_WIDTH];
-    let place = refused_line(&mut line, refusal.number(), field);
-    let Place::After(end) = place else {
-        return;
-    };
-    io::write_all(STDOUT_FILENO, &line[0..end]);
+    let line = refused_line(refusal.number(), field);
+    let bytes = line.bytes;
+    let end = line.length;
+    io::write_all(STDOUT_FILENO, &bytes[0..end]);
 }
 
 // Reads more than an image may be long, so that an image too long is seen.

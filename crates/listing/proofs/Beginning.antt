@@ -1,4 +1,4 @@
--- A line begins with a word exactly when its front is the word.
+-- A line begins with a word exactly when its front is the word; the words of the lines PLAN and REFUSED. Assumes nothing.
 use mathlib.Core.Path.{_≡_, refl, sym, ap, _∙_}
 use mathlib.Core.Bool.{Bool, true, false, _&&_}
 use mathlib.Core.List.{List, [], _∷_}
@@ -7,7 +7,9 @@ use native.Mathlib.Nat.{le-of-suc-le-suc, not-suc-le-zero}
 use lib.Dec.{eqb}
 use lib.ListN.{length, take, getD, drop}
 use borrow.Author.Tests.{eq-eqb, eqb-true}
-use Rattle.listing.specs.Lines.{begins}
+use Rattle.listing.specs.declared.Word.the-variants.{Plan, Refused}
+use Rattle.listing.specs.Lines.{begins, countsLine, planLine, refusedLine}
+use Rattle.listing.specs.Written.{wordOf}
 
 -- two flags that follow from each other are the same
 same-flag : (a b : Bool) → (a ≡ true → b ≡ true) → (b ≡ true → a ≡ true) → a ≡ b
@@ -58,3 +60,12 @@ front-of (x ∷ word) (y ∷ line) e =
 -- a flag that tells whether the front is the word
 pub told : (word line : List ℕ) (r : Bool) → (r ≡ true → take (length word) line ≡ word) → (take (length word) line ≡ word → r ≡ true) → r ≡ begins word line
 told word line r f g = same-flag r (begins word line) (λ e. begins-of word line (f e)) (λ e. g (front-of word line e))
+
+-- the words of the two lines
+pub plan-word : (transactions bytes : ℕ) → wordOf (planLine transactions bytes) ≡ Plan
+unfolding wordOf begins countsLine
+plan-word transactions bytes = refl
+
+pub refused-word : (number field : ℕ) → wordOf (refusedLine number field) ≡ Refused
+unfolding wordOf begins countsLine
+refused-word number field = refl

@@ -1,2 +1,2 @@
 pub mod Beginning
-pub mod Cases
+pub mod LineLaws

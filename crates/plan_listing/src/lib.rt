@@ -1,14 +1,14 @@
-// The text of a packed plan: transactions and bus bytes, then a line a transaction.
+// The lines of a packed plan: one for each transaction, below a heading.
 ghost use mathlib.Core.Path.{_≡_};
-ghost use Prim.Native.Nat.{_+_, _*_, _^_, _≤_, _<_};
+ghost use mathlib.Core.List.{_++_};
+ghost use Prim.Native.Nat.{_+_, _*_, _≤_, _<_};
 ghost use lib.ListN.{length};
 ghost use Rattle.bus.specs.Cost.{dataCount};
 ghost use Rattle.unpacking.specs.Unpacking.{unpack};
 ghost use Rattle.unpacking.specs.Places.{Placed};
 ghost use Rattle.unpacking.specs.Ahead.{headed, listed, Accepted};
 ghost use Rattle.text.specs.Line.{placeAfter, appended};
-ghost use Rattle.listing.specs.Lines.{planLine};
-ghost use Rattle.plan_listing.specs.PlanText.{transactionLine, transactionLines, planText};
+ghost use Rattle.plan_listing.specs.PlanText.{transactionLine, transactionLines};
 ghost use Rattle.plan_listing.specs.Listing.{listingOf, listingIn, listedAs};
 use refusals::Refusal;
 use text::Place;
@@ -23,8 +23,12 @@ use unpacking::places::header_at;
 const HEX_DIGITS: usize = 2;
 // The text of a subaddress or a datum: its digits, and a space or the line end.
 const BYTE_TEXT: usize = 3;
-// The first line without its numbers: the word, two spaces and the line end.
-const PLAN_LINE_FIXED: usize = 7;
+// The bits of a plan's transaction count, of a transaction's header, and of a byte.
+const COUNT_BITS: usize = 6;
+
+const HEADER_BITS: usize = 12;
+
+const BYTE_BITS: usize = 8;
 
 // What listing answers: the place after the text, that the memory lent is too short, or a refusal.
 pub enum Listed {
@@ -33,39 +37,14 @@ pub enum Listed {
     Refused(Refusal),
 }
 
-// How many data bytes a well-formed plan has in all.
-fn data_bytes(plan: &[u8]) -> u32
-    requires { ⌜ Accepted (now plan) ⌝ }
+// How many data bytes a well-formed plan with that many transactions has in all: the other bytes hold the count, the headers and the zero bits.
+fn data_bytes(plan: &[u8], transactions: u8) -> usize
+    requires { ⌜ Accepted (now plan) × (length (listed (unpack (now plan))) ≡ transactions) ⌝ }
     ensures answer { λ r. ⌜ r ≡ dataCount (listed (unpack (now (plan .entry)))) ⌝ }
-    ensures most { λ r. ⌜ r < 2 ^ 16 ⌝ }
+    ensures most { λ r. ⌜ transactions + r ≤ length (now (plan .entry)) ⌝ }
 {
-    let transactions = plan[0] / ONE_TRANSACTION;
-    let mut place = unpacking::places::Place {
-        at: 1,
-        held: FIRST_HELD,
-    };
-    let mut all: u32 = 0;
-    let mut i: u8 = 0;
-    while i < transactions {
-        let header = header_at(plan, place);
-        let count = header.count;
-        let next = header.next;
-        place = unpacking::places::Place {
-            at: next.at + count as usize,
-            held: next.held,
-        };
-        all += count as u32;
-        i += 1;
-    }
-    all
-}
-
-// How many bytes the first line takes.
-fn plan_line_length(transactions: u64, bytes: u64) -> usize
-    ensures answer { λ r. ⌜ r ≡ length (planLine transactions bytes) ⌝ }
-    ensures most { λ r. ⌜ r ≤ 47 ⌝ }
-{
-    text::decimal_length(transactions) + text::decimal_length(bytes) + PLAN_LINE_FIXED
+    let others = COUNT_BITS + HEADER_BITS * transactions as usize;
+    plan.len() - (others + BYTE_BITS - 1) / BYTE_BITS
 }
 
 // Writes the line of the transaction whose header was taken, where there is room for it, and answers the place after it.
@@ -121,31 +100,31 @@ fn put_lines(out: &mut [u8], at: usize, plan: &[u8]) -> usize
     end
 }
 
-// Writes the text of a well-formed plan with that many transactions, or nothing where there is no room for all of it.
-fn put_plan(out: &mut [u8], plan: &[u8], transactions: u8) -> Place
+// Writes a heading and the lines of a well-formed plan with that many transactions, or nothing where there is no room for all of it.
+fn put_plan(out: &mut [u8], heading: &[u8], plan: &[u8], transactions: u8) -> Place
     requires { ⌜ Accepted (now plan) × (length (listed (unpack (now plan))) ≡ transactions) ⌝ }
-    ensures answer { λ r. ⌜ r ≡ placeAfter (now (out .entry)) 0 (planText (listed (unpack (now (plan .entry))))) ⌝ }
-    ensures memory { λ r. ⌜ now (out .exit) ≡ appended (now (out .entry)) 0 (planText (listed (unpack (now (plan .entry))))) ⌝ }
+    ensures answer { λ r. ⌜ r ≡ placeAfter (now (out .entry)) 0 (now (heading .entry) ++ transactionLines (listed (unpack (now (plan .entry))))) ⌝ }
+    ensures memory { λ r. ⌜ now (out .exit) ≡ appended (now (out .entry)) 0 (now (heading .entry) ++ transactionLines (listed (unpack (now (plan .entry))))) ⌝ }
 {
-    let data = data_bytes(plan);
-    let bytes = bus::cost::bus_bytes(transactions as u32, data);
-    let first = plan_line_length(transactions as u64, bytes);
-    let lines = BYTE_TEXT * (transactions as usize + data as usize);
-    if out.len() < first + lines {
+    let data = data_bytes(plan, transactions);
+    if out.len() < heading.len() {
         return Place::TooShort;
     }
-    listing::plan_line(out, transactions as u64, bytes);
+    if (out.len() - heading.len()) / BYTE_TEXT < transactions as usize + data {
+        return Place::TooShort;
+    }
+    let first = text::put(out, 0, heading);
     Place::After(put_lines(out, first, plan))
 }
 
-// Writes the text of a packed plan at the front of the memory lent.
-pub fn list_plan(out: &mut [u8], plan: &[u8]) -> Listed
-    ensures answer { λ r. ⌜ listedAs r ≡ listingOf (unpack (now (plan .entry))) (now (out .entry)) ⌝ }
-    ensures memory { λ r. ⌜ now (out .exit) ≡ listingIn (unpack (now (plan .entry))) (now (out .entry)) ⌝ }
+// Writes a heading and, after it, a line a transaction of a packed plan at the front of the memory lent.
+pub fn list_plan(out: &mut [u8], heading: &[u8], plan: &[u8]) -> Listed
+    ensures answer { λ r. ⌜ listedAs r ≡ listingOf (now (heading .entry)) (unpack (now (plan .entry))) (now (out .entry)) ⌝ }
+    ensures memory { λ r. ⌜ now (out .exit) ≡ listingIn (now (heading .entry)) (unpack (now (plan .entry))) (now (out .entry)) ⌝ }
 {
     match unpacking::check(plan) {
         Checked::Refused(refusal) => Listed::Refused(refusal),
-        Checked::WellFormed(transactions) => match put_plan(out, plan, transactions) {
+        Checked::WellFormed(transactions) => match put_plan(out, heading, plan, transactions) {
             Place::After(end) => Listed::After(end),
             Place::TooShort => Listed::TooShort,
         },

@@ -1,15 +1,14 @@
--- Laws of decimal text: one more digit at the end, enough steps, never empty, no more digits than the number's power of ten, and read back.
+-- Laws of decimal text: one more digit at the end, enough steps, one digit less, and a digit written before others.
 use mathlib.Core.Path.{_≡_, refl, sym, ap, _∙_}
 use mathlib.Core.List.{List, [], _∷_, _++_, append-assoc}
 use Prim.Native.Nat.{ℕ, zero, suc, _+_, _-_, _*_, _/_, _%_, _^_, _<_, _≤_}
 use native.Mathlib.Nat.{not-suc-le-zero}
 use native.Mathlib.Omega.{arith}
 use lib.Dec.{eqb}
-use lib.ListN.{length, take, drop, set, length-drop, length-set}
-use lib.Seq.{take-all, drop-cons, drop-set-lt, getD-set-same}
+use lib.ListN.{length, take, drop, set, length-set}
+use lib.Seq.{drop-cons, drop-set-lt, getD-set-same}
 use borrow.Author.Tests.{ne-eqb}
-use Rattle.text.specs.Text.{digit, leading, decimal}
-use Rattle.text.specs.Spelled.{Spelled}
+use Rattle.text.specs.Text.{digit, leading}
 
 -- 0 has no leading digits
 pub leading-zero : (steps : ℕ) → leading steps 0 ≡ []
@@ -53,19 +52,3 @@ one-before bytes first d p h =
     ∙ ap (λ (x : ℕ). x ∷ drop (suc k) (set bytes k d)) (getD-set-same bytes k d 0 (omega arith))
     ∙ ap (λ (r : List ℕ). d ∷ r) (drop-set-lt (suc k) bytes k d (omega arith))
     ∙ ap (λ (m : ℕ). d ∷ drop m bytes) e
-
-module _ {n : ℕ} {bytes : List ℕ} {first : ℕ} (s : Spelled n bytes first) where
-  -- how many digits were spelled
-  pub spelled-length : length (decimal n) ≡ 21 - first
-  spelled-length = ap length (sym (s .text)) ∙ length-drop first bytes ∙ ap (λ (k : ℕ). k - first) (s .long)
-
-  -- the part of the bytes that holds them
-  pub spelled-part : take (21 - first) (drop first bytes) ≡ decimal n
-  spelled-part = ap (λ (t : List ℕ). take (21 - first) t) (s .text) ∙ take-all (21 - first) (decimal n) (omega (arith, spelled-length))
-
-  -- the part that holds a byte before them
-  pub signed-part : (d : ℕ) → take (21 - (first - 1)) (drop (first - 1) (set bytes (first - 1) d)) ≡ d ∷ decimal n
-  signed-part d =
-      let b = one-before bytes first d (s .free) (omega (arith, s .some, s .long)) in
-      ap (λ (t : List ℕ). take (21 - (first - 1)) t) (b ∙ ap (λ (t : List ℕ). d ∷ t) (s .text))
-      ∙ take-all (21 - (first - 1)) (d ∷ decimal n) (omega (arith, spelled-length, s .free, s .some))

@@ -1,4 +1,6 @@
 pub mod Appending
+pub mod DigitBytes
 pub mod Digits
 pub mod Numerals
 pub mod Signs
+pub mod Zeros

@@ -4,9 +4,13 @@ use mathlib.Core.Bool.{Bool, cond}
 use mathlib.Core.List.{List, _++_}
 use Prim.Native.Nat.{ℕ, _+_}
 use lib.Dec.{leb}
-use lib.ListN.{length, take, drop}
+use lib.ListN.{length, take, drop, replicate}
 use Rattle.text.specs.declared.Place.{Place}
 use Rattle.text.specs.declared.Place.the-variants.{After, TooShort}
+
+-- that many zero bytes
+abbrev pub zeros : ℕ → List ℕ
+zeros n = replicate n 0
 
 -- the line has room for n bytes at a place
 abbrev pub room : List ℕ → ℕ → ℕ → Bool

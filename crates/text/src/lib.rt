@@ -3,12 +3,10 @@ mod number;
 
 pub use number::Digits;
 pub use number::decimal;
-pub use number::decimal_length;
+pub use number::decimal_digits;
 pub use number::hex_byte;
 pub use number::signed;
-pub use number::spell;
 ghost use mathlib.Core.Path.{_≡_};
-ghost use mathlib.Core.List.{[], _∷_};
 ghost use Prim.Native.Nat.{_+_, _≤_};
 ghost use lib.ListN.{length};
 ghost use Rattle.text.specs.Line.{room, placeAfter, appended};
@@ -20,7 +18,7 @@ pub enum Place {
 }
 
 // Whether the line has room for n bytes at a place.
-pub fn fits(line: &[u8], at: usize, n: usize) -> bool
+fn fits(line: &[u8], at: usize, n: usize) -> bool
     ensures answer { λ r. ⌜ r ≡ room (now (line .entry)) at n ⌝ }
 {
     if line.len() < at {
@@ -38,12 +36,7 @@ pub fn put(line: &mut [u8], at: usize, text: &[u8]) -> usize
     ensures answer { λ r. ⌜ r ≡ at + length (now (text .entry)) ⌝ }
     ensures memory { λ _. ⌜ now (line .exit) ≡ appended (now (line .entry)) at (now (text .entry)) ⌝ }
 {
-    let mut i = 0;
-    while i < text.len() {
-        line[at + i] = text[i];
-        i += 1;
-    }
-    at + i
+    at + bytes::copy(text, &mut line[at..])
 }
 
 // Appends a byte string.
@@ -53,18 +46,6 @@ pub fn append(line: &mut [u8], at: usize, text: &[u8]) -> Place
 {
     if fits(line, at, text.len()) {
         return Place::After(put(line, at, text));
-    }
-    Place::TooShort
-}
-
-// Appends one byte: a space, a line end.
-pub fn byte(line: &mut [u8], at: usize, b: u8) -> Place
-    ensures answer { λ r. ⌜ r ≡ placeAfter (now (line .entry)) at (b ∷ []) ⌝ }
-    ensures memory { λ _. ⌜ now (line .exit) ≡ appended (now (line .entry)) at (b ∷ []) ⌝ }
-{
-    if at < line.len() {
-        line[at] = b;
-        return Place::After(at + 1);
     }
     Place::TooShort
 }

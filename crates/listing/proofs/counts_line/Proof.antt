@@ -1,15 +1,18 @@
--- `counts_line` meets its contract: the word and the two numbers in a row are the line.
-use mathlib.Core.Path.{_≡_, ap, _∙_, subst}
+-- `counts_line` meets its contract: the word and the two numbers in a row are the line. Assumes nothing.
+use mathlib.Core.Path.{_≡_, sym, ap, ap₂, _∙_}
 use mathlib.Core.List.{List, _++_, append-assoc}
-use Prim.Native.Nat.{ℕ, _+_}
+use Prim.Native.Nat.{ℕ, _+_, _-_, _≤_}
+use native.Mathlib.Nat.{zero-add}
 use native.Mathlib.Omega.{arith}
-use lib.ListN.{length, length-append}
-use Rattle.text.specs.Line.{placeAfter, appended}
-use Rattle.text.specs.Text.{decimal, space, lineEnd}
-use Rattle.listing.specs.Lines.{countsLine}
-use Rattle.text.specs.declared.Place.the-variants.{After}
-use Rattle.text.proofs.Appending.{Written, answered, next, refused}
+use lib.ListN.{length, drop, length-append}
 use borrow.Author.Needs.{needs}
+use Rattle.text.specs.Line.{zeros}
+use Rattle.text.specs.Text.{decimal, space, lineEnd}
+use Rattle.text.proofs.Appending.{Written, kept, next, fitting}
+use Rattle.text.proofs.Numerals.{decimal-most}
+use Rattle.text.proofs.Zeros.{length-zeros, drop-zeros}
+use Rattle.listing.specs.Lines.{countsLine}
+use Rattle.listing.specs.Written.{lineWidth, lineOf}
 use Rattle.listing.proofs.counts_line.Statement.{statement}
 use Rattle.listing.proofs.counts_line.Tie as tie
 
@@ -18,48 +21,83 @@ regroup : (word : List ℕ) (a b : ℕ) → word ++ (decimal a ++ space) ++ (dec
 unfolding countsLine
 regroup word a b = simp append-assoc
 
--- its length
-counts-length : (word : List ℕ) (a b : ℕ) → length (countsLine word a b) ≡ length word + length (decimal a) + 1 + length (decimal b) + 1
-unfolding countsLine
-counts-length word a b = simp length-append
+-- a text written at the front of zeros is the line's
+front : (text after : List ℕ) (place : ℕ) → Written (zeros lineWidth) 0 text after place → _≡_ (record { bytes = after; length = place }) (lineOf text)
+unfolding lineOf
+front text after place w =
+    let short : length text ≤ lineWidth = omega (arith, w .fit, length-zeros lineWidth) in
+    let bytes : after ≡ text ++ zeros (lineWidth - length text) =
+    w .memory ∙ fitting (zeros lineWidth) 0 text (w .fit) ∙ ap (λ (k : ℕ). text ++ drop k (zeros lineWidth)) (zero-add (length text))
+    ∙ ap (λ (r : List ℕ). text ++ r) (drop-zeros (length text) lineWidth short) in
+    let place' : place ≡ length text = omega (arith, w .here) in
+    ap₂ (λ (b : List ℕ) (n : ℕ). record { bytes = b; length = n }) bytes place'
+
+-- where the function was entered
+abbrev start : tie.After-put → tie.Start
+start c = c .before .before .before
+
+-- the numbers have at most twenty digits
+first-few : (c : tie.After-put) → length (decimal (start c .args .a)) ≤ 20
+first-few c = decimal-most 19 (start c .args .a) (omega (arith, start c .fits .a .fits))
+
+second-few : (c : tie.After-put) → length (decimal (start c .args .b)) ≤ 20
+second-few c = decimal-most 19 (start c .args .b) (omega (arith, start c .fits .b .fits))
+
+-- the word is written
+word-written : (c : tie.After-put) → Written (zeros lineWidth) 0 (start c .args .word .now) (c .put .last .0) (c .put .result)
+word-written c = record { fit = omega (arith, start c .pre, length-zeros lineWidth); memory = c .put .ensures .1; here = c .put .ensures .0 }
+
+put-number-requires : tie.Need-put-number-requires
+put-number-requires c κs =
+    let p = c .before .before in
+    let w = word-written p in
+    omega (arith, first-few p, start p .pre, w .here, kept w, length-zeros lineWidth)
+
+-- and the first number
+abbrev before-first : tie.After-put-number → tie.After-put
+before-first c = c .before .before .before
+
+first-written : (c : tie.After-put-number) → (let a = start (before-first c) .args in
+    Written (zeros lineWidth) 0 (a .word .now ++ (decimal (a .a) ++ space)) (c .put-number .last .0) (c .put-number .result))
+first-written c =
+    let p = before-first c in
+    let a = start p .args in
+    let w = word-written p in
+    let more = decimal (a .a) ++ space in
+    let long = length-append (decimal (a .a)) space in
+    next w more (omega (arith, first-few p, start p .pre, w .here, length-zeros lineWidth)) (c .put-number .ensures .1) (omega (arith, c .put-number .ensures .0))
+
+put-number-requires-2 : tie.Need-put-number-requires-2
+put-number-requires-2 c κs =
+    let f = c .before .before in
+    let p = before-first f in
+    let a = start p .args in
+    let w = first-written f in
+    omega (arith, first-few p, second-few p, start p .pre, w .here, kept w, length-zeros lineWidth, length-append (a .word .now) (decimal (a .a) ++ space), length-append (decimal (a .a)) space)
 
 returns : tie.Need-returns
 returns c =
-    let y = c .before in
-    let x = y .before in
-    let a = x .before .before .before .args in
-    let word = a .word .now in
-    refused (a .line .now) 0 (countsLine word (a .a) (a .b))
-    (omega (arith, c .if1 .taken, counts-length word (a .a) (a .b), x .decimal-length .ensures .0, y .decimal-length2 .ensures .0))
-
-returns-2 : tie.Need-returns-2
-returns-2 c =
-    let p3 = c .before .before in
-    let p2 = p3 .before .before .before .before in
-    let p1 = p2 .before .before .before .before in
-    let test = p1 .before .before in
-    let y = test .before in
-    let x = y .before in
-    let a = x .before .before .before .args in
-    let word = a .word .now in
-    let line = a .line .now in
-    let first = decimal (a .a) ++ space in
-    let second = decimal (a .b) ++ lineEnd in
-    let m = length-append (decimal (a .a)) space in
-    let n = length-append (decimal (a .b)) lineEnd in
-    let room = test .if1 .left in
-    let ex = x .decimal-length .ensures .0 in
-    let ey = y .decimal-length2 .ensures .0 in
-    let q1 = p1 .put .ensures .0 in
-    let q2 = p2 .put-number .ensures .0 in
-    let q3 = p3 .put-number2 .ensures .0 in
-    let w1 : Written line 0 word (p1 .put .last .0) (p1 .put .result) = record { fit = omega arith; memory = p1 .put .ensures .1; here = q1 } in
-    let r2 : p2 .put-number .result ≡ p1 .put .result + length first = omega arith in
-    let r3 : p3 .put-number2 .result ≡ p2 .put-number .result + length second = omega arith in
-    let w2 = next w1 first (omega arith) (p2 .put-number .ensures .1) r2 in
-    let w3 = next w2 second (omega arith) (p3 .put-number2 .ensures .1) r3 in
-    subst (λ (t : List ℕ). (After (p3 .put-number2 .result) ≡ placeAfter line 0 t) × (p3 .put-number2 .last .0 ≡ appended line 0 t))
-    (regroup word (a .a) (a .b)) (answered w3)
+    let s = c .before in
+    let f = s .before .before .before in
+    let p = before-first f in
+    let a = start p .args in
+    let w = first-written f in
+    let more = decimal (a .b) ++ lineEnd in
+    let long = length-append (decimal (a .b)) lineEnd in
+    let after : s .put-number2 .result ≡ f .put-number .result + length more = omega (arith, s .put-number2 .ensures .0) in
+    let all = next w more
+    (omega (arith, first-few p, second-few p, start p .pre, w .here, length-zeros lineWidth, length-append (a .word .now) (decimal (a .a) ++ space), length-append (decimal (a .a)) space))
+    (s .put-number2 .ensures .1) after in
+    front _ _ _ all ∙ ap lineOf (regroup (a .word .now) (a .a) (a .b))
 
 pub counts-line-spec : {M : Type 1} → statement M
-counts-line-spec = tie.close (tie.spec (λ c κs. search needs) (λ c κs. search needs) (λ c. search needs) (λ c. search needs) (λ c. search needs) returns (λ c κs. search needs) (λ c κs. search needs) (λ c κs. search needs) (λ c. search needs) returns-2)
+counts-line-spec =
+    tie.close
+    (tie.spec
+    (λ c. search needs)
+    (λ c κs. search needs)
+    (λ c. search needs)
+    put-number-requires
+    (λ c. search needs)
+    put-number-requires-2
+    returns)

@@ -16,14 +16,14 @@ returns : tie.Need-returns
 returns c =
     let r = c .before in
     let k = r .before .before in
-    let a = k .before .before .before .args in
+    let a = k .before .before .before .before .args in
     let plan = a .plan .now in
     let e = refused-list (unpack plan) (numberOf (r .refusal .given .0 .0)) (sym (k .check .ensures) ∙ ap answerOf (r .refusal .given .1)) in
-    (sym (ap (λ (j : Judged (List Transaction)). listingOf j (a .out .now)) e), sym (ap (λ (j : Judged (List Transaction)). listingIn j (a .out .now)) e))
+    (sym (ap (λ (j : Judged (List Transaction)). listingOf (a .heading .now) j (a .out .now)) e), sym (ap (λ (j : Judged (List Transaction)). listingIn (a .heading .now) j (a .out .now)) e))
 
 -- where the function was entered
 abbrev start : tie.After-transactions → tie.Start
-start c = c .before .before .before .before .before
+start c = c .before .before .before .before .before .before
 
 -- the plan is well-formed, with that many transactions
 well : (c : tie.After-transactions) → counted (unpack (start c .args .plan .now)) ≡ accepted (c .transactions .given .0 .0)
@@ -43,18 +43,18 @@ returns-2 c =
     let e = c .before in
     let p = e .before .before .before .before in
     let t = p .before .before .before in
-    let out = start t .args .out .now in (
-      ap accepted (sym (e .end .given .1) ∙ p .put-plan .ensures .0) ∙ sym (ap (λ (j : Judged (List Transaction)). listingOf j out) (list t)),
-      p .put-plan .ensures .1 ∙ sym (ap (λ (j : Judged (List Transaction)). listingIn j out) (list t)),
+    let a = start t .args in (
+      ap accepted (sym (e .end .given .1) ∙ p .put-plan .ensures .0) ∙ sym (ap (λ (j : Judged (List Transaction)). listingOf (a .heading .now) j (a .out .now)) (list t)),
+      p .put-plan .ensures .1 ∙ sym (ap (λ (j : Judged (List Transaction)). listingIn (a .heading .now) j (a .out .now)) (list t)),
     )
 
 returns-3 : tie.Need-returns-3
 returns-3 c =
     let p = c .before .before .before .before in
     let t = p .before .before .before in
-    let out = start t .args .out .now in (
-      ap accepted (sym (c .enum-told .given .1) ∙ p .put-plan .ensures .0) ∙ sym (ap (λ (j : Judged (List Transaction)). listingOf j out) (list t)),
-      p .put-plan .ensures .1 ∙ sym (ap (λ (j : Judged (List Transaction)). listingIn j out) (list t)),
+    let a = start t .args in (
+      ap accepted (sym (c .enum-told .given .1) ∙ p .put-plan .ensures .0) ∙ sym (ap (λ (j : Judged (List Transaction)). listingOf (a .heading .now) j (a .out .now)) (list t)),
+      p .put-plan .ensures .1 ∙ sym (ap (λ (j : Judged (List Transaction)). listingIn (a .heading .now) j (a .out .now)) (list t)),
     )
 
 pub list-plan-spec : {M : Type 1} → statement M

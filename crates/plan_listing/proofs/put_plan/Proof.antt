@@ -1,95 +1,79 @@
--- `put_plan` meets its contract: the room is that of the whole text, and its first line and the others in a row are the text. Assumes nothing.
-use mathlib.Core.Path.{_≡_, sym, ap, ap₂, _∙_}
-use mathlib.Core.List.{List}
-use Prim.Native.Nat.{_+_, _≤_}
+-- `put_plan` meets its contract: the room is that of the heading and the lines, which are written in a row. Assumes nothing.
+use mathlib.Core.Path.{_≡_}
+use mathlib.Core.List.{List, _++_}
+use Prim.Native.Nat.{ℕ, _+_, _*_, _≤_}
 use native.Mathlib.Omega.{arith}
-use lib.ListN.{length}
+use lib.ListN.{length, length-append}
 use borrow.Author.Needs.{needs}
-use Rattle.bus.specs.Transactions.{Transaction, busBytes}
-use Rattle.bus.specs.Cost.{dataCount, costOf}
-use Rattle.bus.proofs.CostLaws.{bytes-count}
 use Rattle.unpacking.specs.Ahead.{listed}
 use Rattle.unpacking.specs.Unpacking.{unpack}
-use Rattle.text.specs.Line.{appended}
 use Rattle.text.proofs.Appending.{Written, answered, kept, next, refused}
-use Rattle.listing.specs.Lines.{planLine}
-use Rattle.plan_listing.specs.PlanText.{transactionLines, planText}
-use Rattle.plan_listing.proofs.TextLaws.{lines-length, text-length}
+use Rattle.plan_listing.specs.PlanText.{transactionLines}
+use Rattle.plan_listing.proofs.TextLaws.{lines-length}
 use Rattle.plan_listing.proofs.put_plan.Statement.{statement}
 use Rattle.plan_listing.proofs.put_plan.Tie as tie
 
--- where the function was entered, and the plan's transactions
-abbrev start : tie.After-plan-line-length → tie.Start
-start c = c .before .before .before .before .before
+-- where the function was entered, and the lines
+abbrev start : tie.After-data-bytes → tie.Start
+start c = c .before .before .before .before
 
-abbrev ts-of : tie.After-plan-line-length → List Transaction
-ts-of c = listed (unpack (start c .args .plan .now))
+abbrev lines-of : tie.After-data-bytes → List ℕ
+lines-of c = transactionLines (listed (unpack (start c .args .plan .now)))
 
--- their data and bus bytes
-data-of : (c : tie.After-plan-line-length) → c .before .before .data-bytes .result ≡ dataCount (ts-of c)
-data-of c = c .before .before .data-bytes .ensures .0
+-- three bytes for each transaction and each datum
+lines-long : (c : tie.After-data-bytes) → length (lines-of c) ≡ 3 * (start c .args .transactions + c .data-bytes .result)
+lines-long c = omega (arith, lines-length (listed (unpack (start c .args .plan .now))), c .data-bytes .ensures .0, start c .pre .1)
 
-first-line : (c : tie.After-plan-line-length)
-    → planLine (start c .args .transactions) (c .before .bus-bytes .result) ≡ planLine (length (ts-of c)) (busBytes (ts-of c))
-first-line c =
-    let count = sym (start c .pre .1) in
-    ap₂ planLine count (c .before .bus-bytes .ensures ∙ ap₂ costOf count (data-of c) ∙ sym (bytes-count (ts-of c)))
-
--- the first line's length
-first-length : (c : tie.After-plan-line-length) → c .plan-line-length .result ≡ length (planLine (length (ts-of c)) (busBytes (ts-of c)))
-first-length c = c .plan-line-length .ensures .0 ∙ ap length (first-line c)
+-- heading and lines
+both : (c : tie.After-data-bytes) → length (start c .args .heading .now ++ lines-of c) ≡ length (start c .args .heading .now) + length (lines-of c)
+both c = length-append (start c .args .heading .now) (lines-of c)
 
 returns : tie.Need-returns
 returns c =
-    let f = c .before in
-    refused (start f .args .out .now) 0 (planText (ts-of f))
-    (omega (arith, c .if1 .taken, text-length (ts-of f), first-length f, data-of f, start f .pre .1))
+    let d = c .before in
+    let a = start d .args in
+    refused (a .out .now) 0 (a .heading .now ++ lines-of d) (omega (arith, c .if1 .taken, both d))
 
--- the first line is written
-written : (c : tie.After-plan-line)
-    → Written (start (c .before .before .before) .args .out .now) 0 (planLine (length (ts-of (c .before .before .before))) (busBytes (ts-of (c .before .before .before))))
-    (c .plan-line .last .0) (c .before .before .before .plan-line-length .result)
-written c =
-    let f = c .before .before .before in
-    record {
-      fit = omega (arith, c .before .before .if1 .left, first-length f);
-      memory = c .plan-line .ensures .1 ∙ ap (appended (start f .args .out .now) 0) (first-line f);
-      here = omega (arith, first-length f);
-    }
+returns-2 : tie.Need-returns-2
+returns-2 c =
+    let d = c .before .before in
+    let a = start d .args in
+    refused (a .out .now) 0 (a .heading .now ++ lines-of d) (omega (arith, c .if2 .taken, c .before .if1 .left, both d, lines-long d))
 
--- and there is room for the others
-room : (c : tie.After-plan-line)
-    → c .before .before .before .plan-line-length .result + length (transactionLines (ts-of (c .before .before .before))) ≤ length (start (c .before .before .before) .args .out .now)
-room c =
-    let f = c .before .before .before in
-    omega (arith, c .before .before .if1 .left, lines-length (ts-of f), data-of f, start f .pre .1)
+-- there is room for both
+abbrev counted : tie.After-put → tie.After-data-bytes
+counted c = c .before .before .before .before
+
+room : (c : tie.After-put) → length (start (counted c) .args .heading .now) + length (lines-of (counted c)) ≤ length (start (counted c) .args .out .now)
+room c = omega (arith, c .before .before .if2 .left, c .before .before .before .if1 .left, lines-long (counted c))
+
+-- the heading is written
+written : (c : tie.After-put) → Written (start (counted c) .args .out .now) 0 (start (counted c) .args .heading .now) (c .put .last .0) (c .put .result)
+written c = record { fit = omega (arith, c .before .before .before .if1 .left); memory = c .put .ensures .1; here = c .put .ensures .0 }
 
 put-lines-requires : tie.Need-put-lines-requires
 put-lines-requires c κs =
-    let l = c .before .before .before in
-    (start (l .before .before .before) .pre .0, omega (arith, room l, kept (written l)))
+    let p = c .before .before .before in
+    let w = written p in
+    (start (counted p) .pre .0, omega (arith, room p, kept w, w .here))
 
-returns-2 : tie.Need-returns-2
-unfolding planText
-returns-2 c =
-    let p = c .before .before in
-    let l = p .before .before .before .before in
-    let f = l .before .before .before in
-    answered (next (written l) (transactionLines (ts-of f)) (room l) (p .put-lines .ensures .1) (p .put-lines .ensures .0))
+returns-3 : tie.Need-returns-3
+returns-3 c =
+    let l = c .before .before in
+    let p = l .before .before .before .before in
+    let w = written p in
+    answered (next w (lines-of (counted p)) (omega (arith, room p, w .here)) (l .put-lines .ensures .1) (l .put-lines .ensures .0))
 
 pub put-plan-spec : {M : Type 1} → statement M
 put-plan-spec =
     tie.close
     (tie.spec
     (λ c κs. search needs)
-    (λ c κs. search needs)
-    (λ c κs. search needs)
-    (λ c. search needs)
-    (λ c. search needs)
-    (λ c. search needs)
-    (λ c. search needs)
     returns
+    (λ c. search needs)
+    (λ c. search needs)
+    returns-2
     (λ c κs. search needs)
     put-lines-requires
     (λ c. search needs)
-    returns-2)
+    returns-3)

@@ -1,69 +1,38 @@
--- `put` meets its contract. The loop's invariant: the line is the one at entry with the first i bytes of the text at the place.
-use mathlib.Core.Path.{_≡_, refl, sym, ap, _∙_}
-use mathlib.Core.List.{List, _++_}
-use Prim.Native.Nat.{ℕ, _+_, _-_, _<_, _≤_}
-use native.Mathlib.Nat.{le-antisymm}
-use native.Mathlib.Numerals.{add-one}
+-- `put` meets its contract: the text is copied into the part of the line from the place on. Assumes nothing.
+use mathlib.Core.Path.{_≡_, sym, ap, _∙_}
+use mathlib.Core.List.{List, [], _++_, append-assoc, append-nil}
+use Prim.Native.Nat.{ℕ, _+_, _-_, _≤_}
 use native.Mathlib.Omega.{arith}
-use lib.ListN.{length, take, drop, set, getD, length-set}
-use lib.Seq.{paste, paste-zero, paste-suc, take-length}
+use lib.ListN.{length, take, drop, length-drop, drop-of-length-le}
+use lib.Seq.{take-all, take-length, drop-drop}
+use borrow.Rule.Slice.PartMut.{midOf, postOf, putMid}
 use borrow.Author.Needs.{needs}
 use Rattle.text.specs.Line.{appended}
 use Rattle.text.proofs.Appending.{fitting}
 use Rattle.text.proofs.put.Statement.{statement}
 use Rattle.text.proofs.put.Tie as tie
 
-record Inv (line₀ text line : List ℕ) (at i : ℕ) : Type 0 where
-  within : i ≤ length text
-  long : length line ≡ length line₀
-  copied : line ≡ paste line₀ at text i
+-- a text copied to the front of the part of a line from a place on is appended there
+copied : (line : List ℕ) (at : ℕ) (text last : List ℕ) → at + length text ≤ length line
+    → last ≡ take (length text) text ++ drop (length text) (midOf at (length line - at) line) → putMid at (length line - at) line last ≡ appended line at text
+copied line at text last h e =
+    let k = length line - at in
+    let none : postOf at k line ≡ [] = drop-of-length-le (drop at line) {i = k} (simp length-drop (omega arith)) in
+    let whole : midOf at k line ≡ drop at line = take-all k (drop at line) (simp length-drop (omega arith)) in
+    let part : last ≡ text ++ drop (at + length text) line =
+    e ∙ ap (λ (t : List ℕ). t ++ drop (length text) (midOf at k line)) (take-length text)
+    ∙ ap (λ (r : List ℕ). text ++ drop (length text) r) whole ∙ ap (λ (r : List ℕ). text ++ r) (drop-drop (length text) at line) in
+    ap (λ (r : List ℕ). take at line ++ (last ++ r)) none ∙ ap (λ (r : List ℕ). take at line ++ r) (append-nil last ∙ part)
+    ∙ sym (append-assoc (take at line) text (drop (at + length text) line)) ∙ sym (fitting line at text h)
 
-abbrev Inv-loop : tie.InvT-loop
-Inv-loop line₀ at text i₀ line i = Inv line₀ text line at i
-
-abbrev μ-loop : tie.MeasureT-loop
-μ-loop line₀ at text i₀ line i = length text - i
-
-loop-again : tie.Need-loop-again Inv-loop μ-loop
-loop-again c =
-    let l = c .before .before .loop in
-    let a = c .before .before .before .args in
-    record {
-      within = omega arith;
-      long = length-set (l .line) (a .at + l .i) _ ∙ l .inv .long;
-      copied =
-          ap (λ (d : List ℕ). set d (a .at + l .i) (getD (a .text .now) (l .i) 0)) (l .inv .copied)
-          ∙ paste-suc (a .line .now) (a .at) (a .text .now) (l .i) 0 (omega arith) (omega arith)
-          ∙ ap (paste (a .line .now) (a .at) (a .text .now)) (sym (add-one (l .i)));
-    }
-
-returns : tie.Need-returns Inv-loop μ-loop
+returns : tie.Need-returns
 returns c =
-    let l = c .before .loop in
-    let a = c .before .before .args in
-    let line = a .line .now in
-    let text = a .text .now in
-    let all : l .i ≡ length text = le-antisymm (l .inv .within) (c .loop-test .left) in (
-      ap (λ (k : ℕ). a .at + k) all,
-      l .inv .copied
-          ∙ ap (paste line (a .at) text) all
-          ∙ ap (λ (t : List ℕ). take (a .at) line ++ t ++ drop (a .at + length text) line) (take-length text)
-          ∙ sym (fitting line (a .at) text (c .before .before .pre)),
-    )
+    let p = c .before .before in
+    let start = p .before .before .before .before in
+    let a = start .args in
+    (ap (λ (n : ℕ). a .at + n) (p .copy .ensures .0), copied (a .line .now) (a .at) (a .text .now) (p .copy .last .1 .0) (start .pre) (p .copy .ensures .1))
 
 pub put-spec : {M : Type 1} → statement M
 put-spec =
     tie.close
-    (tie.spec
-    Inv-loop
-    μ-loop
-    (λ c. record { within = search needs; long = refl; copied = paste-zero (c .args .line .now) (c .args .at) (c .args .text .now) })
-    (λ c. omega arith)
-    (λ c. omega arith)
-    (λ c. omega arith)
-    (λ c. omega arith)
-    (λ c. omega arith)
-    loop-again
-    (λ c. omega arith)
-    (λ c. c .before .loop .inv .long)
-    returns)
+    (tie.spec (λ c. search needs) (λ c. search needs) (λ c. search needs) (λ c κs. search needs) (λ c. search needs) (λ c. search needs) returns)
