@@ -79,7 +79,9 @@ module _ (t : Transaction) where
       let quiet = apart-of s (end t) 0x11 0x14 (first caption word h₂) in
       record {
         inside = λ r m. (omega (arith, m .1), λ e. ⊎-elim (λ a. omega (arith, m .1)) (λ a. omega (arith, m .0)) keeps);
-        whole = λ r m w q v. ⊎-elim (λ b. absurd (⊎-elim (λ a. omega (arith, m .1, w .0)) (λ a. omega (arith, m .0, w .1)) b)) (λ b. (omega (arith, b .0, v .0), omega (arith, b .1, v .1))) (word-of (second caption word h₂));
+        whole = λ r m w q v. ⊎-elim
+            (λ b. absurd (⊎-elim (λ a. omega (arith, m .1, w .0)) (λ a. omega (arith, m .0, w .1)) b))
+            (λ b. (omega (arith, b .0, v .0), omega (arith, b .1, v .1))) (word-of (second caption word h₂));
         captions = λ r m c. ⊎-elim (λ a. omega (arith, m .1, c .0)) (λ a. omega (arith, m .0, c .1)) quiet;
       }
 
@@ -87,8 +89,11 @@ module _ (t : Transaction) where
   of-rules : s < end t → Rules t → T (ruled s (end t))
   of-rules some k =
       both all (read-only && (caption && word)) (le→leb (end t) registerCount (omega (arith, k .inside (end t - 1) (omega arith, omega arith) .0)))
-      (both read-only (caption && word) (⊎-elim (λ p. p) (λ m. absurd (k .inside (m .at) (m .from, m .before) .1 (omega (arith, m .low, m .high)))) (apart? s (end t) 0x34 0x34 some (omega arith)))
-      (both caption word (⊎-elim (λ p. p) (λ m. absurd (k .captions (m .at) (m .from, m .before) (m .low, m .high))) (apart? s (end t) 0x11 0x14 some (omega arith)))
+      (both read-only (caption && word)
+      (⊎-elim (λ p. p) (λ m. absurd (k .inside (m .at) (m .from, m .before) .1 (omega (arith, m .low, m .high))))
+      (apart? s (end t) 0x34 0x34 some (omega arith)))
+      (both caption word
+      (⊎-elim (λ p. p) (λ m. absurd (k .captions (m .at) (m .from, m .before) (m .low, m .high))) (apart? s (end t) 0x11 0x14 some (omega arith)))
       (⊎-elim (λ p. left (apart s (end t) 0x0c 0x0f) (leb s 0x0c && ltb 0x0f (end t)) p)
       (λ m. right (apart s (end t) 0x0c 0x0f) (leb s 0x0c && ltb 0x0f (end t))
       (both (leb s 0x0c) (ltb 0x0f (end t))

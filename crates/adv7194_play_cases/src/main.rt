@@ -1,4 +1,4 @@
-// Runs plans and bus events against the chip, and writes a line a case. What it writes is held to the stored output.
+// Runs plans and bus events against the chip, and writes one line for each case. What it writes is compared with the stored output.
 mod events;
 mod plans;
 mod print;

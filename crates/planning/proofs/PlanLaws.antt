@@ -86,4 +86,5 @@ pub has-room : (us ts : List Transaction) (plan after : List ℕ) (l t b : ℕ) 
     → Answers ts plan (accepted (record { length = l; transactions = t; busBytes = b })) after
 has-room us ts plan after l t b same h el et eb e =
     let yes = le-leb (length (packed us)) (length plan) h in
-    subst (λ (x : List Transaction). Answers x plan (accepted (record { length = l; transactions = t; busBytes = b })) after) same (rw (yes, el, et, eb), rw yes e)
+    let answer : Judged Counts = accepted (record { length = l; transactions = t; busBytes = b }) in
+    subst (λ (x : List Transaction). Answers x plan answer after) same (rw (yes, el, et, eb), rw yes e)

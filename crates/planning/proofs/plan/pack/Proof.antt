@@ -88,7 +88,8 @@ returns-2 c =
     let r = c .before .before .before in
     let e = r .before .before in
     let p = e .before in
-    has-room (runs p) (plan-of p) (start p .args .plan .now) (r .pack-runs .last .0) (p .packed-length .result) (p .before .before .count .result) (c .bus-bytes .result)
+    has-room (runs p) (plan-of p) (start p .args .plan .now) (r .pack-runs .last .0)
+    (p .packed-length .result) (p .before .before .count .result) (c .bus-bytes .result)
     (known p .plan) (omega (arith, e .if1 .left, long p)) (long p) (sym (counted p)) (c .bus-bytes .ensures ∙ cost p) (r .pack-runs .ensures)
 
 pub pack-spec : {M : Type 1} → statement M

@@ -83,7 +83,8 @@ pack-transaction-requires c κs =
       l .inv .progress .sofar .sound,
       omega (arith, t .inside, s .pre .plannable .small, t .some),
       omega (arith, span-size w first (first + r .run .result) (omega arith) (t .inside), t .short),
-      progress-room (plan-of s) (s .args .plan .now) (few s) (s .pre .fits) (l .inv .progress) (span w first (first + r .run .result)) (runsFrom (s .args .map) w (first + r .run .result)) (t .next),
+      progress-room (plan-of s) (s .args .plan .now) (few s) (s .pre .fits) (l .inv .progress)
+          (span w first (first + r .run .result)) (runsFrom (s .args .map) w (first + r .run .result)) (t .next),
     )
 
 loop-again : tie.Need-loop-again Inv-loop μ-loop
@@ -99,7 +100,8 @@ loop-again c =
     record {
       within = t .inside;
       is = t .after;
-      progress = progress-more (plan-of s) (s .args .plan .now) (few s) (s .pre .fits) (l .inv .progress) (span w first (first + r .run .result)) (runsFrom (s .args .map) w (first + r .run .result)) (t .next)
+      progress = progress-more (plan-of s) (s .args .plan .now) (few s) (s .pre .fits) (l .inv .progress)
+          (span w first (first + r .run .result)) (runsFrom (s .args .map) w (first + r .run .result)) (t .next)
           (p .pack-transaction .last .0) (p .pack-transaction .result) (p .pack-transaction .kept .0) (p .pack-transaction .ensures);
     }
 
@@ -125,7 +127,8 @@ returns c =
     let f = c .before .before in
     let e = f .before .before in
     let s = start (e .before) in
-    progress-done (plan-of s) (s .args .plan .now) (few s) (s .pre .fits) (e .before .loop .inv .progress) (none-left e) (f .finish .last .0) (f .finish .result) (f .finish .ensures .0) (f .finish .ensures .1)
+    progress-done (plan-of s) (s .args .plan .now) (few s) (s .pre .fits) (e .before .loop .inv .progress) (none-left e)
+    (f .finish .last .0) (f .finish .result) (f .finish .ensures .0) (f .finish .ensures .1)
 
 pub pack-runs-spec : {M : Type 1} → statement M
 pack-runs-spec =
@@ -133,7 +136,7 @@ pack-runs-spec =
     (tie.spec
     Inv-loop
     μ-loop
-    (λ c κs. omega (arith, c .before .before .pre .few))
+    (λ c κs. tt)
     loop-holds
     (λ c κs. tt)
     (λ c. omega (arith, near c))
