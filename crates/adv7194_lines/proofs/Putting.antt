@@ -27,9 +27,9 @@ module _ {line : List ℕ} {at : ℕ} {text after : List ℕ} {place : ℕ} wher
   pub wider : {n : ℕ} (k : ℕ) → n ≤ k → Put n line at text after place → Put k line at text after place
   wider k h p = record { answer = p .answer; memory = p .memory; most = omega arith }
 
-  -- the same text, told otherwise
-  pub told : {n : ℕ} {same : List ℕ} → text ≡ same → Put n line at text after place → Put n line at same after place
-  told {n} e p = subst (λ (t : List ℕ). Put n line at t after place) e p
+  -- the same text, by another term
+  pub same-text : {n : ℕ} {same : List ℕ} → text ≡ same → Put n line at text after place → Put n line at same after place
+  same-text {n} e p = subst (λ (t : List ℕ). Put n line at t after place) e p
 
   -- the line keeps its length
   pub kept : {n : ℕ} → Put n line at text after place → length after ≡ length line
@@ -75,4 +75,4 @@ same z h = toZ-ofZ w32 z (record { sfits = h })
 -- a number that was passed is the setting
 pub passed : {n : ℕ} {line : List ℕ} {at : ℕ} {after : List ℕ} {place : ℕ} (text : ℤ → List ℕ) (z : ℤ) → mag z < 2 ^ 31
     → Put n line at (text (back w32 z)) after place → Put n line at (text z) after place
-passed text z h p = told (ap text (same z h)) p
+passed text z h p = same-text (ap text (same z h)) p

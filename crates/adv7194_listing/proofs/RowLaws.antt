@@ -13,7 +13,7 @@ use Rattle.adv7194_listing.specs.Listing.{Row, headOf, lineIn}
 pub at-number : (rs : List Row) {f k : ℕ} {text : List ℕ} → f ≡ k → text ≡ lineIn rs k → text ≡ lineIn rs f
 at-number rs e t = rw e t
 
--- what a match is told where no arm took the field
+-- what a match is same-text where no arm took the field
 abbrev pub Rest : Type 0 → List Row → ℕ → Type 0
 Rest N [] f = N
 Rest N (r ∷ rs) f = Rest (N × (f ≡ r .number → ⊥)) rs f

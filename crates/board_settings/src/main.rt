@@ -1,4 +1,4 @@
-// Reads an image from standard input, and prints a line a field of the settings that it holds, or `REFUSED number field`.
+// Reads an image from standard input, and prints the settings that it holds, one line for each field, or `REFUSED number field`.
 use adv7194_listing::settings_line;
 use adv7194_reading::Read;
 use adv7194_reading::reading::read;
@@ -27,7 +27,7 @@ fn print_field(settings: Settings, field: u8) {
     io::write_all(STDOUT_FILENO, &line[0..end]);
 }
 
-// Prints a line a field.
+// Prints one line for each field.
 fn print_settings(settings: Settings) {
     for field in FIRST_FIELD..=LAST_FIELD {
         print_field(settings, field);

@@ -1,4 +1,4 @@
-// The first line of a listing: written, and told apart by its word.
+// The first line of a listing: written, and recognised by its word.
 use text::decimal_digits;
 use text::put;
 ghost use mathlib.Core.Path.{_≡_};

@@ -5,7 +5,7 @@ use Prim.Native.Nat.{ℕ}
 use native.Mathlib.Nat.{sub-zero}
 use lib.ListN.{length, take}
 use borrow.Author.Needs.{needs}
-use Rattle.listing.proofs.Beginning.{begins-short, told}
+use Rattle.listing.proofs.Beginning.{begins-short, begins-flag}
 use Rattle.listing.proofs.begins_with.Statement.{statement}
 use Rattle.listing.proofs.begins_with.Tie as tie
 
@@ -17,7 +17,7 @@ returns-2 c =
     let a = c .before .before .before .before .before .args in
     let word = a .word .now in
     let front = ap (λ (n : ℕ). take n (a .line .now)) (sub-zero (length word)) in
-    told word (a .line .now) (c .same .result) (λ e. sym front ∙ c .same .ensures .0 e) (λ e. c .same .ensures .1 (front ∙ e))
+    begins-flag word (a .line .now) (c .same .result) (λ e. sym front ∙ c .same .ensures .0 e) (λ e. c .same .ensures .1 (front ∙ e))
 
 pub begins-with-spec : {M : Type 1} → statement M
 begins-with-spec =

@@ -5,7 +5,7 @@ use mathlib.Core.Path.{refl, _∙_}
 use native.Mathlib.Omega.{arith}
 use Rattle.adv7194_lines.specs.Put.{lineWidth}
 use Rattle.text.specs.Text.{signed}
-use Rattle.adv7194_lines.proofs.Putting.{put, wider, told, kept, more, passed}
+use Rattle.adv7194_lines.proofs.Putting.{put, wider, same-text, kept, more, passed}
 use Rattle.adv7194_lines.proofs.lines.amount_line.Statement.{statement}
 use Rattle.adv7194_lines.proofs.lines.amount_line.Tie as tie
 
@@ -17,7 +17,7 @@ returns c =
     let start = p .before .before .before .before .before in
     let a = start .args in
     let w = more (passed (λ (z : ℤ). a .name .now ++ signed z) (a .n) (start .fits .n .sfits) (p .put-number .ensures)) (put (v .put .ensures .0) (v .put .ensures .1)) (omega (arith, start .pre)) in
-    let t = told (append-assoc (a .name .now) (signed (a .n)) (a .unit .now)) w in
+    let t = same-text (append-assoc (a .name .now) (signed (a .n)) (a .unit .now)) w in
     wider lineWidth (omega (arith, start .pre)) (more t (put (e .put2 .ensures .0) (e .put2 .ensures .1)) (omega (arith, start .pre)))
 
 pub amount-line-spec : {M : Type 1} → statement M

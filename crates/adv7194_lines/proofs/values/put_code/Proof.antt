@@ -12,7 +12,7 @@ use Rattle.text.specs.Text.{signed, hexByte}
 use Rattle.adv7194_lines.specs.Put.{numberWidth}
 use Rattle.adv7194_lines.specs.Values.{code}
 use Rattle.adv7194_lines.proofs.Choosing.{code-negative, code-large, code-byte}
-use Rattle.adv7194_lines.proofs.Putting.{told, wider, passed}
+use Rattle.adv7194_lines.proofs.Putting.{same-text, wider, passed}
 use borrow.Author.Needs.{needs}
 use Rattle.adv7194_lines.proofs.values.put_code.Statement.{statement}
 use Rattle.adv7194_lines.proofs.values.put_code.Tie as tie
@@ -26,14 +26,14 @@ returns c =
     let p = c .before .before in
     let start = p .before .before .before .before in
     let z = start .args .n in
-    told (code-negative z (rw (same start) at (p .before .before .if1 .taken))) (passed signed z (start .fits .n .sfits) (p .put-signed .ensures))
+    same-text (code-negative z (rw (same start) at (p .before .before .if1 .taken))) (passed signed z (start .fits .n .sfits) (p .put-signed .ensures))
 
 returns-2 : tie.Need-returns-2
 returns-2 c =
     let p = c .before .before in
     let start = p .before .before .before .before .before in
     let z = start .args .n in
-    told (code-large z (rw (same start) at (p .before .before .if2 .taken))) (passed signed z (start .fits .n .sfits) (p .put-signed2 .ensures))
+    same-text (code-large z (rw (same start) at (p .before .before .if2 .taken))) (passed signed z (start .fits .n .sfits) (p .put-signed2 .ensures))
 
 -- the tests say that it is a byte
 byte : (c : tie.Else2) → (let z = c .before .before .before .args .n in (T (nonNeg z) × Fits w8 (natAbs z)) × (hexByte (natAbs z) ≡ code z))
@@ -48,7 +48,7 @@ returns-3 : tie.Need-returns-3
 returns-3 c =
     let p = c .before .before in
     let e = byte (p .before .before) .1 in
-    told (ap (λ (z : ℤ). hexByte (natAbs z)) (same (p .before .before .before .before .before)) ∙ e) (wider numberWidth (omega arith) (p .put-hex .ensures))
+    same-text (ap (λ (z : ℤ). hexByte (natAbs z)) (same (p .before .before .before .before .before)) ∙ e) (wider numberWidth (omega arith) (p .put-hex .ensures))
 
 pub put-code-spec : {M : Type 1} → statement M
 put-code-spec = tie.close (tie.spec (λ c κs. search needs) (λ c. search needs) returns (λ c κs. search needs) (λ c. search needs) returns-2 cast-put-hex (λ c κs. search needs) (λ c. search needs) returns-3)

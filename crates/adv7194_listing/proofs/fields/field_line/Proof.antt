@@ -5,7 +5,7 @@ use lib.Dec.{lit≤}
 use lib.Arith.{lt-of-le-ne}
 use Rattle.text.specs.Text.{leading, decimal}
 use Rattle.adv7194_listing.specs.Listing.{headOf, lineIn, rows, timingRows, outputRows, signallingRows}
-use Rattle.adv7194_lines.proofs.Putting.{told, kept}
+use Rattle.adv7194_lines.proofs.Putting.{same-text, kept}
 use Rattle.adv7194_listing.proofs.RowLaws.{at-number}
 use Rattle.adv7194_listing.proofs.Split.{timing-at, output-at, back-at}
 use Rattle.adv7194_listing.proofs.fields.field_line.Statement.{statement}
@@ -16,14 +16,14 @@ returns c =
     let p = c .before .before in
     let t = p .before .before in
     let a = t .before .before .args in
-    told (timing-at (a .settings) (a .field) (t .if1 .taken)) (p .timing-line .ensures)
+    same-text (timing-at (a .settings) (a .field) (t .if1 .taken)) (p .timing-line .ensures)
 
 returns-2 : tie.Need-returns-2
 returns-2 c =
     let p = c .before .before in
     let t = p .before .before in
     let a = t .before .before .before .args in
-    told (output-at (a .settings) (a .field) (t .before .if1 .left) (t .if2 .taken)) (p .output-line .ensures)
+    same-text (output-at (a .settings) (a .field) (t .before .if1 .left) (t .if2 .taken)) (p .output-line .ensures)
 
 returns-3 : tie.Need-returns-3
 unfolding lineIn rows timingRows outputRows signallingRows headOf decimal leading
@@ -31,7 +31,7 @@ returns-3 c =
     let p = c .before .before in
     let t = p .before .before .before in
     let a = t .before .before .before .before .args in
-    told (at-number (rows (a .settings)) (t .if3 .taken) refl) (p .signalling-line .ensures)
+    same-text (at-number (rows (a .settings)) (t .if3 .taken) refl) (p .signalling-line .ensures)
 
 returns-4 : tie.Need-returns-4
 returns-4 c =
@@ -41,7 +41,7 @@ returns-4 c =
     let k = t .before .if2 .left in
     let other = t .if3 .left in
     let l : 11 < a .field = lt-of-le-ne k (λ e. other (sym e)) in
-    told (back-at (a .settings) (a .field) (t .before .before .if1 .left) k l) (p .back-line .ensures)
+    same-text (back-at (a .settings) (a .field) (t .before .before .if1 .left) k l) (p .back-line .ensures)
 
 pub field-line-spec : {M : Type 1} → statement M
 field-line-spec = tie.close (tie.spec (λ c κs. c .before .before .before .pre) (λ c. kept (c .before .before .timing-line .ensures)) returns (λ c κs. c .before .before .before .before .pre) (λ c. kept (c .before .before .output-line .ensures)) returns-2 (λ c. refl) (λ c κs. (c .before .before .before .before .before .before .pre, lit≤ tt)) (λ c. kept (c .before .before .signalling-line .ensures)) returns-3 (λ c κs. c .before .before .before .before .before .pre) (λ c. kept (c .before .before .back-line .ensures)) returns-4)
