@@ -4,11 +4,13 @@ use mathlib.Core.Bool.{Bool, true, false}
 use Prim.Native.Nat.{ℕ}
 use Rattle.refusals.specs.Refusal.{Judged, accepted, refused}
 use Rattle.refusals.specs.Verdict.{Verdict, good, refusedAt}
+use Rattle.unpacking.specs.Indexed.{Numbers}
 use Rattle.planning.specs.Plan.{Counts}
 use Rattle.adv7194_settings.specs.declared.settings.Settings.{Settings}
 use Rattle.adv7194_c.specs.declared.plan_numbers.PlanAnswer.{PlanAnswer}
 use Rattle.adv7194_c.specs.declared.play_numbers.PlayAnswer.{PlayAnswer}
 use Rattle.adv7194_c.specs.declared.read_numbers.ReadAnswer.{ReadAnswer}
+use Rattle.adv7194_c.specs.declared.transaction_numbers.TransactionAnswer.{TransactionAnswer}
 
 -- what planning answers
 abbrev pub planAnswer : Verdict Counts → PlanAnswer
@@ -34,3 +36,8 @@ readDone = record { refusal = 0; field = 0 }
 abbrev pub readAnswer : Verdict Settings → ReadAnswer
 readAnswer (good s) = readDone
 readAnswer (refusedAt n f) = record { refusal = n; field = f }
+
+-- what asking for a transaction answers; its refusals belong to no field
+abbrev pub transactionAnswer : Judged Numbers → TransactionAnswer
+transactionAnswer (accepted h) = record { refusal = 0; field = 0; subaddress = h .subaddress; count = h .count }
+transactionAnswer (refused n) = record { refusal = n; field = 0; subaddress = 0; count = 0 }

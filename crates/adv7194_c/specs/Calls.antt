@@ -7,6 +7,10 @@ use lib.Dec.{eqb}
 use lib.IntN.{ℤ}
 use lib.ListN.{length}
 use Rattle.refusals.specs.Verdict.{Verdict, good, refusedAt}
+use Rattle.refusals.specs.Refusal.{Judged}
+use Rattle.bus.specs.Transactions.{Transaction}
+use Rattle.unpacking.specs.Unpacking.{unpack}
+use Rattle.unpacking.specs.Indexed.{transactionOf}
 use Rattle.planning.specs.Plan.{Counts}
 use Rattle.adv7194_bus.specs.Kind.{registerCount}
 use Rattle.adv7194_bus.specs.Address.{addressRight}
@@ -45,3 +49,7 @@ numbersAfter numbers (refusedAt n f) = numbers
 -- the lent numbers that reading leaves
 abbrev pub readCallLeft : List ℕ → List ℤ → List ℤ
 readCallLeft image numbers = numbersAfter numbers (readCall image numbers)
+
+-- a transaction of a packed plan by its index, where there is room for its data
+abbrev pub transactionCall : List ℕ → ℕ → ℕ → Judged Transaction
+transactionCall plan index room = transactionOf (unpack plan) index room

@@ -1,14 +1,15 @@
-// What C and Rust link: planning, playing and reading with settings and answers as numbers. A slice is a pointer and a length.
+// What C and Rust link: planning, playing and reading with settings and answers as numbers, and a plan's transactions. A slice is a pointer and a length.
 ghost use mathlib.Core.Path.{_≡_};
 ghost use Prim.Native.Nat.{_<_};
 ghost use lib.ListN.{length, take};
 ghost use Rattle.refusals.specs.Refusal.{numberOf};
+ghost use Rattle.unpacking.specs.Indexed.{headerOf, dataAfter};
 ghost use Rattle.adv7194_numbers.specs.Numbers.{settingsFrom};
 ghost use Rattle.adv7194_least.specs.Demands.{Played, Counted, Least, Only, mostBytes};
 ghost use Rattle.adv7194_planning.specs.Rows.{wantedBy, listOf};
 ghost use Rattle.adv7194_playing.specs.Playing.{playOf, playedImage};
-ghost use Rattle.adv7194_c.specs.Answers.{planAnswer, playAnswer, readAnswer};
-ghost use Rattle.adv7194_c.specs.Calls.{planMiscounted, readMiscounted, planCall, planCallLeft, readCall, readCallLeft};
+ghost use Rattle.adv7194_c.specs.Answers.{planAnswer, playAnswer, readAnswer, transactionAnswer};
+ghost use Rattle.adv7194_c.specs.Calls.{planMiscounted, readMiscounted, planCall, planCallLeft, readCall, readCallLeft, transactionCall};
 use crate::plan_numbers::PlanAnswer;
 use crate::plan_numbers::plan_answer;
 use crate::plan_numbers::plan_refused;
@@ -17,6 +18,8 @@ use crate::play_numbers::play_answer;
 use crate::read_numbers::ReadAnswer;
 use crate::read_numbers::read_done;
 use crate::read_numbers::read_refused;
+use crate::transaction_numbers::TransactionAnswer;
+use crate::transaction_numbers::transaction_answer;
 use adv7194_bus::REGISTERS;
 use adv7194_bus::address_right;
 use adv7194_numbers::put_numbers;
@@ -25,10 +28,12 @@ use adv7194_playing::play;
 use adv7194_reading::Read;
 use adv7194_reading::reading::read;
 use refusals::Refusal;
+use unpacking::indexed::transaction;
 
 mod plan_numbers;
 mod play_numbers;
 mod read_numbers;
+mod transaction_numbers;
 
 // How many numbers a set of settings is.
 const NUMBERS: usize = 49;
@@ -106,4 +111,13 @@ pub extern "C" fn adv7194_read(image: &[u8], settings: &mut [i32]) -> ReadAnswer
             read_done()
         }
     }
+}
+
+// The transaction with an index, counted from 0, of a packed plan: its subaddress and data count, with its data at the front of the memory lent.
+#[no_mangle]
+pub extern "C" fn adv7194_transaction(plan: &[u8], index: u32, data: &mut [u8]) -> TransactionAnswer
+    ensures answer { λ r. ⌜ r ≡ transactionAnswer (headerOf (transactionCall (now (plan .entry)) index (length (now («data» .entry))))) ⌝ }
+    ensures memory { λ r. ⌜ now («data» .exit) ≡ dataAfter (transactionCall (now (plan .entry)) index (length (now («data» .entry)))) (now («data» .entry)) ⌝ }
+{
+    transaction_answer(transaction(plan, index, data))
 }

@@ -8,8 +8,8 @@ use Prim.Native.Nat.{ℕ, _+_, _^_, _≤_, _<_}
 use native.Mathlib.Omega.{arith}
 use lib.Dec.{T, leb}
 use lib.ListN.{length, take, drop, getD, drop-of-length-le}
-use lib.Seq.{take-length}
-use borrow.Author.Tests.{leb-true, le-leb, ne-eqb}
+use lib.Seq.{take-length, sets, length-sets}
+use borrow.Author.Tests.{leb-true, ne-eqb}
 use Rattle.bits.specs.Strings.{firstBytes}
 use Rattle.bits.proofs.ByteLaws.{firstBytes-length}
 use Rattle.refusals.specs.Refusal.{Judged, accepted, refused}
@@ -18,10 +18,10 @@ use Rattle.unpacking.specs.declared.places.Place.{Place}
 use Rattle.unpacking.specs.declared.steps.Order.the-variants.{Ascending}
 use Rattle.unpacking.specs.declared.steps.Cursor.{Cursor}
 use Rattle.unpacking.specs.Unpacking.{unpack, counted}
-use Rattle.unpacking.specs.Places.{leftAt, overwritten, dataFit, dataCopied}
-use Rattle.unpacking.specs.Steps.{beginning}
-use Rattle.unpacking.proofs.PlaceLaws.{placed-inside, overwritten-length}
-use Rattle.unpacking.proofs.StepLaws.{restOf, transactionAt, Went}
+use Rattle.unpacking.specs.Places.{leftAt, dataCopied}
+use Rattle.unpacking.specs.Steps.{beginning, transactionAt}
+use Rattle.unpacking.proofs.PlaceLaws.{data-copied}
+use Rattle.unpacking.proofs.StepLaws.{restOf, Went}
 use Rattle.unpacking.proofs.Walking.{one-more, Walked, walk-begins, walk-goes, walk-ends, walk-fails, walk-so-far}
 use Rattle.adv7194_bus.specs.Kind.{registerCount}
 use Rattle.adv7194_bus.specs.Rules.{keepsRules, allKeepRules}
@@ -46,16 +46,16 @@ unfolding allKeepRules
 rules-one t = refl
 
 -- the data of one transaction more are written last
-pub written-more : (l : List ℕ) (ts : List Transaction) (t : Transaction) → allWritten l (ts ++ (t ∷ [])) ≡ overwritten (allWritten l ts) (t .subaddress) (t .bytes)
+pub written-more : (l : List ℕ) (ts : List Transaction) (t : Transaction) → allWritten l (ts ++ (t ∷ [])) ≡ sets (allWritten l ts) (t .subaddress) (t .bytes)
 unfolding allWritten
 written-more l [] t = refl
-written-more l (u ∷ ts) t = written-more (overwritten l (u .subaddress) (u .bytes)) ts t
+written-more l (u ∷ ts) t = written-more (sets l (u .subaddress) (u .bytes)) ts t
 
 -- the registers are as many
 pub written-length : (l : List ℕ) (ts : List Transaction) → length (allWritten l ts) ≡ length l
 unfolding allWritten
 written-length l [] = refl
-written-length l (t ∷ ts) = written-length (overwritten l (t .subaddress) (t .bytes)) ts ∙ overwritten-length l (t .subaddress) (t .bytes)
+written-length l (t ∷ ts) = written-length (sets l (t .subaddress) (t .bytes)) ts ∙ length-sets l (t .subaddress) (t .bytes)
 
 -- also where they were refused
 pub left-as-many : (j : Judged (List Transaction)) (before after : List ℕ) → Written j before after → length after ≡ length before
@@ -133,13 +133,6 @@ module _ {plan before registers : List ℕ} {c : Cursor} {transactions : ℕ} (w
   rule-answered e = refuse plan before registers (broken plan (w .done) found after (walk-goes (w .walked) g) (header ∙ e)) (as-many w)
 
   module _ (long : length before ≡ registerCount) (e : keepsRules subaddress count ≡ true) where
-    -- its data are there, and so are the registers for them
-    fit : dataFit plan first registers subaddress count ≡ true
-    fit =
-        ap₂ (λ (x y : Bool). x && y) (placed-inside plan first (g .placed))
-        (ap₂ (λ (x y : Bool). x && y) (le-leb (first .at + count) (length plan) (g .room))
-        (le-leb (subaddress + count) (length registers) (omega (arith, as-many w, long, room subaddress count (g .some) e))))
-
     -- its data were written
     pub written-on : (now : List ℕ) → now ≡ dataCopied plan first registers subaddress count → Writing plan before now after (transactions + 1)
     written-on now h =
@@ -149,8 +142,8 @@ module _ {plan before registers : List ℕ} {c : Cursor} {transactions : ℕ} (w
           walked = walk-goes (w .walked) g;
           counts = ap (λ (n : ℕ). n + 1) (w .counts) ∙ sym (one-more (w .done) found);
           rules = rules-both (w .done) (found ∷ []) ∙ ap₂ (λ (x y : Bool). x && y) (w .rules) (rules-one found ∙ ap (λ (b : Bool). b && true) (header ∙ e));
-          written = h ∙ ap (λ (b : Bool). cond b (overwritten registers subaddress bytes) registers) fit
-              ∙ ap (λ (l : List ℕ). overwritten l subaddress bytes) (w .written) ∙ sym (written-more before (w .done) found);
+          written = h ∙ data-copied plan first registers subaddress count (g .placed) (g .room) (omega (arith, as-many w, long, room subaddress count (g .some) e))
+              ∙ ap (λ (l : List ℕ). sets l subaddress bytes) (w .written) ∙ sym (written-more before (w .done) found);
         }
 
 -- none was

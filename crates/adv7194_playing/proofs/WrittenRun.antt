@@ -8,6 +8,7 @@ use Prim.Native.Nat.{ℕ, suc, _+_, _-_, _≤_, _<_}
 use native.Mathlib.Omega.{arith}
 use lib.Dec.{T, leb}
 use lib.ListN.{length, set}
+use lib.Seq.{sets}
 use borrow.Author.Tests.{lt-ltb, ne-eqb}
 use Rattle.bits.proofs.FlagLaws.{first, second}
 use Rattle.refusals.specs.Refusal.{Judged, accepted, refused}
@@ -23,20 +24,19 @@ use Rattle.unpacking.proofs.Tests.{encodable-facts}
 use Rattle.adv7194_bus.specs.Kind.{registerCount, readOnly, adv7194}
 use Rattle.adv7194_bus.specs.Rules.{Rules, allKeepRules}
 use Rattle.adv7194_bus.proofs.RuleLaws.{agree-all}
-use Rattle.unpacking.specs.Places.{overwritten}
 use Rattle.adv7194_playing.specs.Playing.{judgedByRules, acknowledgedBy, registersAfter}
 use Rattle.adv7194_playing.specs.Written.{allWritten, Written}
 
 module _ (own : ℕ) where
   -- data for registers that keep them are stored one by one
-  stores-overwritten : (bs : List ℕ) (i : ℕ) (l : List ℕ) → ((r : ℕ) → i ≤ r → r < i + length bs → (r < registerCount) × (r ≢ readOnly))
-      → stores (adv7194 own) l i bs ≡ overwritten l i bs
-  unfolding stores overwritten
-  stores-overwritten [] i l h = refl
-  stores-overwritten (b ∷ bs) i l h =
+  stores-sets : (bs : List ℕ) (i : ℕ) (l : List ℕ) → ((r : ℕ) → i ≤ r → r < i + length bs → (r < registerCount) × (r ≢ readOnly))
+      → stores (adv7194 own) l i bs ≡ sets l i bs
+  unfolding stores
+  stores-sets [] i l h = refl
+  stores-sets (b ∷ bs) i l h =
       let k = h i (omega arith) (omega arith) in
       rw (lt-ltb i registerCount (k .0), ne-eqb i readOnly (k .1))
-      (stores-overwritten bs (suc i) (set l i b) (λ r p q. h r (omega arith) (omega arith)))
+      (stores-sets bs (suc i) (set l i b) (λ r p q. h r (omega arith) (omega arith)))
 
   -- transactions that keep the rules leave their data
   run-written : (ts : List Transaction) (c : Chip) → Every Rules ts → run (adv7194 own) c (listEvents own ts) .registers ≡ allWritten (c .registers) ts
@@ -44,7 +44,7 @@ module _ (own : ℕ) where
   run-written [] c h = refl
   run-written (t ∷ ts) c h =
       ap (λ (d : Chip). d .registers) (run-list (adv7194 own) own c t ts) ∙ run-written ts (run (adv7194 own) c (transactionEvents own t)) (h .1)
-      ∙ ap (λ (l : List ℕ). allWritten l ts) (run-transaction (adv7194 own) c t ∙ stores-overwritten (t .bytes) (t .subaddress) (c .registers) (λ r p q. h .0 .inside r (p, q)))
+      ∙ ap (λ (l : List ℕ). allWritten l ts) (run-transaction (adv7194 own) c t ∙ stores-sets (t .bytes) (t .subaddress) (c .registers) (λ r p q. h .0 .inside r (p, q)))
 
   -- encodable ones that keep the rules have data, and the chip has their registers
   all-fit : (free : ℕ) (ts : List Transaction) → T (ascending free ts) → Every Rules ts → Every (Fits (adv7194 own)) ts

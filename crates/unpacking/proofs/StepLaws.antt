@@ -19,7 +19,7 @@ use Rattle.unpacking.specs.declared.steps.Step.{Step}
 use Rattle.unpacking.specs.declared.steps.Step.the-variants.{Transaction as Found, End, Fault}
 use Rattle.unpacking.specs.Unpacking.{number, named, candidate, unpackBy}
 use Rattle.unpacking.specs.Places.{taken, placeAfter, leftAt, Placed, inside}
-use Rattle.unpacking.specs.Steps.{startAfter, beginning, filling, subaddressIn, countIn, pastFirst, inFront, firstAt, stepAt, nextOf}
+use Rattle.unpacking.specs.Steps.{startAfter, beginning, filling, subaddressIn, countIn, pastFirst, inFront, firstAt, stepAt, nextOf, transactionAt}
 use Rattle.unpacking.proofs.FrontLaws.{number-lt, bytes-taken}
 use Rattle.unpacking.proofs.Reader.{Front, front-facts, valid}
 use Rattle.unpacking.proofs.Exact.{validPlan, read-plan}
@@ -40,10 +40,6 @@ restOf plan c =
 abbrev pub prefixed : Transaction → Judged (List Transaction) → Judged (List Transaction)
 prefixed t (accepted ts) = accepted (t ∷ ts)
 prefixed t (refused n) = refused n
-
--- the transaction with a subaddress and so many data from a place on
-abbrev pub transactionAt : List ℕ → ℕ → ℕ → Place → Transaction
-transactionAt plan subaddress count first = record { subaddress = subaddress; bytes = firstBytes count (leftAt plan first) }
 
 -- a transaction was found, with its data in the plan, and the rest follows it
 pub record Went (plan : List ℕ) (c : Cursor) (subaddress count : ℕ) (first : Place) (after : Cursor) : Type 0 where

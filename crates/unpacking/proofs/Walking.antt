@@ -12,10 +12,10 @@ use Rattle.unpacking.specs.declared.places.Place.{Place}
 use Rattle.unpacking.specs.declared.steps.Order.{Order}
 use Rattle.unpacking.specs.declared.steps.Cursor.{Cursor}
 use Rattle.unpacking.specs.Unpacking.{unpackBy}
-use Rattle.unpacking.specs.Steps.{startAfter, beginning}
+use Rattle.unpacking.specs.Steps.{startAfter, beginning, transactionAt}
 use Rattle.unpacking.proofs.FrontLaws.{number-lt}
 use Rattle.unpacking.proofs.Exact.{refused-nine}
-use Rattle.unpacking.proofs.StepLaws.{restOf, prefixed, transactionAt, Went, opened}
+use Rattle.unpacking.proofs.StepLaws.{restOf, prefixed, Went, opened}
 
 -- a list with one transaction more
 pub one-more : (ts : List Transaction) (t : Transaction) → length (ts ++ (t ∷ [])) ≡ length ts + 1

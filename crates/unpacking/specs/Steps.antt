@@ -5,7 +5,8 @@ use mathlib.Core.List.{List}
 use Prim.Native.Nat.{ℕ, zero, suc, _+_, _-_, _*_, _/_}
 use lib.Dec.{leb, ltb, eqb}
 use lib.ListN.{length, drop}
-use Rattle.bits.specs.Strings.{msbValue, byteBits}
+use Rattle.bits.specs.Strings.{msbValue, byteBits, firstBytes}
+use Rattle.bus.specs.Transactions.{Transaction as BusTransaction}
 use Rattle.packing.specs.Packing.{behind, anywhere}
 use Rattle.unpacking.specs.declared.places.Place.{Place}
 use Rattle.unpacking.specs.declared.steps.Order.{Order}
@@ -57,3 +58,7 @@ stepAt p (suc n) free order bs = cond (inFront free bs) (firstAt p n order bs) F
 -- the step at a cursor; a cursor that is no place in the plan is a fault
 unfoldable pub nextOf : List ℕ → Cursor → Step
 nextOf plan c = cond (inside plan (c .place)) (stepAt (c .place) (c .left) (c .free) (c .order) (leftAt plan (c .place))) Fault
+
+-- the transaction with a subaddress and so many data from a place on
+abbrev pub transactionAt : List ℕ → ℕ → ℕ → Place → BusTransaction
+transactionAt plan subaddress count place = record { subaddress = subaddress; bytes = firstBytes count (leftAt plan place) }

@@ -5,10 +5,11 @@ use Prim.Native.Nat.{ℕ, _+_, _-_, _*_, _/_, _%_, _^_, _≤_, _<_}
 use native.Mathlib.Nat.{add-zero}
 use native.Mathlib.Omega.{arith}
 use lib.ListN.{length, set, getD}
+use lib.Seq.{sets, length-sets}
 use borrow.Author.Needs.{needs}
 use Rattle.bits.specs.Strings.{firstBytes}
-use Rattle.unpacking.specs.Places.{leftAt, overwritten}
-use Rattle.unpacking.proofs.PlaceLaws.{overwritten-length, copied-more}
+use Rattle.unpacking.specs.Places.{leftAt}
+use Rattle.unpacking.proofs.PlaceLaws.{copied-more}
 use Rattle.unpacking.proofs.places.copy_bytes.Statement.{statement}
 use Rattle.unpacking.proofs.places.copy_bytes.Tie as tie
 
@@ -17,7 +18,7 @@ record Inv (plan registers₀ : List ℕ) (subaddress size at held : ℕ) (regis
   turns : i ≤ size
   begun : before ≡ getD plan (at + i - 1) 0
   byte : before < 2 ^ 8
-  wrote : registers ≡ overwritten registers₀ subaddress (firstBytes i (leftAt plan (record { at = at; held = held })))
+  wrote : registers ≡ sets registers₀ subaddress (firstBytes i (leftAt plan (record { at = at; held = held })))
 
 abbrev Inv-loop : tie.InvT-loop
 Inv-loop plan registers₀ subaddress count at held from size last before₀ i₀ registers before i = Inv plan registers₀ subaddress size at held registers before i
@@ -36,7 +37,7 @@ turn c = c .before .before
 kept : (c : tie.At-loop Inv-loop μ-loop) → length (c .loop .registers) ≡ length (start c .args .registers .now)
 kept c =
     let s = start c in
-    ap length (c .loop .inv .wrote) ∙ overwritten-length (s .args .registers .now) (s .args .subaddress) (firstBytes (c .loop .i) (leftAt (s .args .plan .now) (s .args .place)))
+    ap length (c .loop .inv .wrote) ∙ length-sets (s .args .registers .now) (s .args .subaddress) (firstBytes (c .loop .i) (leftAt (s .args .plan .now) (s .args .place)))
 
 -- the bytes of the plan are bytes
 before-lt : (c : tie.After-shared-slice-known Inv-loop μ-loop) → getD (c .before .args .plan .now) (c .before .args .place .at - 1) 0 < 2 ^ 8
@@ -60,7 +61,7 @@ cast-before : tie.Need-cast-before Inv-loop μ-loop
 cast-before c = record { fits = omega (arith, before-lt c) }
 
 loop-holds : tie.Need-loop-holds Inv-loop μ-loop
-unfolding overwritten firstBytes
+unfolding firstBytes
 loop-holds c =
     let s = c .before in
     record {
@@ -109,7 +110,7 @@ returns c =
     let l = c .before .loop in
     let s = start (c .before) in
     let all : l .i ≡ s .args .count = omega (arith, c .loop-test .left, l .inv .turns) in
-    l .inv .wrote ∙ ap (λ (k : ℕ). overwritten (s .args .registers .now) (s .args .subaddress) (firstBytes k (leftAt (s .args .plan .now) (s .args .place)))) all
+    l .inv .wrote ∙ ap (λ (k : ℕ). sets (s .args .registers .now) (s .args .subaddress) (firstBytes k (leftAt (s .args .plan .now) (s .args .place)))) all
 
 pub copy-bytes-spec : {M : Type 1} → statement M
 copy-bytes-spec =
