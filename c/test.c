@@ -5,6 +5,7 @@
  */
 #include "adv7194.h"
 #include "lent.h"
+#include "transactions.h"
 
 /* An even address, and another. */
 #define ADDRESS 0x54u
@@ -295,6 +296,8 @@ static void test_null(bytes *image)
     check("plan, all null", adv7194_plan(NULL, 0, NULL, 0, 1, NULL, 0).refusal == 1);
     check("play, null image", adv7194_play(NULL, 0, ADDRESS, ADDRESS, empty, 1).refusal == 1);
     check("play, null plan", adv7194_play(image->at, IMAGE, ADDRESS, ADDRESS, NULL, 0).refusal == 9);
+    check("transaction, null plan", adv7194_transaction(NULL, 0, 0, lent.at, MOST).refusal == 9);
+    check("transaction, null data", adv7194_transaction(empty, 1, 0, NULL, 0).refusal == 3);
     check("read, null image", adv7194_read(NULL, 0, settings.at, NUMBERS).refusal == 1);
     check("read, null settings", adv7194_read(image->at, IMAGE, NULL, 0).refusal == 3);
 }
@@ -308,6 +311,7 @@ int main(void)
     test_settings_refused(&image);
     test_signalling_refused(&image);
     test_play();
+    test_transaction();
     test_read(&image);
     test_null(&image);
     printf("%d passed, %d failed\n", passed, failed);

@@ -2,7 +2,8 @@
  * Plans, plays and reads back the settings of one ADV7194 video encoder.
  *
  * An image is the chip's 54 registers, one byte each. Settings are 49 numbers.
- * A packed plan is a list of write transactions, as adv7194_plan makes it.
+ * A packed plan is a list of write transactions, as adv7194_plan makes it and
+ * adv7194_transaction takes it apart.
  *
  * Each lent memory is a pointer followed by its length, in elements. A null
  * pointer is allowed with length 0. Lent memories of one call must not overlap.
@@ -35,6 +36,8 @@ extern "C" {
 #define ADV7194_SETTINGS 49
 /* Room for the longest packed plan. */
 #define ADV7194_PLAN_ROOM 44
+/* Room for the data of any transaction of a packed plan. */
+#define ADV7194_DATA_ROOM 63
 /* Bytes of a gamma curve. */
 #define ADV7194_CURVE_BYTES 7
 
@@ -97,18 +100,46 @@ enum {
     ADV7194_ACCEPTED = 0,
     ADV7194_IMAGE_LENGTH = 1,        /* an image isn't 54 bytes */
     ADV7194_ADDRESS = 2,             /* a bus address is odd or above 254 */
-    ADV7194_OUT_OF_RANGE = 3,        /* a number is outside its range, or (field 0) the settings aren't 49 */
+    ADV7194_OUT_OF_RANGE = 3,        /* a number is outside its range, or (field 0) the settings aren't 49, or no such transaction */
     ADV7194_RESERVED = 4,            /* a code is reserved, a must-be-zero bit is set, or WSS breaks its odd count */
     ADV7194_SQUARE_FOUR_TIMES = 5,   /* square pixel with 4x oversampling */
     ADV7194_PEDESTAL_PAL = 6,        /* pedestal with PAL */
     ADV7194_WRONG_SIGNALLING = 7,    /* CGMS with PAL, WSS with NTSC, CGMS for neither field, or both at once */
     ADV7194_DISAGREES = 8,           /* check bits or subcarrier word don't agree with the other fields */
     ADV7194_PLAN_BYTES = 9,          /* a plan's bytes break the packing or the bus rules */
-    ADV7194_PLAN_TOO_SHORT = 10      /* the lent plan is shorter than the packed plan */
+    ADV7194_PLAN_TOO_SHORT = 10      /* the lent plan is shorter than the packed plan, or the lent data than the transaction's */
 };
 
 /* The field number of the subcarrier word, which is worked out and not set. */
 enum { ADV7194_FIELD_WORD = 28 };
+
+/*
+ * A packed plan, bit by bit, each number with its most significant bit first
+ * and no gaps:
+ *
+ *   6 bits            the number of transactions
+ *   for each of them
+ *     6 bits          the subaddress: the register of the first data byte
+ *     6 bits          the number of data bytes, never 0
+ *     8 bits each     the data bytes, for one register after the other
+ *   0 to 7 bits       zero, up to the end of the byte
+ *
+ * Each transaction starts past the last register of the one before. There are no
+ * further bytes. Nothing to do is 00, and 06 00 65 C0 is
+ * 000001 100000 000001 10010111 000000: one transaction, subaddress 20, one
+ * byte, 97.
+ *
+ * To send a plan, ask for its transactions from index 0 on until refusal 3:
+ *
+ *   uint8_t data[ADV7194_DATA_ROOM];
+ *   for (uint32_t index = 0;; index++) {
+ *       adv7194_transaction_answer next =
+ *           adv7194_transaction(plan, length, index, data, sizeof data);
+ *       if (next.refusal != ADV7194_ACCEPTED)
+ *           break;
+ *       start, address, next.subaddress, next.count bytes of data, stop
+ *   }
+ */
 
 /* What planning answers. */
 typedef struct {
@@ -131,6 +162,14 @@ typedef struct {
     uint32_t refusal; /* a refusal, or 0 */
     uint32_t field;   /* the field at fault, or 0 */
 } adv7194_read_answer;
+
+/* What asking for a transaction answers. */
+typedef struct {
+    uint32_t refusal;    /* a refusal, or 0 */
+    uint32_t field;      /* always 0 */
+    uint32_t subaddress; /* the register of the first data byte */
+    uint32_t count;      /* its data bytes */
+} adv7194_transaction_answer;
 
 /*
  * Packs into `plan` the least list of write transactions that brings a chip
@@ -156,6 +195,19 @@ adv7194_plan_answer adv7194_plan(const uint8_t *image, size_t image_len,
 adv7194_play_answer adv7194_play(uint8_t *image, size_t image_len,
                                  uint32_t used, uint32_t own,
                                  const uint8_t *plan, size_t plan_len);
+
+/*
+ * Writes the data of the packed plan's transaction `index`, counted from 0, to
+ * the front of `data`. Bytes of `data` past them stay as they were.
+ *
+ * Refuses, in this order: 9 where the plan's bytes break the packing; 3 with
+ * field 0 where the plan has no such transaction; 10 where `data` is shorter
+ * than the transaction's data. The bus rules aren't judged here: a plan of
+ * adv7194_plan keeps them, and adv7194_play judges them.
+ */
+adv7194_transaction_answer adv7194_transaction(const uint8_t *plan, size_t plan_len,
+                                               uint32_t index,
+                                               uint8_t *data, size_t data_len);
 
 /*
  * Writes into `settings` what `image` is set to: of the settings that have the

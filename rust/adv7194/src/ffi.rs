@@ -42,6 +42,21 @@ pub struct ReadAnswer {
     pub field: u32,
 }
 
+/// What asking for a transaction answers. After a refusal all but the first
+/// two are 0.
+#[repr(C)]
+#[derive(Clone, Copy, Debug, PartialEq, Eq)]
+pub struct TransactionAnswer {
+    /// The refusal, or 0.
+    pub refusal: u32,
+    /// The field at fault, or 0.
+    pub field: u32,
+    /// The register of the first data byte.
+    pub subaddress: u32,
+    /// Data bytes.
+    pub count: u32,
+}
+
 extern "C" {
     fn adv7194_plan(
         image: *const u8,
@@ -61,6 +76,14 @@ extern "C" {
         plan: *const u8,
         plan_len: usize,
     ) -> PlayAnswer;
+
+    fn adv7194_transaction(
+        plan: *const u8,
+        plan_len: usize,
+        index: u32,
+        data: *mut u8,
+        data_len: usize,
+    ) -> TransactionAnswer;
 
     fn adv7194_read(
         image: *const u8,
@@ -100,6 +123,21 @@ pub fn play(image: &mut [u8], used: u32, own: u32, plan: &[u8]) -> PlayAnswer {
             own,
             plan.as_ptr(),
             plan.len(),
+        )
+    }
+}
+
+/// Asks for a transaction, with the archive's own numbers.
+#[inline]
+pub fn transaction(plan: &[u8], index: u32, data: &mut [u8]) -> TransactionAnswer {
+    // Sound: as in `plan`.
+    unsafe {
+        adv7194_transaction(
+            plan.as_ptr(),
+            plan.len(),
+            index,
+            data.as_mut_ptr(),
+            data.len(),
         )
     }
 }

@@ -5,8 +5,8 @@
 //!
 //! An image is 54 bytes, one for each register of the chip. [`plan`] works out
 //! the least list of write transactions that brings a chip to given settings,
-//! and packs it into lent bytes. [`play`] says what a chip holds after a packed
-//! plan. [`read`] gives the settings that an image holds. Nothing is kept
+//! and packs it into lent bytes. [`transactions`] takes a packed plan apart, to
+//! send it. [`play`] says what a chip holds after a packed plan. [`read`] gives the settings that an image holds. Nothing is kept
 //! between calls and nothing is allocated.
 //!
 //! ```
@@ -38,10 +38,12 @@ pub mod ffi;
 mod numbers;
 mod refusal;
 mod settings;
+mod transactions;
 
 pub use numbers::{index, Numbers, NUMBERS};
 pub use refusal::{Reason, Refusal};
 pub use settings::{Curve, Settings, Signalling, Standard, YLevel, CURVE_BYTES};
+pub use transactions::{transactions, Transaction, Transactions, DATA_ROOM};
 
 /// Bytes of an image.
 pub const REGISTERS: usize = 54;

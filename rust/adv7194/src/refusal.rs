@@ -11,7 +11,8 @@ pub enum Reason {
     ImageLength = 1,
     /// 2: a bus address is odd or above 254.
     Address = 2,
-    /// 3: a number is outside its range, or the settings aren't 49 numbers.
+    /// 3: a number is outside its range, the settings aren't 49 numbers, or there
+    /// is no such transaction.
     OutOfRange = 3,
     /// 4: a code is reserved, a must-be-zero bit is set, or WSS breaks its odd
     /// count.
@@ -27,7 +28,8 @@ pub enum Reason {
     Disagrees = 8,
     /// 9: a plan's bytes break the packing or the bus rules.
     PlanBytes = 9,
-    /// 10: the lent plan is shorter than the packed plan.
+    /// 10: the lent plan is shorter than the packed plan, or the lent data than the
+    /// transaction's.
     PlanRoom = 10,
 }
 

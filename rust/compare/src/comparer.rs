@@ -3,7 +3,7 @@
 use crate::lent::Lent;
 use crate::tally::{Entry, Tally};
 use adv7194::ffi;
-use plain::{PlanAnswer, PlayAnswer, ReadAnswer};
+use plain::{PlanAnswer, PlayAnswer, ReadAnswer, TransactionAnswer};
 
 /// Guard bytes.
 const GUARD_BYTE: u8 = 0xC3;
@@ -105,6 +105,49 @@ impl Comparer {
         if b[0] != 0 {
             self.expect(other == before, || show("image after a refusal"));
             self.expect(b[2] == 0, || show("numbers after a refusal"));
+        }
+        (answer, other)
+    }
+
+    /// Asks for a transaction. `data` is what the lent data hold before.
+    pub fn transaction(
+        &mut self,
+        plan: &[u8],
+        index: u32,
+        data: &[u8],
+    ) -> (TransactionAnswer, Lent<u8>) {
+        let given = Lent::new(plan, GUARD_BYTE);
+        let before = Lent::new(data, GUARD_BYTE);
+        let (mut one, mut other, mut lent) = (before, before, given);
+        let answer = plain::transaction(plan, index, one.lend());
+        let proved = ffi::transaction(lent.lend(), index, other.lend());
+        let a = [
+            answer.refusal,
+            answer.field,
+            answer.subaddress,
+            answer.count,
+        ];
+        let b = [
+            proved.refusal,
+            proved.field,
+            proved.subaddress,
+            proved.count,
+        ];
+        let show = |what: &str| {
+            let room = data.len();
+            format!("transaction, {what}: {a:?} {b:?} for {plan:02X?} {index} room {room}")
+        };
+        self.count(Entry::Transaction, answer.refusal, answer.field);
+        self.expect(a == b, || show("answers"));
+        self.expect(one == other, || show("lent data"));
+        self.expect(lent == given, || show("given memory"));
+        if b[0] != 0 {
+            self.expect(other == before, || show("data after a refusal"));
+            self.expect(b[2..] == [0; 2], || show("numbers after a refusal"));
+        } else {
+            let past = proved.count as usize..;
+            let kept = other.get().get(past.clone()) == data.get(past);
+            self.expect(kept, || show("past the data"));
         }
         (answer, other)
     }

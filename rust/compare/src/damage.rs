@@ -3,11 +3,14 @@
 use crate::lent::MOST;
 use crate::random::Random;
 use plain::registers::REGISTERS;
+use plain::MOST_DATA;
 
 /// Bits of a count or subaddress in a packed plan.
 const HEAD_BITS: u32 = 6;
 /// The most transactions that are tried in a plan of another make.
 const MOST_TRANSACTIONS: u64 = 5;
+/// One in so many transactions has any count of data, past the registers too.
+const WIDE: u64 = 12;
 /// Subaddresses around the word, the captions and the end.
 const CORNERS: [u64; 12] = [
     0x00, 0x0B, 0x0C, 0x0D, 0x0F, 0x10, 0x11, 0x14, 0x15, 0x33, 0x34, 0x35,
@@ -35,7 +38,8 @@ impl Bits {
     }
 }
 
-/// A packed plan that no planner would make: ascending, and often sound.
+/// A packed plan that no planner would make: ascending, and often sound. A start
+/// that six bits can't hold ends it.
 pub fn foreign(random: &mut Random) -> Vec<u8> {
     let mut list = Vec::new();
     let mut from = 0;
@@ -51,7 +55,14 @@ pub fn foreign(random: &mut Random) -> Vec<u8> {
         } else {
             start.max(from)
         };
-        let count = 1 + random.below(6).min(random.below(8));
+        if start >= 1 << HEAD_BITS {
+            break;
+        }
+        let count = if random.once_in(WIDE) {
+            1 + random.below(MOST_DATA as u64)
+        } else {
+            1 + random.below(6).min(random.below(8))
+        };
         list.push((start as u32, count as u32));
         from = start + count;
     }

@@ -2,8 +2,8 @@
 
 /// Elements of guard on each side.
 const GUARD: usize = 16;
-/// The most that can be lent.
-pub const MOST: usize = 96;
+/// The most that can be lent: more than the longest plan of any make.
+pub const MOST: usize = 144;
 /// All of it.
 const WHOLE: usize = GUARD + MOST + GUARD;
 

@@ -11,6 +11,7 @@ pub mod damage;
 pub mod lent;
 pub mod random;
 pub mod seeded;
+pub mod sending;
 pub mod systematic;
 pub mod tally;
 pub mod windows;

@@ -4,6 +4,7 @@ use crate::cases::{self, Image, Numbers, ADDRESS, BEFORE, ROOM};
 use crate::comparer::Comparer;
 use crate::damage;
 use crate::random::Random;
+use crate::sending;
 use plain::fields::SETTINGS;
 use plain::registers::REGISTERS;
 use plain::{least, search};
@@ -109,6 +110,10 @@ impl Seeded {
             format!("a plan isn't played: {image:02X?} {plan:02X?}")
         });
         let after: Image = lent.get().try_into().expect("an image's length");
+        let sent = sending::sent(comparer, image, plan);
+        comparer.expect(sent == (after, cost.0, cost.1), || {
+            format!("sent otherwise than played: {image:02X?} {plan:02X?}")
+        });
         if self.random.once_in(SEARCHED) {
             let needed = least::differing(image, &after);
             let least = search::least(needed, &self.spans);
@@ -155,6 +160,7 @@ impl Seeded {
             used
         };
         let given = resized(&image, self.length(REGISTERS), 0);
+        sending::asked(comparer, &mut self.random, &plan);
         comparer.play(&given, used, own, &plan).0.refusal == 0
     }
 

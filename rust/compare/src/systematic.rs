@@ -4,6 +4,7 @@ use crate::cases::{self, Image, Numbers, ADDRESS, BEFORE, ROOM};
 use crate::comparer::Comparer;
 use crate::random::Random;
 use crate::seeded::resized;
+use crate::sending;
 use plain::fields::{self as at, SETTINGS};
 use plain::registers::{self as reg, REGISTERS};
 use plain::signal::LAST_PAYLOAD;
@@ -115,13 +116,16 @@ fn plans(comparer: &mut Comparer, random: &mut Random) {
     }
     for length in 0..=plan.len() + 3 {
         for more in [0x00, 0x01, 0xFF] {
-            comparer.play(&image, ADDRESS, ADDRESS, &resized(plan, length, more));
+            let resized = resized(plan, length, more);
+            comparer.play(&image, ADDRESS, ADDRESS, &resized);
+            sending::every(comparer, &resized);
         }
     }
     for place in 0..8 * plan.len() {
         let mut flipped = plan.to_vec();
         flipped[place / 8] ^= 0x80 >> (place % 8);
         comparer.play(&image, ADDRESS, ADDRESS, &flipped);
+        sending::every(comparer, &flipped);
     }
 }
 
@@ -130,10 +134,12 @@ fn short_plans(comparer: &mut Comparer, random: &mut Random) {
     let image = cases::any_image(random);
     for word in 0..=u16::MAX {
         comparer.play(&image, ADDRESS, ADDRESS, &word.to_be_bytes());
+        comparer.transaction(&word.to_be_bytes(), 0, &[BEFORE; 2]);
     }
     for byte in 0..=u8::MAX {
         comparer.play(&image, ADDRESS, ADDRESS, &[byte]);
         comparer.play(&image, ADDRESS, ADDRESS + 2, &[byte]);
+        sending::every(comparer, &[byte]);
         // One transaction of one byte, or of four, at each subaddress.
         let second = (byte & 0x0F) << 4;
         comparer.play(

@@ -9,10 +9,14 @@ pub enum Entry {
     Play,
     /// Reading.
     Read,
+    /// A transaction by its index.
+    Transaction,
 }
 
+/// How many there are.
+const ENTRIES: usize = 4;
 /// Their names, in that order.
-const NAMES: [&str; 3] = ["plan", "play", "read"];
+const NAMES: [&str; ENTRIES] = ["plan", "play", "read", "transaction"];
 /// Numbers of refusals, none among them.
 const REFUSALS: usize = 11;
 /// Numbers of fields, none among them.
@@ -63,13 +67,16 @@ const READ: [(u32, u32); 19] = [
     (8, 28),
 ];
 
+/// A transaction.
+const TRANSACTION: [(u32, u32); 3] = [(9, 0), (3, 0), (10, 0)];
+
 /// Counts by entry, refusal and field.
-pub struct Tally([[[u64; FIELDS]; REFUSALS]; 3]);
+pub struct Tally([[[u64; FIELDS]; REFUSALS]; ENTRIES]);
 
 impl Tally {
     /// Nothing counted.
     pub fn new() -> Tally {
-        Tally([[[0; FIELDS]; REFUSALS]; 3])
+        Tally([[[0; FIELDS]; REFUSALS]; ENTRIES])
     }
 
     /// Counts one answer; says whether such a one can be.
@@ -83,9 +90,9 @@ impl Tally {
 
     /// Prints the table, and gives how many that can occur never came.
     pub fn print(&self) -> u64 {
-        println!("entry refusal field      count");
+        println!("entry       refusal field      count");
         let mut missing = 0;
-        for entry in [Entry::Plan, Entry::Play, Entry::Read] {
+        for entry in [Entry::Plan, Entry::Play, Entry::Read, Entry::Transaction] {
             for refusal in 0..REFUSALS as u32 {
                 for field in 0..FIELDS as u32 {
                     let count = self.0[entry as usize][refusal as usize][field as usize];
@@ -93,7 +100,7 @@ impl Tally {
                     if count > 0 || can {
                         let name = NAMES[entry as usize];
                         let note = if count == 0 { "  NEVER CAME" } else { "" };
-                        println!("{name:5} {refusal:7} {field:5} {count:10}{note}");
+                        println!("{name:11} {refusal:7} {field:5} {count:10}{note}");
                     }
                     missing += (count == 0 && can) as u64;
                 }
@@ -116,6 +123,7 @@ fn can_be(entry: Entry, refusal: u32, field: u32) -> bool {
         Entry::Plan => PLAN.contains(&pair) || refusal == RANGE && field <= LAST_SET,
         Entry::Play => PLAY.contains(&pair),
         Entry::Read => READ.contains(&pair),
+        Entry::Transaction => TRANSACTION.contains(&pair),
     };
     listed || pair == (0, 0)
 }

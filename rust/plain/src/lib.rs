@@ -20,9 +20,12 @@ mod pack;
 mod plan;
 mod play;
 mod read;
+mod transaction;
+mod unpack;
 mod wanted;
 
 pub use check::check;
 pub use plan::{plan, PlanAnswer};
 pub use play::{play, PlayAnswer};
 pub use read::{read, ReadAnswer};
+pub use transaction::{transaction, TransactionAnswer, MOST_DATA};

@@ -1,8 +1,8 @@
 //! Playing: what a chip holds after a packed plan.
 
-use crate::pack::{shift, BYTE_BITS, HEAD_BITS};
 use crate::refusal::{self, check_address, Refusal};
 use crate::registers::{span, BARRED_MAP, REGISTERS, WORD_MAP};
+use crate::unpack::Unpacker;
 
 /// What playing answers. After a refusal the last is 0.
 #[derive(Clone, Copy, Debug, Default, PartialEq, Eq)]
@@ -50,56 +50,11 @@ fn played(image: &mut [u8], used: u32, own: u32, plan: &[u8]) -> Result<bool, Re
     Ok(transactions == 0)
 }
 
-/// Where the next bits come from.
-struct Unpacker<'a> {
-    // The bytes not yet taken.
-    rest: &'a [u8],
-    // The bits taken out of bytes but not yet given, lowest last.
-    pending: u64,
-    // How many bits are pending.
-    held: u32,
-}
-
-impl<'a> Unpacker<'a> {
-    /// Takes six bits.
-    #[inline(always)]
-    fn head(&mut self) -> Option<u32> {
-        if self.held < HEAD_BITS {
-            let (&byte, rest) = self.rest.split_first()?;
-            self.rest = rest;
-            self.pending = self.pending << BYTE_BITS | byte as u64;
-            self.held += BYTE_BITS;
-        }
-        self.held -= HEAD_BITS;
-        Some((self.pending >> self.held) as u32 & ((1 << HEAD_BITS) - 1))
-    }
-
-    /// Takes a byte for each of `registers`.
-    #[inline(always)]
-    fn data(&mut self, registers: &mut [u8]) -> Option<()> {
-        let (bytes, rest) = self.rest.split_at_checked(registers.len())?;
-        self.rest = rest;
-        shift(registers, bytes, &mut self.pending, self.held);
-        Some(())
-    }
-
-    /// Whether nothing is left but zero bits that fill the last byte.
-    #[inline(always)]
-    fn is_done(&self) -> bool {
-        let fill = self.pending & ((1 << self.held) - 1);
-        self.rest.is_empty() && self.held < BYTE_BITS && fill == 0
-    }
-}
-
 /// Stores a plan's data and gives its transaction count, or nothing where its
 /// bytes break the packing or the bus rules.
 #[inline]
 fn unpack(image: &mut [u8; REGISTERS], plan: &[u8]) -> Option<u32> {
-    let mut unpacker = Unpacker {
-        rest: plan,
-        pending: 0,
-        held: 0,
-    };
+    let mut unpacker = Unpacker::new(plan);
     let transactions = unpacker.head()?;
     let mut last_end = 0;
     for _ in 0..transactions {

@@ -6,7 +6,7 @@ use crate::fields::number;
 pub const IMAGE_LENGTH: u32 = 1;
 /// A bus address is odd or above 254.
 pub const ADDRESS: u32 = 2;
-/// A number is outside its range.
+/// A number is outside its range, or there is no such transaction.
 pub const RANGE: u32 = 3;
 /// A code is reserved, a must-be-zero bit is set, or WSS breaks its odd count.
 pub const RESERVED: u32 = 4;
@@ -20,7 +20,8 @@ pub const SIGNALLING: u32 = 7;
 pub const DISAGREES: u32 = 8;
 /// A plan's bytes break the packing or the bus rules.
 pub const PLAN_BYTES: u32 = 9;
-/// The lent plan is shorter than the packed plan.
+/// The lent plan is shorter than the packed plan, or the lent data than the
+/// transaction's.
 pub const PLAN_ROOM: u32 = 10;
 
 /// The highest bus address.

@@ -2,7 +2,7 @@
 
 use plain::registers::{span, BARRED_MAP, READ_ONLY, REGISTERS, WORD, WORD_BYTES};
 use plain::search::{every_cover, every_list, least, spans, Cost};
-use plain::{least as planner, play};
+use plain::{least as planner, play, transaction, MOST_DATA};
 
 /// The chip's own address.
 const OWN: u32 = 0x54;
@@ -126,6 +126,40 @@ fn bytes_that_break_the_packing() {
     assert_eq!(refusal(&[0x00]), 0);
     assert_eq!(refusal(&[0x01]), 9);
     assert_eq!(refusal(&[]), 9);
+}
+
+/// The answer and the data for one transaction, with all the room there can be.
+fn asked(plan: &[u8], index: u32) -> (u32, u32, Vec<u8>) {
+    let mut data = [0; MOST_DATA];
+    let answer = transaction(plan, index, &mut data);
+    let data = data[..answer.count as usize].to_vec();
+    (answer.refusal, answer.subaddress, data)
+}
+
+#[test]
+fn transactions() {
+    let long = [0xA5; MOST_DATA];
+    // Registers 11 and 34, and past the last one: the bus rules aren't judged.
+    let list: [(usize, &[u8]); 4] = [(0x00, &[1, 2]), (0x11, &[3]), (0x34, &[4]), (0x3F, &long)];
+    let plan = packed(&list);
+    for (index, (start, data)) in list.iter().enumerate() {
+        let wanted = (0, *start as u32, data.to_vec());
+        assert_eq!(asked(&plan, index as u32), wanted);
+    }
+    for index in [4, 0x100, 0x1_0000, u32::MAX] {
+        assert_eq!(asked(&plan, index), (3, 0, vec![]));
+    }
+    assert_eq!(transaction(&plan, 0, &mut [0; 1]).refusal, 10);
+    assert_eq!(transaction(&plan, 4, &mut []).refusal, 3);
+    assert_eq!(asked(&packed(&[]), 0).0, 3);
+    // Empty, descending, overlapping; cut, extended, filled with a one.
+    assert_eq!(asked(&packed(&[(0x20, &[])]), 0).0, 9);
+    assert_eq!(asked(&packed(&[(0x20, &[1]), (0x1F, &[1])]), 0).0, 9);
+    assert_eq!(asked(&packed(&[(0x1F, &[1, 2]), (0x20, &[1])]), 0).0, 9);
+    assert_eq!(asked(&plan[..plan.len() - 1], 0).0, 9);
+    assert_eq!(asked(&[0x06, 0x00, 0x65, 0xC0, 0x00], 0).0, 9);
+    assert_eq!(asked(&[0x06, 0x00, 0x65, 0xC1], 1).0, 9);
+    assert_eq!(asked(&[], 0).0, 9);
 }
 
 /// What the planner's map costs.
