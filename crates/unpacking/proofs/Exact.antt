@@ -15,9 +15,11 @@ use Rattle.bus.specs.Transactions.{Transaction, Every, end}
 use Rattle.refusals.specs.Refusal.{Judged, accepted, refused}
 use Rattle.packing.specs.Packing.{listBits, packedBits, packed, encodable, behind, anywhere, arranged, wellFormedBy}
 use Rattle.packing.proofs.FillLaws.{filled-bytes}
-use Rattle.unpacking.specs.Unpacking.{UnpacksBy, packs, packs-none, number, candidate, same, unpackBy, unpack, counted}
+use Rattle.unpacking.specs.Unpacking.{UnpacksBy, packs, packs-none, number, candidate, unpackBy, unpack, counted}
+use Rattle.bits.specs.Bytes.{sameBytes}
+use Rattle.bits.proofs.SameLaws.{same-bytes, same-refl}
 use Rattle.bits.proofs.FlagLaws.{both, first, second, same-test, holds}
-use Rattle.unpacking.proofs.Tests.{same-eq, same-refl, Encodable, encodable-facts, encodable-from}
+use Rattle.unpacking.proofs.Tests.{Encodable, encodable-facts, encodable-from}
 use Rattle.unpacking.proofs.FrontLaws.{number-front, rest-front, number-lt, number-bits}
 use Rattle.unpacking.proofs.Reader.{valid, sound, complete, named-length}
 
@@ -71,22 +73,22 @@ module _ (next : ℕ → ℕ) where
   unfolding unpackBy
   packed-unpacks ts h =
       let e = candidate-packed ts h in
-      rw e (ap (λ (b : Bool). cond b (accepted ts) (refused 9)) (holds (wellFormedBy next ts && same (packed ts) (packed ts)) (both (wellFormedBy next ts) (same (packed ts) (packed ts)) h (same-refl (packed ts)))))
+      rw e (ap (λ (b : Bool). cond b (accepted ts) (refused 9)) (holds (wellFormedBy next ts && sameBytes (packed ts) (packed ts)) (both (wellFormedBy next ts) (sameBytes (packed ts) (packed ts)) h (same-refl (packed ts)))))
 
   -- packing what was unpacked gives the bytes again
   pub unpacks-packed : (plan : List ℕ) (ts : List Transaction) → unpackBy next plan ≡ accepted ts → T (wellFormedBy next ts) × (plan ≡ packed ts)
   unfolding unpackBy
-  unpacks-packed plan ts e = go (wellFormedBy next us && same plan (packed us)) refl e
+  unpacks-packed plan ts e = go (wellFormedBy next us && sameBytes plan (packed us)) refl e
     where
       us : List Transaction
       us = candidate plan
 
-      go : (b : Bool) → wellFormedBy next us && same plan (packed us) ≡ b → cond b (accepted us) (refused 9) ≡ accepted ts → T (wellFormedBy next ts) × (plan ≡ packed ts)
+      go : (b : Bool) → wellFormedBy next us && sameBytes plan (packed us) ≡ b → cond b (accepted us) (refused 9) ≡ accepted ts → T (wellFormedBy next ts) × (plan ≡ packed ts)
       go true d f =
           let same-list : us ≡ ts = cc in
           let h = subst T (sym d) tt in
           subst (λ (l : List Transaction). T (wellFormedBy next l) × (plan ≡ packed l)) same-list
-          (first (wellFormedBy next us) (same plan (packed us)) h, same-eq plan (packed us) (second (wellFormedBy next us) (same plan (packed us)) h))
+          (first (wellFormedBy next us) (sameBytes plan (packed us)) h, same-bytes plan (packed us) (second (wellFormedBy next us) (sameBytes plan (packed us)) h))
       go false d f = let z : _≡_ {A = ℕ} 0 1 = cc in absurd (omega arith)
 
   -- the two as one: a plan is accepted with ts exactly when ts is well-formed and the plan is its packing
@@ -96,7 +98,7 @@ module _ (next : ℕ → ℕ) where
   -- every refusal is 9
   pub refused-nine : (plan : List ℕ) (n : ℕ) → unpackBy next plan ≡ refused n → 9 ≡ n
   unfolding unpackBy
-  refused-nine plan n e = go (wellFormedBy next (candidate plan) && same plan (packed (candidate plan))) e
+  refused-nine plan n e = go (wellFormedBy next (candidate plan) && sameBytes plan (packed (candidate plan))) e
     where
       go : (b : Bool) → cond b (accepted (candidate plan)) (refused 9) ≡ refused n → 9 ≡ n
       go true f = let z : _≡_ {A = ℕ} 0 1 = cc in absurd (omega arith)
@@ -156,19 +158,19 @@ module _ (next : ℕ → ℕ) where
       )
 
   -- so the reader's test is that of unpacking
-  agree : (plan : List ℕ) → ((i : ℕ) → getD plan i 0 < 2 ^ 8) → wellFormedBy next (candidate plan) && same plan (packed (candidate plan)) ≡ validPlan plan
-  agree plan bytes = same-test (wellFormedBy next us && same plan (packed us)) (validPlan plan) to from
+  agree : (plan : List ℕ) → ((i : ℕ) → getD plan i 0 < 2 ^ 8) → wellFormedBy next (candidate plan) && sameBytes plan (packed (candidate plan)) ≡ validPlan plan
+  agree plan bytes = same-test (wellFormedBy next us && sameBytes plan (packed us)) (validPlan plan) to from
     where
       us : List Transaction
       us = candidate plan
 
-      to : T (wellFormedBy next us && same plan (packed us)) → T (validPlan plan)
-      to h = subst (λ (l : List ℕ). T (validPlan l)) (sym (same-eq plan (packed us) (second (wellFormedBy next us) (same plan (packed us)) h))) (valid-packed us (first (wellFormedBy next us) (same plan (packed us)) h))
+      to : T (wellFormedBy next us && sameBytes plan (packed us)) → T (validPlan plan)
+      to h = subst (λ (l : List ℕ). T (validPlan l)) (sym (same-bytes plan (packed us) (second (wellFormedBy next us) (sameBytes plan (packed us)) h))) (valid-packed us (first (wellFormedBy next us) (sameBytes plan (packed us)) h))
 
-      from : T (validPlan plan) → T (wellFormedBy next us && same plan (packed us))
+      from : T (validPlan plan) → T (wellFormedBy next us && sameBytes plan (packed us))
       from h =
           let p = packed-valid plan bytes h in
-          both (wellFormedBy next us) (same plan (packed us)) (p .0) (subst (λ (l : List ℕ). T (same plan l)) (p .1) (same-refl plan))
+          both (wellFormedBy next us) (sameBytes plan (packed us)) (p .0) (subst (λ (l : List ℕ). T (sameBytes plan l)) (p .1) (same-refl plan))
 
   -- what the reader finds is what unpacking answers
   pub read-plan : (plan : List ℕ) → ((i : ℕ) → getD plan i 0 < 2 ^ 8) → unpackBy next plan ≡ cond (validPlan plan) (accepted (candidate plan)) (refused 9)
@@ -179,7 +181,7 @@ module _ (next : ℕ → ℕ) where
   pub judged-count : (plan : List ℕ) → ((i : ℕ) → getD plan i 0 < 2 ^ 8) → counted (unpackBy next plan) ≡ cond (validPlan plan) (accepted (number 6 (byteBits plan))) (refused 9)
   unfolding unpackBy
   judged-count plan bytes =
-      counted-cond (wellFormedBy next (candidate plan) && same plan (packed (candidate plan))) (candidate plan)
+      counted-cond (wellFormedBy next (candidate plan) && sameBytes plan (packed (candidate plan))) (candidate plan)
       ∙ ap₂ (λ (b : Bool) (n : ℕ). cond b (accepted n) (refused 9)) (agree plan bytes) (named-length (number 6 (byteBits plan)) (drop 6 (byteBits plan)))
 
   -- a plan with no bytes is refused
