@@ -1,17 +1,15 @@
--- What the search for a nearest number finds, and that it does not fall from one place to a later one. Assumes nothing.
+-- What the search for a nearest number finds. Assumes nothing.
 use mathlib.Core.Path.{_≡_, sym, _∙_, subst}
-use mathlib.Core.Bool.{Bool, true, false, _&&_, true≢false}
+use mathlib.Core.Bool.{Bool, true, false, true≢false}
 use mathlib.Core.Logic.{⊎-elim}
 use Prim.Native.Nat.{ℕ, suc, _+_, _-_, _*_, _^_, _≤_, _<_}
 use native.Mathlib.Nat.{mul-le-mul-left, mul-lt-mul-of-pos-right, pow-le-pow-left, pow-lt-pow-left, lt-of-le-of-lt, lt-of-not-le, le-antisymm, one-le-pow}
 use native.Mathlib.Omega.{arith}
 use lib.Arith.{lt-of-le-ne}
-use lib.Dec.{T, leb, leb→le, lit<}
+use lib.Dec.{lit<}
 use borrow.Author.Tests.{ltb-true, ltb-false, lt-ltb}
 use Rattle.rounding.proofs.First.{first-found}
-use Rattle.rounding.proofs.Range.{both-l, both-r}
-use Rattle.adv7194_gamma.specs.Power.{belowHalf, nearestPower, NearestPower, Ratio}
-use Rattle.adv7194_gamma.specs.Curve.{byteAt}
+use Rattle.adv7194_gamma.specs.Power.{belowHalf, nearestPower, NearestPower}
 
 -- a test that both passes and fails
 clash : {X : Type 0} {b : Bool} → b ≡ true → b ≡ false → X
@@ -65,15 +63,3 @@ module _ (x p q : ℕ) (hx : x ≤ 224) (hq : 0 < q) where
             let k : r - 1 < r = omega arith in
             subst (λ (n : ℕ). n ^ q * 224 ^ p ≤ 448 ^ q * x ^ p) e (ltb-false _ _ (least x p q (r - 1) k));
       }
-
--- the nearest number does not fall
-pub rising : (x z p q : ℕ) → x ≤ z → z ≤ 224 → 0 < q → nearestPower x p q ≤ nearestPower z p q
-rising x z p q h hz hq = at-most x p q (omega arith) hq _ (earlier x z p q _ h (passes z p q hz hq))
-
--- what a search at a later place asks of the byte found at an earlier one
-pub next : (n m p q b : ℕ) → T (leb 16 n && (leb n m && leb m 240)) → Ratio p q → b ≡ byteAt p q n → (16 ≤ m) × (m ≤ 240) × Ratio p q × (16 ≤ b) × (b ≤ byteAt p q m)
-next n m p q b t r e =
-    let base : 16 ≤ n = leb→le 16 n (both-l (leb 16 n) _ t) in
-    let above : n ≤ m = leb→le n m (both-l (leb n m) _ (both-r (leb 16 n) _ t)) in
-    let high : m ≤ 240 = leb→le m 240 (both-r (leb n m) _ (both-r (leb 16 n) _ t)) in
-    (omega arith, high, r, omega arith, omega (arith, rising (n - 16) (m - 16) p q (omega arith) (omega arith) (r .q-low)))

@@ -2,7 +2,7 @@
 ghost use mathlib.Core.Path.{_≡_};
 ghost use Prim.Native.Nat.{ℕ, _+_, _*_};
 ghost use Rattle.adv7194_gamma.specs.Power.{Ratio};
-ghost use Rattle.adv7194_gamma.specs.Curve.{byteAt, bytesOf, inRatio, curveOf, NearestBytes};
+ghost use Rattle.adv7194_gamma.specs.Curve.{bytesOf, inRatio, curveOf, NearestBytes};
 ghost use Rattle.adv7194_gamma.specs.Answer.{bytesIn, judged};
 use refusals::Refusal;
 
@@ -33,19 +33,18 @@ const LAST: i32 = 3;
 // How far the pairs of a p lie from those of the next: a number for each q.
 const ROW: u32 = 3;
 
-// The curve of a ratio, each point searched for from the one before; the upper three from the byte at 128, which is given as a number of its own, so that
-// the compiler can work out both halves.
-fn of_ratio(p: u64, q: u64, middle: u8) -> Points
-    requires { ⌜ Ratio p q × (middle ≡ byteAt p q 128) ⌝ }
+// The curve of a ratio, each of its bytes searched for.
+fn of_ratio(p: u64, q: u64) -> Points
+    requires { ⌜ Ratio p q ⌝ }
     ensures answer { λ r. ⌜ bytesIn r ≡ bytesOf p q ⌝ }
 {
-    let b0 = search::byte_from(32, p, q, search::LEAST);
-    let b1 = search::byte_from(64, p, q, b0);
-    let b2 = search::byte_from(96, p, q, b1);
-    let b3 = search::byte_from(128, p, q, b2);
-    let b4 = search::byte_from(160, p, q, middle);
-    let b5 = search::byte_from(192, p, q, b4);
-    let b6 = search::byte_from(224, p, q, b5);
+    let b0 = search::byte_at(32, p, q);
+    let b1 = search::byte_at(64, p, q);
+    let b2 = search::byte_at(96, p, q);
+    let b3 = search::byte_at(128, p, q);
+    let b4 = search::byte_at(160, p, q);
+    let b5 = search::byte_at(192, p, q);
+    let b6 = search::byte_at(224, p, q);
     Points {
         b0,
         b1,
@@ -62,15 +61,15 @@ fn of_pair(pair: u32) -> Points
     ensures answer { λ r. ⌜ ((p q : ℕ) → Ratio p q → pair ≡ 3 * p + q → bytesIn r ≡ bytesOf p q) ⌝ }
 {
     match pair {
-        4 => of_ratio(1, 1, 0x80),
-        5 => of_ratio(1, 2, 0xAE),
-        6 => of_ratio(1, 3, 0xC2),
-        7 => of_ratio(2, 1, 0x48),
-        8 => of_ratio(2, 2, 0x80),
-        9 => of_ratio(2, 3, 0x9D),
-        10 => of_ratio(3, 1, 0x2C),
-        11 => of_ratio(3, 2, 0x5F),
-        _ => of_ratio(3, 3, 0x80),
+        4 => of_ratio(1, 1),
+        5 => of_ratio(1, 2),
+        6 => of_ratio(1, 3),
+        7 => of_ratio(2, 1),
+        8 => of_ratio(2, 2),
+        9 => of_ratio(2, 3),
+        10 => of_ratio(3, 1),
+        11 => of_ratio(3, 2),
+        _ => of_ratio(3, 3),
     }
 }
 

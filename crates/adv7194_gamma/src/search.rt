@@ -11,10 +11,10 @@ const BLACK: u64 = 16;
 const SPAN: u64 = 224;
 
 // The least byte of a curve: the first candidate.
-pub const LEAST: u8 = 16;
+const LEAST: u8 = 16;
 
 // b to the power e, for an e of 1 to 3.
-pub fn power(b: u64, e: u64) -> u64
+fn power(b: u64, e: u64) -> u64
     requires { ⌜ (b ≤ 450) × (0 < e) × (e ≤ 3) ⌝ }
     ensures answer { λ r. ⌜ r ≡ b ^ e ⌝ }
     ensures small { λ r. ⌜ r ≤ 450 ^ 3 ⌝ }
@@ -27,20 +27,20 @@ pub fn power(b: u64, e: u64) -> u64
 }
 
 // Whether 224 (x / 224)^(p/q) is below r and a half.
-pub fn below_half(x: u64, p: u64, q: u64, r: u64) -> bool
+fn below_half(x: u64, p: u64, q: u64, r: u64) -> bool
     requires { ⌜ (x ≤ 224) × Ratio p q × (r ≤ 224) ⌝ }
     ensures answer { λ t. ⌜ t ≡ belowHalf x p q r ⌝ }
 {
     power(2 * SPAN, q) * power(x, p) < power(2 * r + 1, q) * power(SPAN, p)
 }
 
-// The byte at n of the ratio p/q, searched for from a candidate byte that is not above it.
-pub fn byte_from(n: u64, p: u64, q: u64, from: u8) -> u8
-    requires { ⌜ (16 ≤ n) × (n ≤ 240) × Ratio p q × (16 ≤ from) × (from ≤ byteAt p q n) ⌝ }
+// The byte at n of the ratio p/q: the first candidate, from the least byte up, that is nearest.
+pub fn byte_at(n: u64, p: u64, q: u64) -> u8
+    requires { ⌜ (16 ≤ n) × (n ≤ 240) × Ratio p q ⌝ }
     ensures answer { λ b. ⌜ b ≡ byteAt p q n ⌝ }
 {
     let x = n - BLACK;
-    let mut candidate = from;
+    let mut candidate = LEAST;
     let found = loop {
         if below_half(x, p, q, candidate as u64 - BLACK) {
             break candidate;

@@ -1,12 +1,11 @@
--- `of_pair` meets its contract: a pair's number has one p and one q, and the byte that each call gives is the one at 128. Assumes nothing.
+-- `of_pair` meets its contract: a pair's number has one p and one q. Assumes nothing.
 use mathlib.Core.Path.{_≡_, sym}
 use mathlib.Core.List.{List}
 use Prim.Native.Nat.{ℕ, suc, _+_, _*_, _≤_}
 use native.Mathlib.Omega.{arith}
 use lib.Arith.{lt-of-le-ne}
 use borrow.Author.Needs.{needs}
-use Rattle.rounding.specs.First.{firstFrom}
-use Rattle.adv7194_gamma.specs.Power.{belowHalf, nearestPower, Ratio}
+use Rattle.adv7194_gamma.specs.Power.{Ratio}
 use Rattle.adv7194_gamma.specs.Curve.{bytesOf}
 use Rattle.adv7194_gamma.proofs.of_pair.Statement.{statement}
 use Rattle.adv7194_gamma.proofs.of_pair.Tie as tie
@@ -23,6 +22,9 @@ same p q r k e p' q' r' k' =
 past : {k n : ℕ} → k ≤ n → (n ≡ k → ⊥) → suc k ≤ n
 past h ne = lt-of-le-ne h (λ e. ne (sym e))
 
+returns-2 : tie.Need-returns-2
+returns-2 c = same 1 2 (search needs) (c .before .match .keys2) (c .of-ratio2 .ensures)
+
 -- a pair of none of the numbers named is the last
 returns-9 : tie.Need-returns-9
 returns-9 c p q r k =
@@ -33,7 +35,6 @@ returns-9 c p q r k =
     same 3 3 (search needs) (omega arith) (c .of-ratio9 .ensures) p q r k
 
 pub of-pair-spec : {M : Type 1} → statement M
-unfolding firstFrom belowHalf nearestPower
 of-pair-spec =
     tie.close
     (tie.spec
@@ -47,7 +48,7 @@ of-pair-spec =
     (λ c κs. search needs)
     (λ c κs. search needs)
     (λ c. same 1 1 (search needs) (c .before .match .keys1) (c .of-ratio .ensures))
-    (λ c. same 1 2 (search needs) (c .before .match .keys2) (c .of-ratio2 .ensures))
+    returns-2
     (λ c. same 1 3 (search needs) (c .before .match .keys3) (c .of-ratio3 .ensures))
     (λ c. same 2 1 (search needs) (c .before .match .keys4) (c .of-ratio4 .ensures))
     (λ c. same 2 2 (search needs) (c .before .match .keys5) (c .of-ratio5 .ensures))

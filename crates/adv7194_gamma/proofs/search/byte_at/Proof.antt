@@ -1,17 +1,17 @@
--- `search::byte_from` meets its contract. The loop's invariant: the candidate is not above the byte. Assumes nothing.
+-- `search::byte_at` meets its contract. The loop's invariant: the candidate is not above the byte. Assumes nothing.
 use mathlib.Core.Path.{sym, _∙_}
 use Prim.Native.Nat.{_-_, _≤_, _<_}
 use native.Mathlib.Omega.{arith}
 use Rattle.adv7194_gamma.specs.Curve.{byteAt}
 use Rattle.adv7194_gamma.proofs.Nearest.{bounded, ends, goes-on}
-use Rattle.adv7194_gamma.proofs.search.byte_from.Statement.{statement}
-use Rattle.adv7194_gamma.proofs.search.byte_from.Tie as tie
+use Rattle.adv7194_gamma.proofs.search.byte_at.Statement.{statement}
+use Rattle.adv7194_gamma.proofs.search.byte_at.Tie as tie
 
 abbrev Inv-loop : tie.InvT-loop
-Inv-loop n p q from x b₀ b = (16 ≤ b) × (b ≤ byteAt p q n)
+Inv-loop n p q x b₀ b = (16 ≤ b) × (b ≤ byteAt p q n)
 
 abbrev μ-loop : tie.MeasureT-loop
-μ-loop n p q from x b₀ b = byteAt p q n - b
+μ-loop n p q x b₀ b = byteAt p q n - b
 
 -- where the test fails the candidate is below the byte
 more : (c : tie.Else1 Inv-loop μ-loop) → c .before .before .loop .candidate < byteAt (c .before .before .before .args .p) (c .before .before .before .args .q) (c .before .before .before .args .n)
@@ -41,8 +41,8 @@ returns c =
           (sym (c .before .below-half .ensures) ∙ c .if1 .taken),
     )
 
-pub byte-from-spec : {M : Type 1} → statement M
-byte-from-spec =
+pub byte-at-spec : {M : Type 1} → statement M
+byte-at-spec =
     tie.close
     (tie.spec
     Inv-loop
