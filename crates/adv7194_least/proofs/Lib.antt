@@ -11,4 +11,3 @@ pub mod Nothing
 pub mod WantedBytes
 pub mod SettingsBytes
 pub mod WantedChange
-pub mod PlanCases
