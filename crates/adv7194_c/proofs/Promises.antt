@@ -14,6 +14,8 @@ use Rattle.refusals.specs.Refusal.{numberOf}
 use Rattle.refusals.specs.Verdict.{refusedAt}
 use Rattle.adv7194_bus.specs.Kind.{registerCount}
 use Rattle.adv7194_bus.specs.Address.{addressRight}
+use Rattle.adv7194_settings.specs.Codes.{codesOf}
+use Rattle.adv7194_image.specs.Demand.{Demanded}
 use Rattle.adv7194_numbers.specs.Numbers.{numberCount, settingsFrom}
 use Rattle.adv7194_least.specs.Demands.{Played, Counted, Least, Only, mostBytes}
 use Rattle.adv7194_planning.specs.declared.Planned.{Planned}
@@ -32,10 +34,11 @@ Promises image numbers address plan after r =
     (r ≡ planAnswer (planCall image numbers address (length plan)))
     × ((after ≡ planCallLeft image numbers address plan)
     × ((r .refusal ≡ 0 → Counted (take (r .length) after) (r .length) (r .transactions) (r .«bus_bytes»))
+    × ((r .refusal ≡ 0 → Demanded image (codesOf (settingsFrom numbers)) wanted)
     × ((r .refusal ≡ 0 → Played image wanted (take (r .length) after))
     × ((r .refusal ≡ 0 → Least image wanted (r .transactions) (r .«bus_bytes»))
     × ((r .refusal ≡ 0 → Only image wanted (listOf image (settingsFrom numbers)))
-    × (r .refusal ≡ 10 → length plan < mostBytes))))))
+    × (r .refusal ≡ 10 → length plan < mostBytes)))))))
 
 -- a refusal's number is not that of none
 numbered : (r : Refusal) → numberOf r ≡ 0 → ⊥
@@ -63,7 +66,7 @@ module _ (image : List ℕ) (numbers : List ℤ) (address : ℕ) (plan : List �
   miscounted h =
       let q = choice (eqb (length image) registerCount) (addressRight address) in
       let w = ne-eqb (length numbers) numberCount h in
-      (rw w, (rw w, ((λ e. absurd (q .0 e)), ((λ e. absurd (q .0 e)), ((λ e. absurd (q .0 e)), ((λ e. absurd (q .0 e)), (λ e. absurd (q .1 e))))))))
+      (rw w, (rw w, ((λ e. absurd (q .0 e)), ((λ e. absurd (q .0 e)), ((λ e. absurd (q .0 e)), ((λ e. absurd (q .0 e)), ((λ e. absurd (q .0 e)), (λ e. absurd (q .1 e)))))))))
 
   -- what planning promises of its answer, it promises of the numbers
   pub promised : (after : List ℕ) (p : Planned) → length numbers ≡ numberCount → Clauses image (settingsFrom numbers) address plan after (answerOf p)
@@ -71,7 +74,7 @@ module _ (image : List ℕ) (numbers : List ℤ) (address : ℕ) (plan : List �
   unfolding planCall planCallLeft
   promised after (Done l t b) h c =
       let w = eq-eqb (length numbers) numberCount h in
-      (rw w (ap planAnswer (c .0)), (rw w (c .1 .0), ((λ e. c .1 .1 .0 l t b refl), ((λ e. c .1 .1 .1 .0 l t b refl), ((λ e. c .1 .1 .1 .1 .0 l t b refl), ((λ e. c .1 .1 .1 .1 .1 .0 l t b refl), (λ e. absurd (omega arith))))))))
+      (rw w (ap planAnswer (c .0)), (rw w (c .1 .0), ((λ e. c .1 .1 .0 l t b refl), ((λ e. c .1 .1 .1 .0 l t b refl), ((λ e. c .1 .1 .1 .1 .0 l t b refl), ((λ e. c .1 .1 .1 .1 .1 .0 l t b refl), ((λ e. c .1 .1 .1 .1 .1 .1 .0 l t b refl), (λ e. absurd (omega arith)))))))))
   promised after (Refused r f) h c =
       let w = eq-eqb (length numbers) numberCount h in
-      (rw w (ap planAnswer (c .0)), (rw w (c .1 .0), ((λ e. absurd (numbered r e)), ((λ e. absurd (numbered r e)), ((λ e. absurd (numbered r e)), ((λ e. absurd (numbered r e)), (λ e. c .1 .1 .1 .1 .1 .1 .0 f (ap (λ (n : ℕ). refusedAt n f) e))))))))
+      (rw w (ap planAnswer (c .0)), (rw w (c .1 .0), ((λ e. absurd (numbered r e)), ((λ e. absurd (numbered r e)), ((λ e. absurd (numbered r e)), ((λ e. absurd (numbered r e)), ((λ e. absurd (numbered r e)), (λ e. c .1 .1 .1 .1 .1 .1 .1 .0 f (ap (λ (n : ℕ). refusedAt n f) e)))))))))

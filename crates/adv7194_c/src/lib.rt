@@ -5,6 +5,8 @@ ghost use lib.ListN.{length, take};
 ghost use Rattle.refusals.specs.Refusal.{numberOf};
 ghost use Rattle.unpacking.specs.Indexed.{headerOf, dataAfter};
 ghost use Rattle.adv7194_numbers.specs.Numbers.{settingsFrom};
+ghost use Rattle.adv7194_settings.specs.Codes.{codesOf};
+ghost use Rattle.adv7194_image.specs.Demand.{Demanded};
 ghost use Rattle.adv7194_least.specs.Demands.{Played, Counted, Least, Only, mostBytes};
 ghost use Rattle.adv7194_planning.specs.Rows.{wantedBy, listOf};
 ghost use Rattle.adv7194_playing.specs.Playing.{playOf, playedImage};
@@ -75,6 +77,7 @@ pub extern "C" fn adv7194_plan(
     ensures answer { λ r. ⌜ r ≡ planAnswer (planCall (now (image .entry)) (now (settings .entry)) address (length (now (plan .entry)))) ⌝ }
     ensures memory { λ r. ⌜ now (plan .exit) ≡ planCallLeft (now (image .entry)) (now (settings .entry)) address (now (plan .entry)) ⌝ }
     ensures counted { λ r. ⌜ (r .refusal ≡ 0 → Counted (take (r .length) (now (plan .exit))) (r .length) (r .transactions) (r .«bus_bytes»)) ⌝ }
+    ensures demanded { λ r. ⌜ (r .refusal ≡ 0 → Demanded (now (image .entry)) (codesOf (settingsFrom (now (settings .entry)))) (wantedBy (now (image .entry)) (settingsFrom (now (settings .entry))))) ⌝ }
     ensures played { λ r. ⌜ (r .refusal ≡ 0 → Played (now (image .entry)) (wantedBy (now (image .entry)) (settingsFrom (now (settings .entry)))) (take (r .length) (now (plan .exit)))) ⌝ }
     ensures least { λ r. ⌜ (r .refusal ≡ 0 → Least (now (image .entry)) (wantedBy (now (image .entry)) (settingsFrom (now (settings .entry)))) (r .transactions) (r .«bus_bytes»)) ⌝ }
     ensures only { λ r. ⌜ (r .refusal ≡ 0 → Only (now (image .entry)) (wantedBy (now (image .entry)) (settingsFrom (now (settings .entry)))) (listOf (now (image .entry)) (settingsFrom (now (settings .entry))))) ⌝ }

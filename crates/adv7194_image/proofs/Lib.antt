@@ -1,4 +1,5 @@
 pub mod Table
+pub mod ClearLaws
 pub mod WriteLaws
 pub mod ApartLaws
 pub mod DemandLaws

@@ -1,15 +1,10 @@
 -- A table whose entries are what a definition computes at each place, compared entry by entry. Assumes nothing.
 use mathlib.Core.Path.{_≡_, refl, sym, ap, _∙_}
-use mathlib.Core.List.{List, [], _∷_}
 use Prim.Native.Nat.{ℕ, zero, suc, _+_, _<_}
 use native.Mathlib.Nat.{add-zero, zero-add, add-suc, suc-add}
 use native.Mathlib.Omega.{arith}
 use lib.ListN.{getD}
-
--- what f computes at the n places from k on
-abbrev pub tableFrom : (ℕ → ℕ) → ℕ → ℕ → List ℕ
-tableFrom f k zero = []
-tableFrom f k (suc n) = f k ∷ tableFrom f (suc k) n
+use Rattle.adv7194_image.specs.Masks.{tableFrom}
 
 from : (f : ℕ → ℕ) (k n i : ℕ) → i < n → getD (tableFrom f k n) i 0 ≡ f (k + i)
 from f k zero i h = absurd (omega arith)

@@ -7,6 +7,7 @@ use Prim.Native.Nat.{ℕ, _+_, _<_}
 use lib.Dec.{eqb}
 use lib.ListN.{length, getD}
 use Rattle.bits.specs.Fields.{bit}
+use Rattle.adv7194_bus.specs.Kind.{registerCount}
 use Rattle.adv7194_settings.specs.declared.codes.Signal.{Signal}
 use Rattle.adv7194_settings.specs.declared.codes.Signal.the-variants.{Off, Sent}
 use Rattle.adv7194_settings.specs.declared.codes.Codes.{Codes}
@@ -27,6 +28,6 @@ pub record Demanded (image : List ℕ) (c : Codes) (out : List ℕ) : Type 0 whe
   -- each field is as its coding makes it
   pub fields : AllHeld out (writes c)
   -- must-be-zero bits are zero
-  pub zero : (r i : ℕ) → r < 54 → i < 8 → bit i (zeroMask r) ≡ 1 → bit i (getD out r 0) ≡ 0
+  pub zero : (r i : ℕ) → r < registerCount → i < 8 → bit i (zeroMask r) ≡ 1 → bit i (getD out r 0) ≡ 0
   -- every other bit is as found
-  pub kept : (r i : ℕ) → r < 54 → i < 8 → bit i (fixedMask (c .signal) r) ≡ 0 → bit i (getD out r 0) ≡ bit i (getD image r 0)
+  pub kept : (r i : ℕ) → r < registerCount → i < 8 → bit i (fixedMask (c .signal) r) ≡ 0 → bit i (getD out r 0) ≡ bit i (getD image r 0)

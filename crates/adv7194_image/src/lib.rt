@@ -4,6 +4,6 @@ mod masks;
 mod numbers;
 mod wanted;
 
-pub use masks::field_mask;
+pub use masks::field_masks;
 pub use masks::must_be_zero;
 pub use wanted::want;

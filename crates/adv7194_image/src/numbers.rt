@@ -2,7 +2,7 @@
 ghost use mathlib.Core.Path.{_≡_};
 ghost use Prim.Native.Nat.{_+_, _^_, _≤_, _<_};
 ghost use Rattle.adv7194_image.specs.Writes.{put as putOf, puts};
-ghost use Rattle.adv7194_image.specs.Wanted.{write, timingWrites, TimingFits, outputWrites, OutputFits, pictureWrites, PictureFits, zeroWrites, gainsWrites, GainsFits, modeWrites, ModeFits, standardCode};
+ghost use Rattle.adv7194_image.specs.Wanted.{write, timingWrites, TimingFits, outputWrites, OutputFits, pictureWrites, PictureFits, gainsWrites, GainsFits, modeWrites, ModeFits, standardCode};
 use adv7194_settings::codes::GainsCodes;
 use adv7194_settings::codes::ModeCodes;
 use adv7194_settings::codes::OutputCodes;
@@ -88,12 +88,4 @@ pub fn put_mode(image: &mut [u8; 54], codes: ModeCodes)
     put(image, 0x25, 0, 3, codes.dnr_input);
     put(image, 0x25, 3, 1, codes.dnr_mode);
     put(image, 0x25, 4, 4, codes.block_offset);
-}
-
-// The must-be-zero bits: bit 7 of 21, bits 7-4 of 22.
-pub fn put_zero(image: &mut [u8; 54])
-    ensures answer { λ r. ⌜ now (image .exit) ≡ puts (now (image .entry)) zeroWrites ⌝ }
-{
-    put(image, 0x21, 7, 1, 0);
-    put(image, 0x22, 4, 4, 0);
 }

@@ -12,6 +12,10 @@ use Rattle.packing.specs.Packing.{packed}
 use Rattle.planning.specs.Plan.{Counts, countsOf}
 use Rattle.adv7194_bus.specs.Kind.{registerCount}
 use Rattle.adv7194_settings.specs.declared.settings.Settings.{Settings}
+use Rattle.adv7194_settings.specs.Codes.{codesOf}
+use Rattle.adv7194_image.specs.Demand.{Demanded}
+use Rattle.adv7194_image.proofs.DemandLaws.{demanded}
+use Rattle.adv7194_image.proofs.FitLaws.{codes-fit}
 use Rattle.adv7194_least.specs.Change.{Change}
 use Rattle.adv7194_least.specs.Demands.{Played, Counted, Least, Only, mostBytes}
 use Rattle.adv7194_least.proofs.WantedChange.{settings-change}
@@ -30,11 +34,12 @@ Clauses image s address plan after v =
     (v ≡ planningOf image s address (length plan))
     × ((after ≡ planLeft image s address plan)
     × (((l t b : ℕ) → v ≡ done l t b → Counted (take l after) l t b)
+    × (((l t b : ℕ) → v ≡ done l t b → Demanded image (codesOf s) (wantedBy image s))
     × (((l t b : ℕ) → v ≡ done l t b → Played image (wantedBy image s) (take l after))
     × (((l t b : ℕ) → v ≡ done l t b → Least image (wantedBy image s) t b)
     × (((l t b : ℕ) → v ≡ done l t b → Only image (wantedBy image s) (listOf image s))
     × (((f : ℕ) → v ≡ refusedAt 10 f → length plan < mostBytes)
-    × Judges image s address (length plan) v))))))
+    × Judges image s address (length plan) v)))))))
 
 -- what an answered plan tells: the image has a byte a register, and the numbers are the list's
 record Answered (image : List ℕ) (s : Settings) (v : Verdict Counts) (l t b : ℕ) : Type 0 where
@@ -95,7 +100,12 @@ module _ (image : List ℕ) (s : Settings) (bytes : (r : ℕ) → getD image r 0
       unfolding listOf
       counted = rw (left, answered .size, answered .transactions, answered .cost) (plan-counted image (wantedBy image s) (change (answered .long)))
 
-      -- demand 2
+      -- demand 2: the wanted image, bit by bit
+      pub wanted : Demanded image (codesOf s) (wantedBy image s)
+      unfolding wantedBy
+      wanted = demanded image (codesOf s) (answered .long) (codes-fit s)
+
+      -- and that the plan leads to it
       pub played : Played image (wantedBy image s) (take l after)
       unfolding listOf
       played = rw left (plan-played image (wantedBy image s) (change (answered .long)))
@@ -118,4 +128,4 @@ module _ (image : List ℕ) (s : Settings) (bytes : (r : ℕ) → getD image r 0
 
     -- all that planning promises
     pub clauses : Clauses image s address plan after v
-    clauses = (answer, (memory, (counted, (played, (least, (only, (room, judged)))))))
+    clauses = (answer, (memory, (counted, (wanted, (played, (least, (only, (room, judged))))))))

@@ -1,22 +1,23 @@
--- The registers where settings have bits lie in three parts, and compared part by part they are all where two images differ. Assumes nothing.
-use mathlib.Core.Path.{_≡_, refl, sym, ap, ap₂, _∙_}
-use mathlib.Core.Bool.{Bool, true, false, _&&_, _||_, and-true, and-false}
+-- The registers that have a bit in the table of field masks, compared half by half, are all where two images differ. Assumes nothing.
+use mathlib.Core.Path.{_≡_, refl, sym, ap, ap₂, _∙_, subst}
+use mathlib.Core.Bool.{Bool, true, false, not, _&&_, _||_, and-true, and-false}
 use mathlib.Core.List.{List}
 use Prim.Native.Nat.{ℕ, _+_, _-_, _*_, _%_, _^_, _≤_, _<_}
 use native.Mathlib.Nat.{mod-lt}
 use native.Mathlib.Omega.{arith}
 use lib.Bits.{bitOr}
-use lib.Dec.{T, leb, ltb}
+use lib.Dec.{T, eqb, leb, ltb}
 use lib.ListN.{length, getD, take, drop, List·getD-eq-default}
 use lib.Seq.{getD-take, getD-drop}
 use borrow.Author.Tests.{leb-true, leb-false, ltb-true, ltb-false}
 use Rattle.rounding.proofs.Range.{below, below-at, imp, imp→, T→true}
 use Rattle.bits.specs.Maps.{has}
 use Rattle.bits.proofs.SetLaws.{has-or}
+use Rattle.planning.specs.Registers.{differsIn}
 use Rattle.planning.proofs.ShiftLaws.{has-past, has-shl, has-below}
 use Rattle.planning.proofs.RoundLaws.{span-size}
 use Rattle.adv7194_fields.specs.Fields.{fields, blocks}
-use Rattle.adv7194_image.specs.Masks.{numberMask, blockMask, fieldMask, zeroMask}
+use Rattle.adv7194_image.specs.Masks.{numberMask, blockMask, fieldMask, zeroMask, fieldMasks}
 use Rattle.adv7194_bus.specs.Kind.{registerCount}
 use Rattle.adv7194_least.specs.Change.{settable, Change}
 use Rattle.adv7194_least.specs.Plan.{differs}
@@ -32,35 +33,38 @@ part start end l = take (end - start) (drop start l)
 abbrev inPart : ℕ → ℕ → ℕ → Bool
 inPart start end r = leb start r && ltb r end
 
-module _ {image wanted : List ℕ} (χ : Change image wanted) (start end : ℕ) (ordered : start ≤ end) (ends : end ≤ registerCount) where
-  image-size : length (part start end image) ≡ end - start
-  image-size = span-size image start end ordered (omega (arith, χ .found .size))
+module _ (masks : List ℕ) {image wanted : List ℕ} (table : length masks ≡ registerCount) (χ : Change image wanted) (start end : ℕ) (ordered : start ≤ end) (ends : end ≤ registerCount) where
+  sized : (l : List ℕ) → length l ≡ registerCount → length (part start end l) ≡ end - start
+  sized l e = span-size l start end ordered (omega arith)
 
-  wanted-size : length (part start end wanted) ≡ end - start
-  wanted-size = span-size wanted start end ordered (omega (arith, χ .wants .size))
+  -- the same parts of the table and of two images have one length, of at most 64
+  pub comparable : (length (part start end masks) ≡ length (part start end wanted)) × (length (part start end image) ≡ length (part start end wanted))
+      × (length (part start end wanted) ≤ 64)
+  comparable =
+      let a = sized masks table in
+      let b = sized image (χ .found .size) in
+      let d = sized wanted (χ .wants .size) in
+      (a ∙ sym d, b ∙ sym d, omega arith)
 
-  -- the same parts of two images have one length, of at most 64
-  pub comparable : (length (part start end image) ≡ length (part start end wanted)) × (length (part start end wanted) ≤ 64)
-  comparable = (image-size ∙ sym wanted-size, omega (arith, wanted-size))
-
-  -- m is the map of the registers of a part where two images differ, the part's first register the lowest
-  module _ (m : ℕ) (told : (j : ℕ) → has m j ≡ differs (part start end image) (part start end wanted) j) where
-    within : (j : ℕ) → j < end - start → has m j ≡ differs image wanted (start + j)
+  -- m is the map of the registers of a part that have a bit and where two images differ, the part's first register the lowest
+  module _ (m : ℕ) (told : (j : ℕ) → has m j ≡ differsIn (part start end masks) (part start end image) (part start end wanted) j) where
+    within : (j : ℕ) → j < end - start → has m j ≡ differsIn masks image wanted (start + j)
     within j h =
         let at : (l : List ℕ) → getD (part start end l) j 0 ≡ getD l (start + j) 0 = λ l. getD-take (end - start) (drop start l) j 0 h ∙ getD-drop start l j 0 in
-        told j ∙ rw (at image, at wanted)
+        told j ∙ rw (at masks, at image, at wanted)
 
     past : (j : ℕ) → end - start ≤ j → has m j ≡ false
     past j h =
         let none : (l : List ℕ) → length l ≡ end - start → getD l j 0 ≡ 0 = λ l e. List·getD-eq-default l 0 (omega arith) in
-        told j ∙ rw (none (part start end image) image-size, none (part start end wanted) wanted-size)
+        told j ∙ rw (none (part start end image) (sized image (χ .found .size)), none (part start end wanted) (sized wanted (χ .wants .size)))
+        (and-false (not (eqb (getD (part start end masks) j 0) 0)))
 
     -- the map, moved up to its place
     abbrev up : ℕ
     up = (m * 2 ^ start) % 2 ^ 64
 
     -- it has the registers of the part that differ
-    pub moved : (i : ℕ) → has up i ≡ (inPart start end i && differs image wanted i)
+    pub moved : (i : ℕ) → has up i ≡ (inPart start end i && differsIn masks image wanted i)
     moved i = split (leb start i) refl (ltb i end) refl
       where
         back : start ≤ i → i < 64 → has up i ≡ has m (i - start)
@@ -72,54 +76,68 @@ module _ {image wanted : List ℕ} (χ : Change image wanted) (start end : ℕ) 
         beyond true e l h = back l (ltb-true i 64 e) ∙ past (i - start) (omega arith)
         beyond false e l h = has-past 64 up i (mod-lt (m * 2 ^ start) (omega arith)) (ltb-false i 64 e)
 
-        split : (a : Bool) → leb start i ≡ a → (b : Bool) → ltb i end ≡ b → has up i ≡ ((a && b) && differs image wanted i)
+        split : (a : Bool) → leb start i ≡ a → (b : Bool) → ltb i end ≡ b → has up i ≡ ((a && b) && differsIn masks image wanted i)
         split true p true q =
             let l = leb-true start i p in
             let h = ltb-true i end q in
             let e : start + (i - start) ≡ i = omega arith in
-            back l (omega arith) ∙ within (i - start) (omega arith) ∙ ap (differs image wanted) e
+            back l (omega arith) ∙ within (i - start) (omega arith) ∙ ap (differsIn masks image wanted) e
         split true p false q = beyond (ltb i 64) refl (leb-true start i p) (ltb-false i end q)
         split false p b q = has-below 64 m start i (leb-false start i p) (omega arith)
 
--- ---- all parts
+-- ---- both halves
 
--- whether register r is compared
-abbrev compared : ℕ → Bool
-compared r = (inPart 0x00 0x06 r || inPart 0x0c 0x11 r) || inPart 0x19 0x34 r
+-- whether register r is in one of them
+abbrev inHalf : ℕ → Bool
+inHalf r = inPart 0 0x1b r || inPart 0x1b registerCount r
 
--- every register with a settable bit is
+-- every register that can be set has a bit in the table, and is in one of them
 abbrev comparedTest : ℕ → Bool
-comparedTest r = imp (settable r) (compared r)
+comparedTest r = imp (settable r) (inHalf r && not (eqb (getD fieldMasks r 0) 0))
 
 settable-compared : T (below comparedTest registerCount)
-unfolding settable fieldMask numberMask blockMask fields blocks zeroMask
+unfolding settable fieldMasks fieldMask numberMask blockMask fields blocks zeroMask
 settable-compared = tt
 
--- what is true only in some part is true where it is in one of them
-some-part : (a b c d : Bool) → (d ≡ true → ((a || b) || c) ≡ true) → (((a && d) || (b && d)) || (c && d)) ≡ d
-some-part a b c true f = rw (and-true a, and-true b, and-true c) (f refl)
-some-part a b c false f = rw (and-false a, and-false b, and-false c)
+-- the table has an entry a register
+pub table-size : length fieldMasks ≡ registerCount
+unfolding fieldMasks
+table-size = refl
+
+-- what is true only where a bit is and in a half is true in one of them
+some-half : (a b m d : Bool) → (d ≡ true → ((a || b) && m) ≡ true) → ((a && (m && d)) || (b && (m && d))) ≡ d
+some-half true b true d f = by b d
+  where
+    by : (b d : Bool) → (d || (b && d)) ≡ d
+    by b true = refl
+    by b false = and-false b
+some-half true b false true f = absurd (subst T (sym (f refl)) tt)
+some-half true b false false f = and-false b
+some-half false true m d f = by m d f
+  where
+    by : (m d : Bool) → (d ≡ true → m ≡ true) → (m && d) ≡ d
+    by true d f = refl
+    by false true f = f refl
+    by false false f = refl
+some-half false false m true f = f refl
+some-half false false m false f = refl
 
 module _ (image wanted : List ℕ) (χ : Change image wanted) where
   -- so is every register that differs
-  differs-compared : (i : ℕ) → differs image wanted i ≡ true → compared i ≡ true
+  differs-compared : (i : ℕ) → differs image wanted i ≡ true → (inHalf i && not (eqb (getD fieldMasks i 0) 0)) ≡ true
   differs-compared i d =
       let q = differs-settable image wanted χ i d in
-      T→true (compared i) (imp→ (settable i) (compared i) (below-at comparedTest registerCount settable-compared i (q .0)) (q .1))
+      T→true (inHalf i && not (eqb (getD fieldMasks i 0) 0)) (imp→ (settable i) (inHalf i && not (eqb (getD fieldMasks i 0) 0)) (below-at comparedTest registerCount settable-compared i (q .0)) (q .1))
 
-  -- the three maps in one
-  pub all-parts : (low middle high : ℕ) → low < 2 ^ 64
-      → ((j : ℕ) → has low j ≡ differs (part 0x00 0x06 image) (part 0x00 0x06 wanted) j)
-      → ((j : ℕ) → has middle j ≡ differs (part 0x0c 0x11 image) (part 0x0c 0x11 wanted) j)
-      → ((j : ℕ) → has high j ≡ differs (part 0x19 0x34 image) (part 0x19 0x34 wanted) j)
-      → (i : ℕ) → has (bitOr (bitOr low ((middle * 2 ^ 0x0c) % 2 ^ 64)) ((high * 2 ^ 0x19) % 2 ^ 64)) i ≡ differs image wanted i
-  all-parts low middle high small l m t i =
-      let e : low ≡ (low * 2 ^ 0x00) % 2 ^ 64 = omega arith in
-      has-or (bitOr low ((middle * 2 ^ 0x0c) % 2 ^ 64)) ((high * 2 ^ 0x19) % 2 ^ 64) i
+  -- the two maps in one
+  pub both-halves : (low high : ℕ) → low < 2 ^ 64
+      → ((j : ℕ) → has low j ≡ differsIn (part 0 0x1b fieldMasks) (part 0 0x1b image) (part 0 0x1b wanted) j)
+      → ((j : ℕ) → has high j ≡ differsIn (part 0x1b registerCount fieldMasks) (part 0x1b registerCount image) (part 0x1b registerCount wanted) j)
+      → (i : ℕ) → has (bitOr low ((high * 2 ^ 0x1b) % 2 ^ 64)) i ≡ differs image wanted i
+  both-halves low high small l h i =
+      let e : low ≡ (low * 2 ^ 0) % 2 ^ 64 = omega arith in
+      has-or low ((high * 2 ^ 0x1b) % 2 ^ 64) i
       ∙ ap₂ (λ (x y : Bool). x || y)
-      (has-or low ((middle * 2 ^ 0x0c) % 2 ^ 64) i
-      ∙ ap₂ (λ (x y : Bool). x || y)
-      (ap (λ (x : ℕ). has x i) e ∙ moved χ 0x00 0x06 (omega arith) (omega arith) low l i)
-      (moved χ 0x0c 0x11 (omega arith) (omega arith) middle m i))
-      (moved χ 0x19 0x34 (omega arith) (omega arith) high t i)
-      ∙ some-part (inPart 0x00 0x06 i) (inPart 0x0c 0x11 i) (inPart 0x19 0x34 i) (differs image wanted i) (differs-compared i)
+      (ap (λ (x : ℕ). has x i) e ∙ moved fieldMasks table-size χ 0 0x1b (omega arith) (omega arith) low l i)
+      (moved fieldMasks table-size χ 0x1b registerCount (omega arith) (omega arith) high h i)
+      ∙ some-half (inPart 0 0x1b i) (inPart 0x1b registerCount i) (not (eqb (getD fieldMasks i 0) 0)) (differs image wanted i) (differs-compared i)

@@ -4,19 +4,21 @@ ghost use Prim.Native.Nat.{ℕ, _<_};
 ghost use lib.ListN.{length, take};
 ghost use Rattle.refusals.specs.Verdict.{refusedAt};
 ghost use Rattle.planning.specs.Plan.{packingOf, planAfter};
+ghost use Rattle.adv7194_settings.specs.Codes.{codesOf};
 ghost use Rattle.adv7194_image.specs.Wanted.{wantedOf, CodesFit};
+ghost use Rattle.adv7194_image.specs.Demand.{Demanded};
 ghost use Rattle.adv7194_least.specs.Change.{Change};
 ghost use Rattle.adv7194_least.specs.Plan.{planOf};
 ghost use Rattle.adv7194_least.specs.Demands.{Played, Counted, Least, Only, mostBytes};
 ghost use Rattle.adv7194_planning.specs.Rows.{wantedBy, listOf};
 ghost use Rattle.adv7194_planning.specs.Judges.{Judges};
 ghost use Rattle.adv7194_planning.specs.Planning.{planningOf, planLeft, withoutField, done, answerOf};
-use crate::image::wanted_image;
 use crate::registers::changed_registers;
 use crate::registers::needed_registers;
 use crate::registers::writable_registers;
 use adv7194_bus::REGISTERS;
 use adv7194_bus::address_right;
+use adv7194_image::want;
 use adv7194_settings::Checked;
 use adv7194_settings::check;
 use adv7194_settings::codes::Codes;
@@ -25,7 +27,6 @@ use planning::plan::Packed;
 use planning::plan::pack;
 use refusals::Refusal;
 
-mod image;
 mod registers;
 
 // The field number of a refusal that belongs to no field.
@@ -75,7 +76,7 @@ fn plan_codes(image: &[u8], codes: Codes, plan: &mut [u8]) -> Planned
     ensures answer { λ r. ⌜ answerOf r ≡ withoutField (packingOf (planOf (now (image .entry)) (wantedOf (now (image .entry)) codes)) (length (now (plan .entry)))) ⌝ }
     ensures memory { λ r. ⌜ now (plan .exit) ≡ planAfter (planOf (now (image .entry)) (wantedOf (now (image .entry)) codes)) (now (plan .entry)) ⌝ }
 {
-    let wanted = wanted_image(image, codes);
+    let wanted = want(image, codes);
     plan_change(image, &wanted, plan)
 }
 
@@ -84,6 +85,7 @@ pub fn plan(image: &[u8], settings: Settings, address: u32, plan: &mut [u8]) -> 
     ensures answer { λ r. ⌜ answerOf r ≡ planningOf (now (image .entry)) settings address (length (now (plan .entry))) ⌝ }
     ensures memory { λ r. ⌜ now (plan .exit) ≡ planLeft (now (image .entry)) settings address (now (plan .entry)) ⌝ }
     ensures counted { λ r. ⌜ ((l t b : ℕ) → answerOf r ≡ done l t b → Counted (take l (now (plan .exit))) l t b) ⌝ }
+    ensures demanded { λ r. ⌜ ((l t b : ℕ) → answerOf r ≡ done l t b → Demanded (now (image .entry)) (codesOf settings) (wantedBy (now (image .entry)) settings)) ⌝ }
     ensures played { λ r. ⌜ ((l t b : ℕ) → answerOf r ≡ done l t b → Played (now (image .entry)) (wantedBy (now (image .entry)) settings) (take l (now (plan .exit)))) ⌝ }
     ensures least { λ r. ⌜ ((l t b : ℕ) → answerOf r ≡ done l t b → Least (now (image .entry)) (wantedBy (now (image .entry)) settings) t b) ⌝ }
     ensures only { λ r. ⌜ ((l t b : ℕ) → answerOf r ≡ done l t b → Only (now (image .entry)) (wantedBy (now (image .entry)) settings) (listOf (now (image .entry)) settings)) ⌝ }

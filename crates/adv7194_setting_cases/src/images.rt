@@ -16,28 +16,26 @@ fn registers(image: &[u8; 54]) {
     }
 }
 
-// The lent image becomes the one that settings mean; whether they are accepted.
-fn wanted(numbers: &[i32], image: &mut [u8; 54]) -> bool
+// The bytes of the image that settings mean over one that holds the same byte everywhere; none where they are refused.
+fn wanted(numbers: &[i32], found: u8)
     requires { ⌜ length (now numbers) ≡ 49 ⌝ }
 {
     let checked = adv7194_settings::check(adv7194_numbers::settings_of(numbers));
     let Checked::Good(codes) = checked else {
-        return false;
+        return;
     };
-    adv7194_image::want(image, codes);
-    true
+    let image = [found; 54];
+    let meant = adv7194_image::want(&image, codes);
+    registers(&meant);
 }
 
-// A line with the image that settings mean over one that holds the same byte everywhere.
+// A line with that image.
 fn over(base: &[u8], numbers: &[i32], found: u8)
     requires { ⌜ length (now numbers) ≡ 49 ⌝ }
 {
-    let mut image = [found; 54];
     print::text(b"image ");
     print::text(base);
-    if wanted(numbers, &mut image) {
-        registers(&image);
-    }
+    wanted(numbers, found);
     print::text(b"\n");
 }
 

@@ -1,44 +1,64 @@
--- `registers::changed_registers` meets its contract: each part has what differs in it, and nothing differs outside them. Assumes nothing.
+-- `registers::changed_registers` meets its contract: each half has what differs in it among the registers with a bit, and no other differs. Assumes nothing.
+use mathlib.Core.Path.{ap, _∙_}
+use mathlib.Core.List.{List}
+use Prim.Native.Nat.{ℕ}
 use native.Mathlib.Omega.{arith}
 use borrow.Author.Needs.{needs}
+use lib.ListN.{length, take, drop}
 use denote.Ref.{now}
-use Rattle.adv7194_planning.proofs.ComparedLaws.{comparable, all-parts}
+use Rattle.planning.specs.Registers.{differsIn}
+use Rattle.adv7194_bus.specs.Kind.{registerCount}
+use Rattle.adv7194_planning.proofs.ComparedLaws.{comparable, table-size, both-halves}
 use Rattle.adv7194_planning.proofs.registers.changed_registers.Statement.{statement}
 use Rattle.adv7194_planning.proofs.registers.changed_registers.Tie as tie
 
+differing-requires : tie.Need-differing-requires
+differing-requires c κs =
+    let start = c .before .before .before .before .before .before .before in
+    let masks = c .before .before .before .before .field-masks in
+    comparable (masks .result) (ap length (masks .ensures) ∙ table-size) (start .pre) 0 0x1b (omega arith) (omega arith)
+
+differing-requires-2 : tie.Need-differing-requires-2
+differing-requires-2 c κs =
+    let start = c .before .before .before .before .before .before .before .before .before .before .before .before in
+    let masks = c .before .before .before .before .before .before .before .before .before .field-masks in
+    comparable (masks .result) (ap length (masks .ensures) ∙ table-size) (start .pre) 0x1b registerCount (omega arith) (omega arith)
+
 returns : tie.Need-returns
 returns c =
-    let middle = c .before .before .before in
-    let low = middle .before .before .before in
-    let start = low .before .before .before .before .before in
-    all-parts (now (start .args .image)) (now (start .args .wanted)) (start .pre) (low .differing .result) (middle .differing2 .result) (c .differing3 .result)
-    (search needs) (low .differing .ensures) (middle .differing2 .ensures) (c .differing3 .ensures)
+    let low = c .before .before .before .before .before in
+    let table = low .before .before .before .before .before .field-masks in
+    let start = low .before .before .before .before .before .before .before .before in
+    let image = now (start .args .image) in
+    let wanted = now (start .args .wanted) in
+    both-halves image wanted (start .pre) (low .differing .result) (c .differing2 .result) (search needs)
+    (λ j. low .differing .ensures j ∙ ap (λ (m : List ℕ). differsIn (take 0x1b m) (take 0x1b image) (take 0x1b wanted) j) (table .ensures))
+    (λ j. c .differing2 .ensures j ∙ ap (λ (m : List ℕ). differsIn (take 0x1b (drop 0x1b m)) (take 0x1b (drop 0x1b image)) (take 0x1b (drop 0x1b wanted)) j) (table .ensures))
 
 pub changed-registers-spec : {M : Type 1} → statement M
 changed-registers-spec =
     tie.close
     (tie.spec
+    (λ c κs. search needs)
     (λ c. search needs)
     (λ c. search needs)
     (λ c. search needs)
     (λ c. search needs)
     (λ c. search needs)
     (λ c. search needs)
-    (λ c κs. comparable (c .before .before .before .before .pre) 0x00 0x06 (omega arith) (omega arith))
+    (λ c. search needs)
+    (λ c. search needs)
+    (λ c. search needs)
+    differing-requires
     (λ c. search needs)
     (λ c. search needs)
     (λ c. search needs)
     (λ c. search needs)
     (λ c. search needs)
     (λ c. search needs)
-    (λ c κs. comparable (c .before .before .before .before .before .before .before .pre) 0x0c 0x11 (omega arith) (omega arith))
     (λ c. search needs)
     (λ c. search needs)
     (λ c. search needs)
-    (λ c. search needs)
-    (λ c. search needs)
-    (λ c. search needs)
-    (λ c κs. comparable (c .before .before .before .before .before .before .before .before .before .before .pre) 0x19 0x34 (omega arith) (omega arith))
-    (λ c. search needs)
+    differing-requires-2
     (λ c. search needs)
     returns)

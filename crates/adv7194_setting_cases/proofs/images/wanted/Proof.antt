@@ -13,7 +13,7 @@ want-requires c κs =
     let m = c .before .before in
     let k = m .before .before in
     let s = k .before .settings-of .result in
-    subst CodesFit (accepted-codes s (m .checked .given .0 .0) (sym (k .check .ensures .0) ∙ ap checkedAs (m .checked .given .1))) (codes-fit s)
+    (search needs, subst CodesFit (accepted-codes s (m .checked .given .0 .0) (sym (k .check .ensures .0) ∙ ap checkedAs (m .checked .given .1))) (codes-fit s))
 
 pub wanted-spec : {M : Type 1} → statement M
 wanted-spec =
@@ -24,5 +24,7 @@ wanted-spec =
     (λ c. search needs)
     (λ c. search needs)
     (λ c. search needs)
+    (λ c. search needs)
     want-requires
+    (λ c κs. search needs)
     (λ c. search needs))
