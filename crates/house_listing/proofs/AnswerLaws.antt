@@ -80,7 +80,8 @@ module _ (image plan : List ℕ) where
     within (refusedAt n f) answer = omega arith
 
     -- below the word PLAN the bytes answered are well-formed
-    pub well-formed : (v : Verdict Counts) → v ≡ planningOf image house boardAddress (length plan) → wordOf (firstLine v) ≡ Plan → Accepted (take (packedBytes v) after)
+    pub well-formed : (v : Verdict Counts) → v ≡ planningOf image house boardAddress (length plan) → wordOf (firstLine v) ≡ Plan
+        → Accepted (take (packedBytes v) after)
     well-formed (good n) answer e = rw (unpacked n answer)
     well-formed (refusedAt n f) answer e =
         let w = refused-word n f in
@@ -94,4 +95,5 @@ module _ (image plan : List ℕ) where
     text (good n) answer = planned-text n answer
     text (refusedAt n f) answer =
         let line = refusedLine n f in
-        ap (λ (w : Word). line ++ linesBelow w (listed (unpack (take 0 after)))) (refused-word n f) ∙ append-nil line ∙ ap (answerText (listOf image house)) answer
+        ap (λ (w : Word). line ++ linesBelow w (listed (unpack (take 0 after)))) (refused-word n f)
+        ∙ append-nil line ∙ ap (answerText (listOf image house)) answer

@@ -1,5 +1,5 @@
 -- What the text of the house setting is: an image that isn't 54 bytes is refused, any other is planned; and the text is short. Assumes nothing.
-use mathlib.Core.Path.{_≡_, refl, sym, ap, _∙_}
+use mathlib.Core.Path.{_≡_, refl, ap}
 use mathlib.Core.Bool.{Bool, true, false, xor}
 use mathlib.Core.List.{List}
 use Prim.Native.Nat.{ℕ, _≤_, _^_, _<_}

@@ -1,6 +1,6 @@
 -- The text of a plan: how long it is, and that its parts are written one after the other. Assumes nothing.
-use mathlib.Core.Path.{_≡_, refl, ap, _∙_}
-use mathlib.Core.List.{List, [], _∷_, _++_}
+use mathlib.Core.Path.{_≡_, refl, sym, ap, _∙_}
+use mathlib.Core.List.{List, [], _∷_, _++_, append-assoc, append-nil}
 use Prim.Native.Nat.{ℕ, _+_, _*_, _≤_, _<_}
 use native.Mathlib.Omega.{arith}
 use lib.ListN.{length, set, length-append}
@@ -63,8 +63,15 @@ module _ (out : List ℕ) (at : ℕ) where
   unfolding transactionLine hexByte
   line t h = in-a-row out at (hexByte (t .subaddress)) (dataText (t .bytes)) h
 
-  -- a line, and then the others
-  pub lines : (t : Transaction) (ts : List Transaction) → at + (length (transactionLine t) + length (transactionLines ts)) ≤ length out
-      → appended (appended out at (transactionLine t)) (at + length (transactionLine t)) (transactionLines ts) ≡ appended out at (transactionLines (t ∷ ts))
-  unfolding transactionLines
-  lines t ts h = in-a-row out at (transactionLine t) (transactionLines ts) h
+-- ---- one transaction after the other
+
+pub lines-append : (ts us : List Transaction) → transactionLines (ts ++ us) ≡ transactionLines ts ++ transactionLines us
+unfolding transactionLines
+lines-append [] us = refl
+lines-append (t ∷ ts) us =
+    ap (λ (l : List ℕ). transactionLine t ++ l) (lines-append ts us) ∙ sym (append-assoc (transactionLine t) (transactionLines ts) (transactionLines us))
+
+-- one transaction more
+pub lines-more : (ts : List Transaction) (t : Transaction) → transactionLines ts ++ transactionLine t ≡ transactionLines (ts ++ (t ∷ []))
+unfolding transactionLines
+lines-more ts t = ap (λ (l : List ℕ). transactionLines ts ++ l) (sym (append-nil (transactionLine t))) ∙ sym (lines-append ts (t ∷ []))

@@ -1,23 +1,22 @@
 // The lines of a packed plan: one for each transaction, below a heading.
 ghost use mathlib.Core.Path.{_≡_};
 ghost use mathlib.Core.List.{_++_};
-ghost use Prim.Native.Nat.{_+_, _*_, _≤_, _<_};
+ghost use Prim.Native.Nat.{_+_, _*_, _≤_};
 ghost use lib.ListN.{length};
 ghost use Rattle.bus.specs.Cost.{dataCount};
 ghost use Rattle.unpacking.specs.Unpacking.{unpack};
-ghost use Rattle.unpacking.specs.Places.{Placed};
-ghost use Rattle.unpacking.specs.Ahead.{headed, listed, Accepted};
+ghost use Rattle.unpacking.specs.Ahead.{listed, Accepted};
 ghost use Rattle.text.specs.Line.{placeAfter, appended};
 ghost use Rattle.plan_listing.specs.PlanText.{transactionLine, transactionLines};
 ghost use Rattle.plan_listing.specs.Listing.{listingOf, listingIn, listedAs};
 use refusals::Refusal;
 use text::Place;
 use unpacking::Checked;
-use unpacking::places::FIRST_HELD;
-use unpacking::places::ONE_TRANSACTION;
-use unpacking::places::PlacedHeader;
-use unpacking::places::byte_at;
-use unpacking::places::header_at;
+use unpacking::places::copy_data;
+use unpacking::steps::Order;
+use unpacking::steps::Step;
+use unpacking::steps::begin;
+use unpacking::steps::next;
 
 // The digits of a byte.
 const HEX_DIGITS: usize = 2;
@@ -29,6 +28,8 @@ const COUNT_BITS: usize = 6;
 const HEADER_BITS: usize = 12;
 
 const BYTE_BITS: usize = 8;
+// The most data bytes of a transaction.
+const MOST_DATA: usize = 63;
 
 // What listing answers: the place after the text, that the memory lent is too short, or a refusal.
 pub enum Listed {
@@ -47,25 +48,18 @@ fn data_bytes(plan: &[u8], transactions: u8) -> usize
     plan.len() - (others + BYTE_BITS - 1) / BYTE_BITS
 }
 
-// Writes the line of the transaction whose header was taken, where there is room for it, and answers the place after it.
-fn put_line(out: &mut [u8], at: usize, plan: &[u8], header: PlacedHeader) -> usize
-    requires { ⌜ Placed (now plan) (header .next) × (header .count < 64) × (header .next .at + header .count ≤ length (now plan)) × (at + 3 * (header .count + 1) ≤ length (now out)) ⌝ }
-    ensures answer { λ r. ⌜ r ≡ at + 3 * (header .count + 1) ⌝ }
-    ensures memory { λ r. ⌜ now (out .exit) ≡ appended (now (out .entry)) at (transactionLine (headed (now (plan .entry)) header)) ⌝ }
+// Writes the line of a transaction, where there is room for it, and answers the place after it.
+fn put_line(out: &mut [u8], at: usize, subaddress: u8, bytes: &[u8]) -> usize
+    requires { ⌜ at + 3 * (length (now bytes) + 1) ≤ length (now out) ⌝ }
+    ensures answer { λ r. ⌜ r ≡ at + 3 * (length (now (bytes .entry)) + 1) ⌝ }
+    ensures memory { λ r. ⌜ now (out .exit) ≡ appended (now (out .entry)) at (transactionLine (record { subaddress = subaddress; bytes = now (bytes .entry) })) ⌝ }
 {
-    text::hex_byte(out, at, header.subaddress);
-    let count = header.count;
-    let next = header.next;
+    text::hex_byte(out, at, subaddress);
     let mut end = at + HEX_DIGITS;
-    let mut i: u8 = 0;
-    while i < count {
-        let datum = unpacking::places::Place {
-            at: next.at + i as usize,
-            held: next.held,
-        };
-        let byte = byte_at(plan, datum);
+    let mut i: usize = 0;
+    while i < bytes.len() {
         out[end] = b' ';
-        text::hex_byte(out, end + 1, byte);
+        text::hex_byte(out, end + 1, bytes[i]);
         end += BYTE_TEXT;
         i += 1;
     }
@@ -79,25 +73,24 @@ fn put_lines(out: &mut [u8], at: usize, plan: &[u8]) -> usize
     ensures answer { λ r. ⌜ r ≡ at + length (transactionLines (listed (unpack (now (plan .entry))))) ⌝ }
     ensures memory { λ r. ⌜ now (out .exit) ≡ appended (now (out .entry)) at (transactionLines (listed (unpack (now (plan .entry))))) ⌝ }
 {
-    let transactions = plan[0] / ONE_TRANSACTION;
-    let mut place = unpacking::places::Place {
-        at: 1,
-        held: FIRST_HELD,
-    };
+    let mut cursor = begin(plan, Order::Ascending);
     let mut end = at;
-    let mut lines: u8 = 0;
-    while lines < transactions {
-        let header = header_at(plan, place);
-        let count = header.count;
-        let next = header.next;
-        end = put_line(out, end, plan, header);
-        place = unpacking::places::Place {
-            at: next.at + count as usize,
-            held: next.held,
+    loop {
+        let Step::Transaction {
+            subaddress,
+            count,
+            data,
+            after,
+        } = next(plan, cursor)
+        else {
+            return end;
         };
-        lines += 1;
+        let mut bytes = [0u8; MOST_DATA];
+        copy_data(plan, data, &mut bytes, 0, count);
+        let size = count as usize;
+        end = put_line(out, end, subaddress, &bytes[0..size]);
+        cursor = after;
     }
-    end
 }
 
 // Writes a heading and the lines of a well-formed plan with that many transactions, or nothing where there is no room for all of it.

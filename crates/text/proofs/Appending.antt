@@ -12,7 +12,6 @@ use lib.ListN.{length, take, drop, set, length-append, length-drop, take-append-
 use lib.Seq.{length-take-le, take-at, drop-at, drop-drop, set-split, append-snoc, take-append-seam}
 use borrow.Author.Tests.{le-leb, lt-leb, leb-true, leb-false}
 use Rattle.text.specs.Line.{room, placeAfter, appended}
-use Rattle.text.specs.declared.Place.{Place}
 use Rattle.text.specs.declared.Place.the-variants.{After, TooShort}
 
 -- where the text fits it is written
@@ -143,25 +142,6 @@ short-over line at text e = ⊎-elim within (λ h. h) (room-or-not line at (leng
   where
     within : at + length text ≤ length line → length line < at + length text
     within h = let p = placed line at text h in let z : _≡_ {A = ℕ} 0 1 = cc in absurd (omega arith)
-
-module _ {line : List ℕ} {at : ℕ} {text after : List ℕ} {place : ℕ} (w : Written line at text after place) where
-  -- a further text whose append answered a place
-  pub went-on : (more after' : List ℕ) (place' : ℕ) → placeAfter after place more ≡ After place' → after' ≡ appended after place more
-      → Written line at (text ++ more) after' place'
-  went-on more after' place' e m =
-      let f = after-fits after place more place' e in
-      next w more (omega (arith, f .0, kept w)) m (f .1)
-
-  -- a further text whose append answered that the line is too short: no text that begins with both fits
-  pub stopped : (more rest : List ℕ) → placeAfter after place more ≡ TooShort → length line < at + length (text ++ more ++ rest)
-  stopped more rest e =
-      omega (arith, short-over after place more e, kept w, w .here, length-append (text ++ more) rest, length-append text more)
-
--- the place after two texts in a row is the place after their concatenation
-pub place-in-a-row : (line : List ℕ) (at : ℕ) (first second : List ℕ)
-    → placeAfter (appended line at first) (at + length first) second ≡ placeAfter line at (first ++ second)
-unfolding placeAfter
-place-in-a-row line at first second = rw (length-appended line at first, length-append first second, ← add-assoc at (length first) (length second))
 
 -- a line begins with a text appended at its front
 pub front : (line text : List ℕ) → length text ≤ length line → take (length text) (appended line 0 text) ≡ text

@@ -1,6 +1,6 @@
 -- Document 01, "Cases on each side": counts are decimal numbers, bytes two-digit capital hexadecimal, one space between, each line on its own.
 -- Text is a list of ASCII codes.
-use mathlib.Core.Bool.{Bool, true, false, cond}
+use mathlib.Core.Bool.{cond}
 use mathlib.Core.List.{List, [], _∷_, _++_}
 use Prim.Native.Nat.{ℕ, zero, suc, _+_, _/_, _%_}
 use lib.Dec.{eqb, ltb}

@@ -1,5 +1,5 @@
 -- `first_line` meets its contract: what planning answered decides the line. Assumes nothing.
-use mathlib.Core.Path.{_≡_, sym, ap, _∙_}
+use mathlib.Core.Path.{sym, ap, _∙_}
 use Prim.Native.Nat.{ℕ}
 use borrow.Author.Needs.{needs}
 use Rattle.listing.specs.Lines.{refusedLine}

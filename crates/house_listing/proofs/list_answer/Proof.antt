@@ -6,7 +6,7 @@ use native.Mathlib.Omega.{arith}
 use denote.Enum.Declared.{tagOf}
 use types.Run.{OneOf, miss}
 use borrow.Author.Needs.{needs}
-use Rattle.refusals.specs.Refusal.{Judged, accepted, refused}
+use Rattle.refusals.specs.Refusal.{Judged, accepted}
 use Rattle.bus.specs.Transactions.{Transaction}
 use Rattle.text.specs.declared.Place.{Place}
 use Rattle.text.specs.declared.Place.the-variants.{TooShort}
@@ -51,8 +51,9 @@ returns c =
     let m = p .before .before in
     let a = start (m .before) .args in
     let ts = listed (unpack (a .plan .now)) in
-    let e : a .line .now ≡ textBelow (a .line .now) ts =
-    sym (ap (λ (l : List ℕ). a .line .now ++ l) (ap (λ (w : Word). linesBelow w ts) (sym (m .before .first-word .ensures)) ∙ alone (m .before .first-word .result) ts (m .match .keys2)) ∙ append-nil (a .line .now)) in
+    let none : linesBelow (wordOf (a .line .now)) ts ≡ [] =
+    ap (λ (w : Word). linesBelow w ts) (sym (m .before .first-word .ensures)) ∙ alone (m .before .first-word .result) ts (m .match .keys2) in
+    let e : a .line .now ≡ textBelow (a .line .now) ts = sym (ap (λ (l : List ℕ). a .line .now ++ l) none ∙ append-nil (a .line .now)) in
     (p .append .ensures .0 ∙ ap (placeAfter (a .out .now) 0) e, p .append .ensures .1 ∙ ap (appended (a .out .now) 0) e)
 
 -- the line's word is PLAN, so the plan is well-formed and its lines follow

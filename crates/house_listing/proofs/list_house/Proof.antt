@@ -37,7 +37,8 @@ answered c =
 left : (c : tie.After-plan) → c .plan .last .1 .1 .1 .0 ≡ planLeft (start c .args .image .now) house boardAddress (start c .args .plan .now)
 left c =
     let a = start c .args in
-    subst (λ (s : Settings). c .plan .last .1 .1 .1 .0 ≡ planLeft (a .image .now) s boardAddress (a .plan .now)) (c .before .before .house .ensures) (c .plan .ensures .1 .0)
+    subst (λ (s : Settings). c .plan .last .1 .1 .1 .0 ≡ planLeft (a .image .now) s boardAddress (a .plan .now))
+    (c .before .before .house .ensures) (c .plan .ensures .1 .0)
 
 -- the image's bytes are bytes
 bytes : (c : tie.After-plan) (r : ℕ) → getD (start c .args .image .now) r 0 < 2 ^ 8

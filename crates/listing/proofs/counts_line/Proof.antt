@@ -1,5 +1,5 @@
 -- `counts_line` meets its contract: the word and the two numbers in a row are the line. Assumes nothing.
-use mathlib.Core.Path.{_≡_, sym, ap, ap₂, _∙_}
+use mathlib.Core.Path.{_≡_, ap, ap₂, _∙_}
 use mathlib.Core.List.{List, _++_, append-assoc}
 use Prim.Native.Nat.{ℕ, _+_, _-_, _≤_}
 use native.Mathlib.Nat.{zero-add}
@@ -65,15 +65,21 @@ first-written c =
     let w = word-written p in
     let more = decimal (a .a) ++ space in
     let long = length-append (decimal (a .a)) space in
-    next w more (omega (arith, first-few p, start p .pre, w .here, length-zeros lineWidth)) (c .put-number .ensures .1) (omega (arith, c .put-number .ensures .0))
+    next w more (omega (arith, first-few p, start p .pre, w .here, length-zeros lineWidth))
+    (c .put-number .ensures .1) (omega (arith, c .put-number .ensures .0))
+
+-- then there is room for the second
+second-room : (c : tie.After-put-number) → c .put-number .result + (length (decimal (start (before-first c) .args .b)) + 1) ≤ lineWidth
+second-room c =
+    let p = before-first c in
+    let a = start p .args in
+    let long = length-append (a .word .now) (decimal (a .a) ++ space) in
+    omega (arith, first-few p, second-few p, start p .pre, first-written c .here, long, length-append (decimal (a .a)) space)
 
 put-number-requires-2 : tie.Need-put-number-requires-2
 put-number-requires-2 c κs =
     let f = c .before .before in
-    let p = before-first f in
-    let a = start p .args in
-    let w = first-written f in
-    omega (arith, first-few p, second-few p, start p .pre, w .here, kept w, length-zeros lineWidth, length-append (a .word .now) (decimal (a .a) ++ space), length-append (decimal (a .a)) space)
+    omega (arith, second-room f, kept (first-written f), length-zeros lineWidth)
 
 returns : tie.Need-returns
 returns c =
@@ -85,9 +91,7 @@ returns c =
     let more = decimal (a .b) ++ lineEnd in
     let long = length-append (decimal (a .b)) lineEnd in
     let after : s .put-number2 .result ≡ f .put-number .result + length more = omega (arith, s .put-number2 .ensures .0) in
-    let all = next w more
-    (omega (arith, first-few p, second-few p, start p .pre, w .here, length-zeros lineWidth, length-append (a .word .now) (decimal (a .a) ++ space), length-append (decimal (a .a)) space))
-    (s .put-number2 .ensures .1) after in
+    let all = next w more (omega (arith, second-room f, length-zeros lineWidth)) (s .put-number2 .ensures .1) after in
     front _ _ _ all ∙ ap lineOf (regroup (a .word .now) (a .a) (a .b))
 
 pub counts-line-spec : {M : Type 1} → statement M

@@ -1,5 +1,5 @@
 -- `first_word` meets its contract: the words are compared in turn. Assumes nothing.
-use mathlib.Core.Path.{_≡_, sym, _∙_}
+use mathlib.Core.Path.{sym, _∙_}
 use borrow.Author.Needs.{needs}
 use Rattle.listing.specs.Written.{wordOf}
 use Rattle.listing.proofs.first_word.Statement.{statement}

@@ -1,12 +1,12 @@
 -- `data_bytes` meets its contract: a well-formed plan is the packing of its list, and has that many bytes. Assumes nothing.
-use mathlib.Core.Path.{_≡_, ap, _∙_}
-use Prim.Native.Nat.{ℕ, _+_, _-_, _*_, _/_, _≤_}
+use mathlib.Core.Path.{_≡_, ap}
+use Prim.Native.Nat.{_+_, _-_, _*_, _/_}
 use native.Mathlib.Omega.{arith}
 use lib.ListN.{length}
 use borrow.Author.Needs.{needs}
-use Rattle.bus.specs.Transactions.{Transaction, busBytes}
 use Rattle.bus.specs.Cost.{dataCount}
 use Rattle.bus.proofs.CostLaws.{bytes-count}
+use Rattle.packing.specs.Packing.{behind}
 use Rattle.packing.proofs.PackedLaws.{packed-length}
 use Rattle.unpacking.specs.Ahead.{listed}
 use Rattle.unpacking.specs.Unpacking.{unpack}
@@ -19,7 +19,7 @@ all : (c : tie.Start) → length (c .args .plan .now) ≡ dataCount (listed (unp
 all c =
     let plan = c .args .plan .now in
     let ts = listed (unpack plan) in
-    omega (arith, ap length (unpacks-packed plan ts (c .pre .0) .1), packed-length ts, bytes-count ts, c .pre .1)
+    omega (arith, ap length (unpacks-packed behind plan ts (c .pre .0) .1), packed-length ts, bytes-count ts, c .pre .1)
 
 returns : tie.Need-returns
 returns c = (omega (arith, all c), omega (arith, all c))

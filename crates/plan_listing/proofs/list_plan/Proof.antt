@@ -1,6 +1,7 @@
 -- `list_plan` meets its contract: what the check finds decides between the refusal and the text. Assumes nothing.
 use mathlib.Core.Path.{_≡_, sym, ap, _∙_}
 use mathlib.Core.List.{List}
+use Prim.Native.Nat.{ℕ}
 use borrow.Author.Needs.{needs}
 use Rattle.refusals.specs.Refusal.{Judged, accepted, numberOf}
 use Rattle.bus.specs.Transactions.{Transaction}
@@ -11,6 +12,14 @@ use Rattle.plan_listing.specs.Listing.{listingOf, listingIn}
 use Rattle.plan_listing.proofs.list_plan.Statement.{statement}
 use Rattle.plan_listing.proofs.list_plan.Tie as tie
 
+-- what listing answers and leaves of the same judgement
+module _ (heading out : List ℕ) {j k : Judged (List Transaction)} (e : j ≡ k) where
+  answer-of : listingOf heading j out ≡ listingOf heading k out
+  answer-of = ap (λ (x : Judged (List Transaction)). listingOf heading x out) e
+
+  left-of : listingIn heading j out ≡ listingIn heading k out
+  left-of = ap (λ (x : Judged (List Transaction)). listingIn heading x out) e
+
 -- a refusal, which leaves the memory
 returns : tie.Need-returns
 returns c =
@@ -19,7 +28,7 @@ returns c =
     let a = k .before .before .before .before .args in
     let plan = a .plan .now in
     let e = refused-list (unpack plan) (numberOf (r .refusal .given .0 .0)) (sym (k .check .ensures) ∙ ap answerOf (r .refusal .given .1)) in
-    (sym (ap (λ (j : Judged (List Transaction)). listingOf (a .heading .now) j (a .out .now)) e), sym (ap (λ (j : Judged (List Transaction)). listingIn (a .heading .now) j (a .out .now)) e))
+    (sym (answer-of (a .heading .now) (a .out .now) e), sym (left-of (a .heading .now) (a .out .now) e))
 
 -- where the function was entered
 abbrev start : tie.After-transactions → tie.Start
@@ -44,8 +53,8 @@ returns-2 c =
     let p = e .before .before .before .before in
     let t = p .before .before .before in
     let a = start t .args in (
-      ap accepted (sym (e .end .given .1) ∙ p .put-plan .ensures .0) ∙ sym (ap (λ (j : Judged (List Transaction)). listingOf (a .heading .now) j (a .out .now)) (list t)),
-      p .put-plan .ensures .1 ∙ sym (ap (λ (j : Judged (List Transaction)). listingIn (a .heading .now) j (a .out .now)) (list t)),
+      ap accepted (sym (e .end .given .1) ∙ p .put-plan .ensures .0) ∙ sym (answer-of (a .heading .now) (a .out .now) (list t)),
+      p .put-plan .ensures .1 ∙ sym (left-of (a .heading .now) (a .out .now) (list t)),
     )
 
 returns-3 : tie.Need-returns-3
@@ -53,8 +62,8 @@ returns-3 c =
     let p = c .before .before .before .before in
     let t = p .before .before .before in
     let a = start t .args in (
-      ap accepted (sym (c .enum-told .given .1) ∙ p .put-plan .ensures .0) ∙ sym (ap (λ (j : Judged (List Transaction)). listingOf (a .heading .now) j (a .out .now)) (list t)),
-      p .put-plan .ensures .1 ∙ sym (ap (λ (j : Judged (List Transaction)). listingIn (a .heading .now) j (a .out .now)) (list t)),
+      ap accepted (sym (c .enum-told .given .1) ∙ p .put-plan .ensures .0) ∙ sym (answer-of (a .heading .now) (a .out .now) (list t)),
+      p .put-plan .ensures .1 ∙ sym (left-of (a .heading .now) (a .out .now) (list t)),
     )
 
 pub list-plan-spec : {M : Type 1} → statement M

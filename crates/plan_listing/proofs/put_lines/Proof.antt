@@ -1,36 +1,28 @@
--- `put_lines` meets its contract: what is left to write ends where the whole text does. Assumes nothing.
-use mathlib.Core.Path.{_≡_, refl, sym, ap, ap₂, _∙_}
-use mathlib.Core.List.{List, []}
-use Prim.Native.Nat.{ℕ, _+_, _-_, _^_, _≤_, _<_}
+-- `put_lines` meets its contract: it is a walk that writes the line of each transaction. Assumes nothing.
+use mathlib.Core.Path.{_≡_, refl, sym, ap, _∙_, subst}
+use mathlib.Core.List.{List}
+use Prim.Native.Nat.{ℕ, _+_, _-_, _*_, _≤_}
 use native.Mathlib.Omega.{arith}
-use lib.ListN.{length, getD, length-append}
+use lib.ListN.{length, take}
+use borrow.Author.Needs.{needs}
+use Rattle.bits.proofs.ByteLaws.{firstBytes-length}
+use Rattle.bits.specs.Strings.{firstBytes}
 use Rattle.bus.specs.Transactions.{Transaction}
-use Rattle.unpacking.specs.declared.places.Place.{Place}
-use Rattle.unpacking.specs.Ahead.{Ahead, listed}
-use Rattle.unpacking.specs.Unpacking.{unpack}
-use Rattle.unpacking.proofs.Walk.{ahead-long}
-use Rattle.unpacking.proofs.PlanLaws.{Next, next-of, Begun, begun, passed, none-left, accepted-long, accepted-count, accepted-ahead, wide, turn-fits, turn-less}
+use Rattle.unpacking.specs.declared.steps.Step.{Step}
+use Rattle.unpacking.specs.Places.{leftAt}
+use Rattle.unpacking.proofs.StepLaws.{Went, Stepped, stepped}
 use Rattle.text.specs.Line.{appended}
-use Rattle.text.proofs.Appending.{length-appended, nothing}
+use Rattle.text.proofs.Appending.{kept}
 use Rattle.plan_listing.specs.PlanText.{transactionLine, transactionLines}
-use Rattle.plan_listing.proofs.TextLaws.{line-length, lines}
+use Rattle.plan_listing.proofs.WalkLaws.{Listing, listing-begins, data-copied, all-passed, line-room, listing-goes}
 use Rattle.plan_listing.proofs.put_lines.Statement.{statement}
 use Rattle.plan_listing.proofs.put_lines.Tie as tie
 
--- the transactions still to come, the room for their lines, and what writing them ends in
-record Inv (out₀ : List ℕ) (at : ℕ) (plan : List ℕ) (transactions : ℕ) (out : List ℕ) (place : Place) (end i : ℕ) : Type 0 where
-  ts : List Transaction
-  ahead : Ahead plan place [] ts
-  turns : i + length ts ≡ transactions
-  kept : length out ≡ length out₀
-  here : end + length (transactionLines ts) ≡ at + length (transactionLines (listed (unpack plan)))
-  goes : appended out₀ at (transactionLines (listed (unpack plan))) ≡ appended out end (transactionLines ts)
-
 abbrev Inv-loop : tie.InvT-loop
-Inv-loop out₀ at plan transactions place₀ end₀ i₀ out place end i = Inv out₀ at plan transactions out place end i
+Inv-loop out₀ at plan cursor₀ end₀ out cursor end = Listing out₀ at plan out cursor end
 
 abbrev μ-loop : tie.MeasureT-loop
-μ-loop out₀ at plan transactions place₀ end₀ i₀ out place end i = transactions - i
+μ-loop out₀ at plan cursor₀ end₀ out cursor end = cursor .left
 
 -- where the function was entered
 abbrev start : tie.At-loop Inv-loop μ-loop → tie.Start Inv-loop μ-loop
@@ -39,102 +31,72 @@ start c = c .before .before .before .before
 abbrev plan-at : tie.At-loop Inv-loop μ-loop → List ℕ
 plan-at c = start c .args .plan .now
 
--- the first byte is one
-byte : (c : tie.After-shared-slice-known2 Inv-loop μ-loop) → getD (c .before .before .before .args .plan .now) 0 0 < 2 ^ 8
-byte c = c .shared-slice-known2 .given 0 .fits
-
 loop-holds : tie.Need-loop-holds Inv-loop μ-loop
 loop-holds c =
-    let s = c .before .before .before in
-    let plan = s .args .plan .now in
-    record { ts = listed (unpack plan); ahead = accepted-ahead plan (s .pre .0); turns = omega (arith, accepted-count plan (s .pre .0) (byte c)); kept = refl; here = refl; goes = refl }
+    let k = c .before in
+    let s = k .before .before in
+    listing-begins (s .args .out .now) (s .args .plan .now) (s .args .at) (c .begin .result) (c .begin .ensures)
+    (λ i. k .shared-slice-known .given i .fits) (omega (arith, s .pre .1))
 
--- the transaction of this turn
-turn : (c : tie.In-loop Inv-loop μ-loop) → Next (plan-at (c .before)) (c .before .loop .place) (c .before .loop .inv .ts)
-turn c =
-    let l = c .before .loop in
-    next-of (plan-at (c .before)) (l .place) (l .inv .ts) (l .inv .ahead) (omega (arith, c .loop-test .taken, l .inv .turns))
-
-header-at-requires : tie.Need-header-at-requires Inv-loop μ-loop
-header-at-requires c κs =
-    let n = turn c in
-    (n .ahead .placed, ahead-long (plan-at (c .before)) (c .before .loop .place) (n .first) (n .others) (n .ahead))
-
--- its header
-header : (c : tie.After-header-at Inv-loop μ-loop)
-    → Begun (plan-at (c .before .before)) (c .header-at .result) (turn (c .before) .first) (turn (c .before) .others)
-header c =
-    let l = c .before .before .loop in
-    begun (plan-at (c .before .before)) (l .place) (l .inv .ts) (turn (c .before)) (c .header-at .result) (c .header-at .ensures)
-
--- there is room for its line and the others
-room : (c : tie.In-loop Inv-loop μ-loop)
-    → c .before .loop .end + (length (transactionLine (turn c .first)) + length (transactionLines (turn c .others))) ≤ length (c .before .loop .out)
-unfolding transactionLines
-room c =
-    let v = c .before .loop .inv in
-    let n = turn c in
-    omega (arith, v .here, v .kept, start (c .before) .pre .1, ap (λ (ts : List Transaction). length (transactionLines ts)) (n .is), length-append (transactionLine (n .first)) (transactionLines (n .others)))
-
-put-line-requires : tie.Need-put-line-requires Inv-loop μ-loop
-put-line-requires c κs =
-    let h = c .before .before in
-    let b = header h in
-    (b .ahead .placed, b .small, b .long, omega (arith, room (h .before), line-length (turn (h .before) .first), b .count))
-
--- the header of a turn that ends
-abbrev ended : tie.After-struct-known Inv-loop μ-loop → tie.After-header-at Inv-loop μ-loop
-ended c = c .before .before .before .before .before .before
-
-add-t17 : tie.Need-add-t17 Inv-loop μ-loop
-add-t17 c = record { fits = omega (arith, header (ended c) .long, start (ended c .before .before) .good .1 .1 .0 .0) }
-
-add-lines : tie.Need-add-lines Inv-loop μ-loop
-add-lines c =
-    let i = ended c .before in
-    record { fits = turn-fits (i .loop-test .taken) (omega (arith, byte (i .before .before))) }
-
-loop-again : tie.Need-loop-again Inv-loop μ-loop
-unfolding transactionLines
-loop-again c =
-    let p = c .before .before .before in
-    let h = ended c in
-    let i = h .before in
-    let l = i .before .loop in
-    let v = l .inv in
-    let n = turn i in
-    let b = header h in
-    let first = transactionLine (n .first) in
-    let others = transactionLines (n .others) in
-    let written : p .put-line .last .0 ≡ appended (l .out) (l .end) first =
-    p .put-line .ensures .1 ∙ ap (λ (t : Transaction). appended (l .out) (l .end) (transactionLine t)) (b .transaction) in
-    let after : p .put-line .result ≡ l .end + length first = omega (arith, p .put-line .ensures .0, line-length (n .first), b .count) in
-    let is = ap (λ (ts : List Transaction). length (transactionLines ts)) (n .is) in
-    record {
-      ts = n .others;
-      ahead = passed (plan-at (i .before)) (h .header-at .result) (n .first) (n .others) b;
-      turns = omega (arith, v .turns, ap length (n .is));
-      kept = ap length written ∙ length-appended (l .out) (l .end) first ∙ v .kept;
-      here = omega (arith, v .here, is, length-append first others);
-      goes = v .goes ∙ ap (λ (ts : List Transaction). appended (l .out) (l .end) (transactionLines ts)) (n .is) ∙ sym (lines (l .out) (l .end) (n .first) (n .others) (room i))
-          ∙ ap₂ (λ (o : List ℕ) (k : ℕ). appended o k others) (sym written) (sym after);
-    }
-
-same-length : tie.Need-same-length Inv-loop μ-loop
-same-length c = c .before .loop .inv .kept
+-- what the step says
+said : (c : tie.After-next Inv-loop μ-loop) (r : Step) → c .next .result ≡ r → Stepped (plan-at (c .before)) (c .before .loop .cursor) r
+said c r e =
+    let plan = plan-at (c .before) in
+    let cursor = c .before .loop .cursor in
+    subst (Stepped plan cursor) (sym (c .next .ensures) ∙ e) (stepped plan cursor)
 
 returns : tie.Need-returns Inv-loop μ-loop
-unfolding transactionLines
 returns c =
-    let l = c .before .loop in
-    let v = l .inv in
-    let none = none-left (v .ts) (omega (arith, c .loop-test .left, v .turns)) in
-    let here : l .end ≡ start (c .before) .args .at + length (transactionLines (listed (unpack (plan-at (c .before))))) =
-    omega (arith, v .here, ap (λ (ts : List Transaction). length (transactionLines ts)) none) in (
-      here,
-      sym (v .goes ∙ ap (λ (ts : List Transaction). appended (l .out) (l .end) (transactionLines ts)) none
-          ∙ nothing (l .out) (l .end) (omega (arith, v .kept, start (c .before) .pre .1))),
+    let n = c .before in
+    let l = n .before .loop in
+    let s = start (n .before) in
+    let w = l .inv .written in
+    let all = all-passed (l .inv) (s .pre .0) (s .pre .1) (n .next .result) (c .match .keys2) (said n (n .next .result) refl) in (
+      w .here ∙ ap (λ (ts : List Transaction). s .args .at + length (transactionLines ts)) (sym all),
+      w .memory ∙ ap (λ (ts : List Transaction). appended (s .args .out .now) (s .args .at) (transactionLines ts)) (sym all),
     )
+
+-- the transaction that was found
+went : (c : tie.After-subaddress Inv-loop μ-loop)
+    → Went (plan-at (c .before .before .before)) (c .before .before .before .loop .cursor) (c .subaddress .given .0 .0) (c .subaddress .given .0 .1 .0)
+    (c .subaddress .given .0 .1 .1 .0) (c .subaddress .given .0 .1 .1 .1 .0)
+went c = said (c .before .before) _ (c .subaddress .given .1)
+
+-- its data were copied
+abbrev found : tie.After-copy-data Inv-loop μ-loop → tie.After-subaddress Inv-loop μ-loop
+found c = c .before .before .before
+
+copied : (c : tie.After-copy-data Inv-loop μ-loop) → (let g = found c .subaddress .given .0 in
+    (take (g .1 .0 - 0) (c .copy-data .last .1 .1 .0) ≡ firstBytes (g .1 .0) (leftAt (plan-at (found c .before .before .before)) (g .1 .1 .0)))
+    × (g .1 .0 ≤ length (c .copy-data .last .1 .1 .0)))
+copied c = data-copied (went (found c)) (c .copy-data .last .1 .1 .0) (c .copy-data .ensures)
+
+-- there is room for its line
+room : (c : tie.After-copy-data Inv-loop μ-loop) → (let l = found c .before .before .before .loop in
+    l .end + 3 * (found c .subaddress .given .0 .1 .0 + 1) ≤ length (l .out))
+room c =
+    let a = found c .before .before .before in
+    let s = start a in
+    omega (arith, line-room (a .loop .inv) (s .pre .0) (s .pre .1) (went (found c)), kept (a .loop .inv .written))
+
+-- the data copied are as many as the header says
+as-many : (c : tie.After-copy-data Inv-loop μ-loop) → (let n = found c .subaddress .given .0 .1 .0 in length (take (n - 0) (c .copy-data .last .1 .1 .0)) ≡ n)
+as-many c = ap length (copied c .0) ∙ firstBytes-length _ _
+
+put-line-requires : tie.Need-put-line-requires Inv-loop μ-loop
+put-line-requires c κs = let d = c .before .before .before .before in omega (arith, room d, as-many d)
+
+loop-again : tie.Need-loop-again Inv-loop μ-loop
+loop-again c =
+    let p = c .before .before in
+    let d = p .before .before .before .before .before in
+    let f = found d in
+    let a = f .before .before .before in
+    let s = start a in
+    let line : List ℕ → List ℕ = λ bs. transactionLine (record { subaddress = f .subaddress .given .0 .0; bytes = bs }) in
+    listing-goes (a .loop .inv) (s .pre .0) (s .pre .1) (went f) (p .put-line .last .0) (p .put-line .result)
+    (p .put-line .ensures .1 ∙ ap (λ (bs : List ℕ). appended (a .loop .out) (a .loop .end) (line bs)) (copied d .0))
+    (omega (arith, p .put-line .ensures .0, as-many d))
 
 pub put-lines-spec : {M : Type 1} → statement M
 put-lines-spec =
@@ -142,14 +104,18 @@ put-lines-spec =
     (tie.spec
     Inv-loop
     μ-loop
-    (λ c. let s = c .before .before .before in accepted-long (s .args .plan .now) (s .pre .0))
+    (λ c κs. search needs)
     loop-holds
-    header-at-requires
+    (λ c κs. search needs)
+    (λ c. search needs)
+    (λ c. kept (c .before .before .loop .inv .written))
+    returns
+    (λ c. refl)
+    (λ c κs. search needs)
+    (λ c. record { fits = omega (arith, went (found (c .before)) .few) })
+    (λ c. omega arith)
+    (λ c. omega arith)
+    (λ c. copied (c .before .before .before) .1)
     put-line-requires
-    (λ c. record { fits = wide (header (c .before .before .before .before .before) .small) })
-    add-t17
-    add-lines
-    (λ c. turn-less (ended c .before .loop-test .taken))
-    loop-again
-    same-length
-    returns)
+    (λ c. omega (arith, went (found (c .before .before .before .before .before .before .before)) .left))
+    loop-again)

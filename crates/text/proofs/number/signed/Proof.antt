@@ -1,7 +1,6 @@
 -- `signed` meets its contract: the part appended is the digits of the magnitude, with the sign before them where the number is negative.
 use mathlib.Core.Path.{sym, ap, _∙_, subst}
 use mathlib.Core.Bool.{true, false}
-use mathlib.Core.List.{_∷_}
 use Prim.Native.Nat.{ℕ, _^_, _<_}
 use native.Mathlib.Omega.{arith}
 use lib.Dec.{T}
