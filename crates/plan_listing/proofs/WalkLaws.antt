@@ -1,14 +1,12 @@
 -- A walk through a well-formed plan that writes the line of each transaction. Assumes nothing.
-use mathlib.Core.Path.{_≡_, refl, ap, ap₂, _∙_, subst}
-use mathlib.Core.Bool.{Bool, true, cond, _&&_}
+use mathlib.Core.Path.{_≡_, ap, ap₂, _∙_, subst}
 use mathlib.Core.List.{List, [], _∷_, _++_}
 use mathlib.Core.Logic.{⊎-elim}
-use Prim.Native.Nat.{ℕ, suc, _+_, _-_, _*_, _^_, _≤_, _<_}
+use Prim.Native.Nat.{ℕ, _+_, _-_, _*_, _^_, _≤_, _<_}
 use native.Mathlib.Nat.{sub-zero}
 use native.Mathlib.Omega.{arith}
-use lib.ListN.{length, take, drop, set, getD, length-append}
-use lib.Seq.{sets, sets-eq, take-at}
-use borrow.Author.Tests.{le-leb}
+use lib.ListN.{length, take, drop, getD, length-append}
+use lib.Seq.{sets-eq, take-at}
 use denote.Enum.Declared.{tagOf}
 use types.Run.{OneOf, miss}
 use Rattle.refusals.specs.Refusal.{Judged, refused}
@@ -21,12 +19,12 @@ use Rattle.unpacking.specs.declared.steps.Cursor.{Cursor}
 use Rattle.unpacking.specs.declared.steps.Step.{Step}
 use Rattle.unpacking.specs.declared.steps.Step.the-variants.{Transaction as Found, End, Fault}
 use Rattle.unpacking.specs.Unpacking.{unpack}
-use Rattle.unpacking.specs.Places.{leftAt, overwritten, dataFit, dataCopied}
-use Rattle.unpacking.specs.Steps.{beginning}
+use Rattle.unpacking.specs.Places.{leftAt, dataCopied}
+use Rattle.unpacking.specs.Steps.{beginning, transactionAt}
 use Rattle.unpacking.specs.Ahead.{listed, Accepted}
 use Rattle.unpacking.proofs.steps.Step.{the-type}
-use Rattle.unpacking.proofs.PlaceLaws.{placed-inside}
-use Rattle.unpacking.proofs.StepLaws.{transactionAt, Went, Stepped}
+use Rattle.unpacking.proofs.PlaceLaws.{data-copied}
+use Rattle.unpacking.proofs.StepLaws.{Went, Stepped}
 use Rattle.unpacking.proofs.Walking.{Walked, walk-begins, walk-goes, walk-ends, walk-fails, walk-so-far}
 use Rattle.text.specs.Line.{zeros, appended}
 use Rattle.text.proofs.Appending.{Written, begun, next}
@@ -48,26 +46,17 @@ listing-begins out plan at c e bytes h = record { done = []; walked = rw e (walk
 
 -- ---- the data of a transaction that was found
 
--- data stored one after the other
-stores : (l : List ℕ) (i : ℕ) (bs : List ℕ) → overwritten l i bs ≡ sets l i bs
-unfolding overwritten
-stores l i [] = refl
-stores l i (b ∷ bs) = stores (set l i b) (suc i) bs
-
 module _ {plan : List ℕ} {c : Cursor} {subaddress count : ℕ} {first : Place} {after : Cursor} (g : Went plan c subaddress count first after) where
   -- its data, copied to the front of zeros, of which there are enough for any
-  pub data-copied : (copy : List ℕ) → copy ≡ dataCopied plan first (zeros 63) 0 count
+  pub data-in-front : (copy : List ℕ) → copy ≡ dataCopied plan first (zeros 63) 0 count
       → (take (count - 0) copy ≡ firstBytes count (leftAt plan first)) × (count ≤ length copy)
-  data-copied copy e =
+  data-in-front copy e =
       let bytes = zeros 63 in
       let h = length-zeros 63 in
       let ds = firstBytes count (leftAt plan first) in
       let long = firstBytes-length count (leftAt plan first) in
-      let fit : dataFit plan first bytes 0 count ≡ true =
-      ap₂ (λ (x y : Bool). x && y) (placed-inside plan first (g .placed))
-      (ap₂ (λ (x y : Bool). x && y) (le-leb (first .at + count) (length plan) (g .room)) (le-leb (0 + count) (length bytes) (omega (arith, g .few)))) in
       let stored : copy ≡ ds ++ drop (0 + length ds) bytes =
-      e ∙ ap (λ (b : Bool). cond b (overwritten bytes 0 ds) bytes) fit ∙ stores bytes 0 ds ∙ sets-eq ds bytes 0 (omega (arith, g .few)) in
+      e ∙ data-copied plan first bytes 0 count (g .placed) (g .room) (omega (arith, g .few)) ∙ sets-eq ds bytes 0 (omega (arith, g .few)) in
       let rest = drop (0 + length ds) bytes in
       (ap₂ take (sub-zero count) stored ∙ take-at ds rest count long, omega (arith, ap length stored, length-append ds rest))
 

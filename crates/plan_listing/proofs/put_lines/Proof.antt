@@ -14,7 +14,7 @@ use Rattle.unpacking.proofs.StepLaws.{Went, Stepped, stepped}
 use Rattle.text.specs.Line.{appended}
 use Rattle.text.proofs.Appending.{kept}
 use Rattle.plan_listing.specs.PlanText.{transactionLine, transactionLines}
-use Rattle.plan_listing.proofs.WalkLaws.{Listing, listing-begins, data-copied, all-passed, line-room, listing-goes}
+use Rattle.plan_listing.proofs.WalkLaws.{Listing, listing-begins, data-in-front, all-passed, line-room, listing-goes}
 use Rattle.plan_listing.proofs.put_lines.Statement.{statement}
 use Rattle.plan_listing.proofs.put_lines.Tie as tie
 
@@ -69,7 +69,7 @@ found c = c .before .before .before
 copied : (c : tie.After-copy-data Inv-loop μ-loop) → (let g = found c .subaddress .given .0 in
     (take (g .1 .0 - 0) (c .copy-data .last .1 .1 .0) ≡ firstBytes (g .1 .0) (leftAt (plan-at (found c .before .before .before)) (g .1 .1 .0)))
     × (g .1 .0 ≤ length (c .copy-data .last .1 .1 .0)))
-copied c = data-copied (went (found c)) (c .copy-data .last .1 .1 .0) (c .copy-data .ensures)
+copied c = data-in-front (went (found c)) (c .copy-data .last .1 .1 .0) (c .copy-data .ensures)
 
 -- there is room for its line
 room : (c : tie.After-copy-data Inv-loop μ-loop) → (let l = found c .before .before .before .loop in
