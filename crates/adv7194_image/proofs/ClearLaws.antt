@@ -2,7 +2,7 @@
 use mathlib.Core.Path.{_≡_, refl, sym, ap, _∙_}
 use mathlib.Core.Bool.{Bool, true, false, cond}
 use mathlib.Core.List.{List}
-use Prim.Native.Nat.{ℕ, _+_, _-_, _%_, _^_, _≤_, _<_}
+use Prim.Native.Nat.{ℕ, _+_, _-_, _≤_, _<_}
 use native.Mathlib.Omega.{arith}
 use native.Mathlib.Nat.{mod-eq-of-lt}
 use lib.Arith.{lt-of-le-ne}
@@ -81,7 +81,8 @@ pub none-cleared : (image : List ℕ) → Cleared image image 0
 none-cleared image = record { size = refl; passed = λ r h. absurd (omega arith); left = λ r h. refl }
 
 -- one more
-pub one-cleared : {image out : List ℕ} {n : ℕ} → Cleared image out n → getD out n 0 < 256 → Cleared image (set out n (bitAnd (getD out n 0) (255 - zeroMask n))) (n + 1)
+pub one-cleared : {image out : List ℕ} {n : ℕ} → Cleared image out n → getD out n 0 < 256
+    → Cleared image (set out n (bitAnd (getD out n 0) (255 - zeroMask n))) (n + 1)
 one-cleared {image} {out} {n} k h = record { size = length-set out n new ∙ k .size; passed = passed; left = left }
   where
     new : ℕ
@@ -117,7 +118,8 @@ all-cleared {image} {out} {n} k h =
     once = set image 0x21 one
 
     others : (r : ℕ) → n ≤ r → getD image r 0 ≡ getD (puts image zeroWrites) r 0
-    others r past = sym (getD-set-other once 0x22 r (withField 4 4 (getD once 0x22 0) 0) 0 (λ e. omega arith) ∙ getD-set-other image 0x21 r one 0 (λ e. omega arith))
+    others r past =
+        sym (getD-set-other once 0x22 r (withField 4 4 (getD once 0x22 0) 0) 0 (λ e. omega arith) ∙ getD-set-other image 0x21 r one 0 (λ e. omega arith))
 
     by : (r : ℕ) (b : Bool) → ltb r n ≡ b → getD out r 0 ≡ getD (puts image zeroWrites) r 0
     by r true e = k .passed r (ltb-true r n e)

@@ -1,7 +1,7 @@
 -- The equation that the code computes is demand 2's image, bit by bit. Assumes nothing.
 use mathlib.Core.Path.{_≡_, refl, sym, ap, _∙_, subst}
-use mathlib.Core.Bool.{Bool, true, false, cond, _&&_, _||_, not}
-use mathlib.Core.Logic.{_⊎_, inl, inr}
+use mathlib.Core.Bool.{Bool, true, false, cond, _||_, not}
+use mathlib.Core.Logic.{inl, inr}
 use mathlib.Core.List.{List, [], _∷_, _++_}
 use Prim.Native.Nat.{ℕ, _+_, _-_, _^_, _≤_, _<_}
 use native.Mathlib.Omega.{arith}
@@ -9,7 +9,7 @@ use lib.Dec.{T, eqb, eqb→eq}
 use lib.ListN.{length, getD}
 use borrow.Author.Tests.{eq-eqb}
 use Rattle.bits.specs.Fields.{bit}
-use Rattle.rounding.proofs.Range.{below, below-at, imp, imp→, T→true}
+use Rattle.rounding.proofs.Range.{below, below-at, imp, imp→}
 use Rattle.adv7194_fields.specs.Fields.{fields, blocks}
 use Rattle.adv7194_gamma.specs.Answer.{bytesIn}
 use Rattle.adv7194_settings.specs.declared.codes.Signal.{Signal}

@@ -5,7 +5,6 @@ use Prim.Native.Nat.{ℕ, _+_, _/_, _%_, _^_, _<_}
 use Rattle.adv7194_fields.specs.Fields.{Field, fields}
 use Rattle.adv7194_subcarrier.specs.declared.Standard.{Standard}
 use Rattle.adv7194_subcarrier.specs.declared.Standard.the-variants.{Ntsc, Pal}
-use Rattle.adv7194_gamma.specs.declared.Points.{Points}
 use Rattle.adv7194_gamma.specs.Answer.{bytesIn}
 use Rattle.adv7194_settings.specs.declared.codes.Signal.{Signal}
 use Rattle.adv7194_settings.specs.declared.codes.Signal.the-variants.{Off, Sent}

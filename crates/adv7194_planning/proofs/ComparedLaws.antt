@@ -1,6 +1,6 @@
 -- The registers that have a bit in the table of field masks, compared half by half, are all where two images differ. Assumes nothing.
 use mathlib.Core.Path.{_≡_, refl, sym, ap, ap₂, _∙_, subst}
-use mathlib.Core.Bool.{Bool, true, false, not, _&&_, _||_, and-true, and-false}
+use mathlib.Core.Bool.{Bool, true, false, not, _&&_, _||_, and-false}
 use mathlib.Core.List.{List}
 use Prim.Native.Nat.{ℕ, _+_, _-_, _*_, _%_, _^_, _≤_, _<_}
 use native.Mathlib.Nat.{mod-lt}
@@ -33,7 +33,8 @@ part start end l = take (end - start) (drop start l)
 abbrev inPart : ℕ → ℕ → ℕ → Bool
 inPart start end r = leb start r && ltb r end
 
-module _ (masks : List ℕ) {image wanted : List ℕ} (table : length masks ≡ registerCount) (χ : Change image wanted) (start end : ℕ) (ordered : start ≤ end) (ends : end ≤ registerCount) where
+module _ (masks : List ℕ) {image wanted : List ℕ} (table : length masks ≡ registerCount) (χ : Change image wanted)
+    (start end : ℕ) (ordered : start ≤ end) (ends : end ≤ registerCount) where
   sized : (l : List ℕ) → length l ≡ registerCount → length (part start end l) ≡ end - start
   sized l e = span-size l start end ordered (omega arith)
 
@@ -50,7 +51,8 @@ module _ (masks : List ℕ) {image wanted : List ℕ} (table : length masks ≡ 
   module _ (m : ℕ) (told : (j : ℕ) → has m j ≡ differsIn (part start end masks) (part start end image) (part start end wanted) j) where
     within : (j : ℕ) → j < end - start → has m j ≡ differsIn masks image wanted (start + j)
     within j h =
-        let at : (l : List ℕ) → getD (part start end l) j 0 ≡ getD l (start + j) 0 = λ l. getD-take (end - start) (drop start l) j 0 h ∙ getD-drop start l j 0 in
+        let at : (l : List ℕ) → getD (part start end l) j 0 ≡ getD l (start + j) 0 =
+        λ l. getD-take (end - start) (drop start l) j 0 h ∙ getD-drop start l j 0 in
         told j ∙ rw (at masks, at image, at wanted)
 
     past : (j : ℕ) → end - start ≤ j → has m j ≡ false
@@ -91,9 +93,13 @@ module _ (masks : List ℕ) {image wanted : List ℕ} (table : length masks ≡ 
 abbrev inHalf : ℕ → Bool
 inHalf r = inPart 0 0x1b r || inPart 0x1b registerCount r
 
--- every register that can be set has a bit in the table, and is in one of them
+-- whether it has a bit in the table
+abbrev hasField : ℕ → Bool
+hasField r = not (eqb (getD fieldMasks r 0) 0)
+
+-- every register that can be set is in one of them and has a bit
 abbrev comparedTest : ℕ → Bool
-comparedTest r = imp (settable r) (inHalf r && not (eqb (getD fieldMasks r 0) 0))
+comparedTest r = imp (settable r) (inHalf r && hasField r)
 
 settable-compared : T (below comparedTest registerCount)
 unfolding settable fieldMasks fieldMask numberMask blockMask fields blocks zeroMask
@@ -124,10 +130,11 @@ some-half false false m false f = refl
 
 module _ (image wanted : List ℕ) (χ : Change image wanted) where
   -- so is every register that differs
-  differs-compared : (i : ℕ) → differs image wanted i ≡ true → (inHalf i && not (eqb (getD fieldMasks i 0) 0)) ≡ true
+  differs-compared : (i : ℕ) → differs image wanted i ≡ true → (inHalf i && hasField i) ≡ true
   differs-compared i d =
       let q = differs-settable image wanted χ i d in
-      T→true (inHalf i && not (eqb (getD fieldMasks i 0) 0)) (imp→ (settable i) (inHalf i && not (eqb (getD fieldMasks i 0) 0)) (below-at comparedTest registerCount settable-compared i (q .0)) (q .1))
+      T→true (inHalf i && hasField i)
+      (imp→ (settable i) (inHalf i && hasField i) (below-at comparedTest registerCount settable-compared i (q .0)) (q .1))
 
   -- the two maps in one
   pub both-halves : (low high : ℕ) → low < 2 ^ 64
@@ -140,4 +147,4 @@ module _ (image wanted : List ℕ) (χ : Change image wanted) where
       ∙ ap₂ (λ (x y : Bool). x || y)
       (ap (λ (x : ℕ). has x i) e ∙ moved fieldMasks table-size χ 0 0x1b (omega arith) (omega arith) low l i)
       (moved fieldMasks table-size χ 0x1b registerCount (omega arith) (omega arith) high h i)
-      ∙ some-half (inPart 0 0x1b i) (inPart 0x1b registerCount i) (not (eqb (getD fieldMasks i 0) 0)) (differs image wanted i) (differs-compared i)
+      ∙ some-half (inPart 0 0x1b i) (inPart 0x1b registerCount i) (hasField i) (differs image wanted i) (differs-compared i)

@@ -1,6 +1,5 @@
 -- `blocks::put_curve` meets its contract: a byte after the other. Assumes nothing.
 use Prim.Native.Nat.{_+_}
-use mathlib.Core.Path.{_≡_, sym, ap, _∙_, subst}
 use borrow.Author.Needs.{needs}
 use Rattle.adv7194_image.specs.Writes.{put, puts}
 use Rattle.adv7194_image.specs.Wanted.{write, byteWrites}

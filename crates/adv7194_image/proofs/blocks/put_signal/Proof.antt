@@ -1,5 +1,4 @@
 -- `blocks::put_signal` meets its contract: three bytes, or the four bits of off. Assumes nothing.
-use mathlib.Core.Path.{_≡_, ap, _∙_}
 use borrow.Author.Needs.{needs}
 use Rattle.adv7194_image.specs.Writes.{puts}
 use Rattle.adv7194_image.specs.Wanted.{write, byteWrites}

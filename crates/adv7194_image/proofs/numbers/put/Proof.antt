@@ -1,5 +1,4 @@
 -- `numbers::put` meets its contract. Assumes nothing.
-use mathlib.Core.Path.{_≡_}
 use borrow.Author.Needs.{needs}
 use Rattle.adv7194_image.proofs.numbers.put.Statement.{statement}
 use Rattle.adv7194_image.proofs.numbers.put.Tie as tie

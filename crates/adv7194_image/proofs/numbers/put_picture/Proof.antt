@@ -1,5 +1,4 @@
 -- `numbers::put_picture` meets its contract: one write after the other. Assumes nothing.
-use mathlib.Core.Path.{_≡_, sym, ap, _∙_, subst}
 use borrow.Author.Needs.{needs}
 use Rattle.adv7194_image.specs.Writes.{put, puts}
 use Rattle.adv7194_image.specs.Wanted.{write}

@@ -3,7 +3,7 @@ use Prim.Native.Nat.{ℕ, _<_}
 use native.Mathlib.Omega.{arith}
 use Rattle.adv7194_subcarrier.specs.declared.Standard.{Standard}
 use Rattle.adv7194_subcarrier.specs.declared.Standard.the-variants.{Ntsc, Pal}
-use mathlib.Core.Path.{_≡_, sym, ap, _∙_, subst}
+use mathlib.Core.Path.{sym, ap, _∙_, subst}
 use borrow.Author.Needs.{needs}
 use Rattle.adv7194_image.specs.Writes.{put, puts}
 use Rattle.adv7194_image.specs.Wanted.{write, standardCode}

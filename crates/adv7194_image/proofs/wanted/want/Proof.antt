@@ -14,9 +14,12 @@ use Rattle.adv7194_image.proofs.DemandLaws.{demanded}
 use Rattle.adv7194_image.proofs.wanted.want.Statement.{statement}
 use Rattle.adv7194_image.proofs.wanted.want.Tie as tie
 
--- where the image is copied, from where all is written; and where the function was entered
+-- from where all is written: where fields 1 to 4 were, where the image was copied, and where the function was entered
+abbrev timed : tie.After-put-signal → tie.After-put-timing
+timed c = c .before .before .before .before .before .before .before .before .before .before .before .before .before .before .before .before .before .before
+
 abbrev copy : tie.After-put-signal → tie.After-copied
-copy c = c .before .before .before .before .before .before .before .before .before .before .before .before .before .before .before .before .before .before .before .before .before .before .before .before .before .before .before
+copy c = timed c .before .before .before .before .before .before .before .before .before
 
 abbrev start : tie.After-put-signal → tie.Start
 start c = copy c .before .before

@@ -33,7 +33,9 @@ returns c =
     let wanted = now (start .args .wanted) in
     both-halves image wanted (start .pre) (low .differing .result) (c .differing2 .result) (search needs)
     (λ j. low .differing .ensures j ∙ ap (λ (m : List ℕ). differsIn (take 0x1b m) (take 0x1b image) (take 0x1b wanted) j) (table .ensures))
-    (λ j. c .differing2 .ensures j ∙ ap (λ (m : List ℕ). differsIn (take 0x1b (drop 0x1b m)) (take 0x1b (drop 0x1b image)) (take 0x1b (drop 0x1b wanted)) j) (table .ensures))
+    (λ j.
+    c .differing2 .ensures j
+    ∙ ap (λ (m : List ℕ). differsIn (take 0x1b (drop 0x1b m)) (take 0x1b (drop 0x1b image)) (take 0x1b (drop 0x1b wanted)) j) (table .ensures))
 
 pub changed-registers-spec : {M : Type 1} → statement M
 changed-registers-spec =

@@ -1,9 +1,7 @@
 -- `images::registers` is safe and ends: the place stays within the image. Assumes nothing.
-use mathlib.Core.Path.{_≡_}
-use Prim.Native.Nat.{_≤_, _-_, _<_}
+use Prim.Native.Nat.{_≤_, _-_}
 use native.Mathlib.Omega.{arith}
 use borrow.Author.Needs.{needs}
-use lib.ListN.{length}
 use Rattle.adv7194_setting_cases.proofs.images.registers.Statement.{statement}
 use Rattle.adv7194_setting_cases.proofs.images.registers.Tie as tie
 
