@@ -48,6 +48,7 @@ fn good_plans() {
     play(54, 84, 84, b"\x04\xA1\xE8\x28\x68\xA8\xE9\x29\x69\x80");
     // Two transactions that touch end to start.
     play(54, 84, 84, b"\x09\xD0\x80\x40\x9F\x04\x0C");
+    play(54, 84, 84, b"\x09\xD0\xA0\x20\x5F\x06\x08");
     // The last register.
     play(54, 84, 84, b"\x07\x50\x5D\xC0");
     // Up to 33.
@@ -74,8 +75,10 @@ fn badly_packed() {
     play(54, 84, 84, b"\x06\x00\x00");
     // Descending starts.
     play(54, 84, 84, b"\x0A\x00\x40\x5D\x04\x08");
+    play(54, 84, 84, b"\x0A\x00\x65\xDD\x06\x00");
     // Overlapping.
     play(54, 84, 84, b"\x09\xD0\x80\x40\x9E\x04\x0C");
+    play(54, 84, 84, b"\x09\xD0\xA0\x20\x5E\x06\x08");
     // The same start.
     play(54, 84, 84, b"\x0A\x00\x40\x60\x04\x08");
 }

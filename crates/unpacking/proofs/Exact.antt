@@ -1,5 +1,5 @@
 -- Packing and unpacking are inverse: a plan is accepted with ts exactly when ts is well-formed and the plan is its packing. Assumes nothing.
-use mathlib.Core.Path.{_≡_, refl, sym, ap, ap₂, _∙_, subst}
+use mathlib.Core.Path.{_≡_, refl, sym, ap, ap₂, _∙_, subst, subst⁻¹}
 use mathlib.Core.Bool.{Bool, true, false, cond, _&&_}
 use mathlib.Core.List.{List, [], _∷_, _++_, append-assoc}
 use mathlib.Core.Logic.{_↔_}
@@ -9,6 +9,7 @@ use lib.Dec.{T, leb, ltb, le→leb, lt→ltb, leb→le, ltb→lt}
 use lib.ListN.{length, take, drop, getD, replicate, take-append-drop, length-append}
 use borrow.Author.Tests.{le-leb, lt-leb}
 use Rattle.bits.specs.Strings.{msbFirst, byteBits}
+use Rattle.bits.specs.Bytes.{sameBytes}
 use Rattle.bits.proofs.StringLaws.{msb-length}
 use Rattle.bits.proofs.ByteLaws.{byteBits-length, byteBits-bytesOf}
 use Rattle.bus.specs.Transactions.{Transaction, Every, end}
@@ -16,10 +17,9 @@ use Rattle.refusals.specs.Refusal.{Judged, accepted, refused}
 use Rattle.packing.specs.Packing.{listBits, packedBits, packed, encodable, behind, anywhere, arranged, wellFormedBy}
 use Rattle.packing.proofs.FillLaws.{filled-bytes}
 use Rattle.unpacking.specs.Unpacking.{UnpacksBy, packs, packs-none, number, candidate, unpackBy, unpack, counted}
-use Rattle.bits.specs.Bytes.{sameBytes}
-use Rattle.bits.proofs.SameLaws.{same-bytes, same-refl}
 use Rattle.bits.proofs.FlagLaws.{both, first, second, same-test, holds}
-use Rattle.unpacking.proofs.Tests.{Encodable, encodable-facts, encodable-from}
+use Rattle.bits.proofs.SameLaws.{same-bytes, same-self}
+use Rattle.unpacking.proofs.Tests.{encodable-facts}
 use Rattle.unpacking.proofs.FrontLaws.{number-front, rest-front, number-lt, number-bits}
 use Rattle.unpacking.proofs.Reader.{valid, sound, complete, named-length}
 
@@ -39,11 +39,6 @@ packed-bits ts =
       few = omega arith;
       bits = byteBits-bytesOf (packedBits ts) ∙ append-assoc (msbFirst 6 (length ts)) (listBits ts) (replicate ((length (packedBits ts) + 7) / 8 * 8 - length (packedBits ts)) false);
     }
-
--- how many transactions a judgement by a test has
-counted-cond : (b : Bool) (ts : List Transaction) → counted (cond b (accepted ts) (refused 9)) ≡ cond b (accepted (length ts)) (refused 9)
-counted-cond true ts = refl
-counted-cond false ts = refl
 
 -- next gives the first register that a transaction may start at, by the end of the one before it
 module _ (next : ℕ → ℕ) where
@@ -73,7 +68,7 @@ module _ (next : ℕ → ℕ) where
   unfolding unpackBy
   packed-unpacks ts h =
       let e = candidate-packed ts h in
-      rw e (ap (λ (b : Bool). cond b (accepted ts) (refused 9)) (holds (wellFormedBy next ts && sameBytes (packed ts) (packed ts)) (both (wellFormedBy next ts) (sameBytes (packed ts) (packed ts)) h (same-refl (packed ts)))))
+      rw e (ap (λ (b : Bool). cond b (accepted ts) (refused 9)) (holds (wellFormedBy next ts && sameBytes (packed ts) (packed ts)) (both (wellFormedBy next ts) (sameBytes (packed ts) (packed ts)) h (subst⁻¹ T (same-self (packed ts)) tt))))
 
   -- packing what was unpacked gives the bytes again
   pub unpacks-packed : (plan : List ℕ) (ts : List Transaction) → unpackBy next plan ≡ accepted ts → T (wellFormedBy next ts) × (plan ≡ packed ts)
@@ -170,29 +165,12 @@ module _ (next : ℕ → ℕ) where
       from : T (validPlan plan) → T (wellFormedBy next us && sameBytes plan (packed us))
       from h =
           let p = packed-valid plan bytes h in
-          both (wellFormedBy next us) (sameBytes plan (packed us)) (p .0) (subst (λ (l : List ℕ). T (sameBytes plan l)) (p .1) (same-refl plan))
+          both (wellFormedBy next us) (sameBytes plan (packed us)) (p .0) (subst (λ (l : List ℕ). T (sameBytes plan l)) (p .1) (subst⁻¹ T (same-self plan) tt))
 
   -- what the reader finds is what unpacking answers
   pub read-plan : (plan : List ℕ) → ((i : ℕ) → getD plan i 0 < 2 ^ 8) → unpackBy next plan ≡ cond (validPlan plan) (accepted (candidate plan)) (refused 9)
   unfolding unpackBy
   read-plan plan bytes = ap (λ (b : Bool). cond b (accepted (candidate plan)) (refused 9)) (agree plan bytes)
-
-  -- what the code answers: the reader's test, with the plan's first number
-  pub judged-count : (plan : List ℕ) → ((i : ℕ) → getD plan i 0 < 2 ^ 8) → counted (unpackBy next plan) ≡ cond (validPlan plan) (accepted (number 6 (byteBits plan))) (refused 9)
-  unfolding unpackBy
-  judged-count plan bytes =
-      counted-cond (wellFormedBy next (candidate plan) && sameBytes plan (packed (candidate plan))) (candidate plan)
-      ∙ ap₂ (λ (b : Bool) (n : ℕ). cond b (accepted n) (refused 9)) (agree plan bytes) (named-length (number 6 (byteBits plan)) (drop 6 (byteBits plan)))
-
-  -- a plan with no bytes is refused
-  pub no-plan : (plan : List ℕ) → length plan ≡ 0 → validPlan plan ≡ false
-  unfolding validPlan
-  no-plan plan h = ap (λ (b : Bool). b && valid next (number 6 (byteBits plan)) 0 (drop 6 (byteBits plan))) (lt-leb 6 (length (byteBits plan)) (omega (arith, byteBits-length plan)))
-
-  -- of a plan with bytes the reader asks what its first number says
-  pub first-number : (plan : List ℕ) → 0 < length plan → validPlan plan ≡ valid next (number 6 (byteBits plan)) 0 (drop 6 (byteBits plan))
-  unfolding validPlan
-  first-number plan h = ap (λ (b : Bool). b && valid next (number 6 (byteBits plan)) 0 (drop 6 (byteBits plan))) (le-leb 6 (length (byteBits plan)) (omega (arith, byteBits-length plan)))
 
 -- ascending transactions that lie in so many registers are no more than those
 few-within : (registers free : ℕ) (ts : List Transaction) → free ≤ registers → T (arranged behind free ts) → Every (λ t. end t ≤ registers) ts → length ts + free ≤ registers
@@ -210,21 +188,4 @@ unfolding wellFormedBy
 round-trip registers h ts o e = (
   packed-unpacks behind ts (both (ltb (length ts) 64) (arranged behind 0 ts) (lt→ltb (length ts) 64 (omega (arith, few-within registers 0 ts (omega arith) o e))) o),
   λ plan p. sym (unpacks-packed behind plan ts p .1),
-)
-
--- transactions that the packing can hold are arranged, where any order and overlap are allowed
-anywhere-arranged : (ts : List Transaction) → Every Encodable ts → T (arranged anywhere 0 ts)
-unfolding arranged
-anywhere-arranged [] e = tt
-anywhere-arranged (t ∷ ts) e =
-    both (leb 0 (t .subaddress)) (encodable t && arranged anywhere 0 ts) (le→leb 0 (t .subaddress) (omega arith))
-    (both (encodable t) (arranged anywhere 0 ts) (encodable-from t (e .0)) (anywhere-arranged ts (e .1)))
-
--- so they come back from their packing, and whatever unpacks to them is it
-pub round-trip-anywhere : (ts : List Transaction) → length ts < 64 → Every Encodable ts
-    → (unpackBy anywhere (packed ts) ≡ accepted ts) × ((plan : List ℕ) → unpackBy anywhere plan ≡ accepted ts → packed ts ≡ plan)
-unfolding wellFormedBy
-round-trip-anywhere ts few e = (
-  packed-unpacks anywhere ts (both (ltb (length ts) 64) (arranged anywhere 0 ts) (lt→ltb (length ts) 64 few) (anywhere-arranged ts e)),
-  λ plan p. sym (unpacks-packed anywhere plan ts p .1),
 )

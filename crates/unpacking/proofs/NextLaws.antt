@@ -2,17 +2,15 @@
 use mathlib.Core.Path.{_≡_, ap, ap₂, _∙_}
 use mathlib.Core.Bool.{Bool, true, false, cond}
 use mathlib.Core.List.{List}
-use Prim.Native.Nat.{ℕ, suc, _+_, _*_}
-use native.Mathlib.Omega.{arith}
+use Prim.Native.Nat.{ℕ, suc, _+_}
 use Rattle.bits.proofs.FlagLaws.{fails}
 use Rattle.unpacking.specs.declared.places.Place.{Place}
 use Rattle.unpacking.specs.declared.places.PlacedHeader.{PlacedHeader}
 use Rattle.unpacking.specs.declared.steps.Order.{Order}
 use Rattle.unpacking.specs.declared.steps.Cursor.{Cursor}
-use Rattle.unpacking.specs.declared.steps.Step.{Step}
-use Rattle.unpacking.specs.declared.steps.Step.the-variants.{Transaction, End, Fault}
+use Rattle.unpacking.specs.declared.steps.Step.the-variants.{End, Fault}
 use Rattle.unpacking.specs.Places.{taken, placeAfter, leftAt, TookHeaderAt, inside}
-use Rattle.unpacking.specs.Steps.{startAfter, filling, subaddressIn, countIn, inFront, firstAt, stepAt, nextOf}
+use Rattle.unpacking.specs.Steps.{filling, inFront, foundAt, firstAt, stepAt, nextOf}
 use Rattle.unpacking.proofs.Reader.{Front, front-facts}
 
 module _ (plan : List ℕ) (c : Cursor) where
@@ -48,16 +46,7 @@ module _ (plan : List ℕ) (c : Cursor) where
 
 -- the transaction of a header that was taken
 pub header-first : (plan : List ℕ) (p : Place) (r : PlacedHeader) (n : ℕ) (order : Order) → TookHeaderAt plan p r
-    → Transaction (r .subaddress) (r .count) (r .next)
-    (record { place = record { at = r .next .at + r .count; held = r .next .held }; left = n; free = startAfter order (r .subaddress + r .count); order = order })
-    ≡ firstAt p n order (leftAt plan p)
+    → foundAt (r .subaddress) (r .count) (r .next) n order ≡ firstAt p n order (leftAt plan p)
 header-first plan p r n order h =
-    let bs = leftAt plan p in
-    let k = countIn bs in
-    let d = placeAfter (taken p + 12) in
-    let found : ℕ → ℕ → Place → Place → Step = λ s k d a. Transaction s k d (record { place = a; left = n; free = startAfter order (s + k); order = order }) in
-    let on : Place → ℕ → Place = λ d k. record { at = d .at + k; held = d .held } in
-    let past : on d k ≡ placeAfter (taken p + 12 + k * 8) = ap₂ (λ (x y : ℕ). record { at = x; held = y }) (omega arith) (omega arith) in
-    ap (λ (d : Place). found (r .subaddress) (r .count) d (on d (r .count))) (h .next)
-    ∙ ap₂ (λ (s k : ℕ). found s k d (on d k)) (h .subaddress) (h .count)
-    ∙ ap (found (subaddressIn bs) k d) past
+    ap (λ (d : Place). foundAt (r .subaddress) (r .count) d n order) (h .next)
+    ∙ ap₂ (λ (s k : ℕ). foundAt s k (placeAfter (taken p + 12)) n order) (h .subaddress) (h .count)

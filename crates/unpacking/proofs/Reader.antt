@@ -18,7 +18,7 @@ use Rattle.packing.proofs.FillLaws.{msb-zero}
 use Rattle.packing.proofs.PackedLaws.{transactionBits-length}
 use Rattle.unpacking.specs.Unpacking.{number, named}
 use Rattle.unpacking.specs.Steps.{filling, subaddressIn, countIn, pastFirst, inFront}
-use Rattle.bits.proofs.FlagLaws.{both, first, second, fails, same-test}
+use Rattle.bits.proofs.FlagLaws.{both, first, second}
 use Rattle.unpacking.proofs.Tests.{Encodable, encodable-facts, encodable-from}
 use Rattle.unpacking.proofs.FrontLaws.{number-lt, number-bits, subaddress-front, count-front, data-front, bytes-front, past-front, whole-bytes}
 

@@ -6,7 +6,6 @@ use Prim.Native.Nat.{ℕ, zero, suc, _+_, _*_, _^_, _≤_, _<_}
 use native.Mathlib.Omega.{arith}
 use lib.Dec.{T, leb, leb→le, le→leb}
 use lib.ListN.{length, take, drop, getD, length-drop}
-use lib.Seq.{drop-drop}
 use Rattle.bits.specs.Strings.{byteBits, firstBytes, bytesOf}
 use Rattle.bits.proofs.ByteLaws.{byteBits-length}
 use Rattle.bits.proofs.FlagLaws.{holds, same-test}
@@ -23,7 +22,7 @@ use Rattle.unpacking.specs.Steps.{startAfter, beginning, filling, subadd
 use Rattle.unpacking.proofs.FrontLaws.{number-lt, bytes-taken}
 use Rattle.unpacking.proofs.Reader.{Front, front-facts, valid}
 use Rattle.unpacking.proofs.Exact.{validPlan, read-plan}
-use Rattle.unpacking.proofs.PlaceLaws.{inside-placed, placed-inside, after-placed, after-left}
+use Rattle.unpacking.proofs.PlaceLaws.{inside-placed, placed-inside, after-placed, after-left, further-placed, further-left}
 
 -- ---- the rest of a plan
 
@@ -94,7 +93,9 @@ module _ (plan : List ℕ) (c : Cursor) where
     -- one is, and isn't there
     faulty : (n : ℕ) → c .left ≡ suc n → inFront (c .free) bs ≡ false → restOf plan c ≡ refused 9
     unfolding valid
-    faulty n l f = by-reader (suc n) l ∙ ap (λ (x : Bool). restBy true (x && valid next n (next (subaddressIn bs + countIn bs)) (pastFirst bs)) (named (suc n) bs)) f
+    faulty n l f =
+        by-reader (suc n) l
+        ∙ ap (λ (x : Bool). restBy true (x && valid next n (next (subaddressIn bs + countIn bs)) (pastFirst bs)) (named (suc n) bs)) f
 
     module _ (n : ℕ) (l : c .left ≡ suc n) (f : inFront (c .free) bs ≡ true) where
       abbrev k : ℕ
@@ -104,7 +105,7 @@ module _ (plan : List ℕ) (c : Cursor) where
       first = placeAfter (taken p + 12)
 
       abbrev past : Place
-      past = placeAfter (taken p + 12 + k * 8)
+      past = record { at = first .at + k; held = first .held }
 
       front : Front (c .free) bs
       front = front-facts (c .free) bs (rw f tt)
@@ -116,11 +117,12 @@ module _ (plan : List ℕ) (c : Cursor) where
       first-placed : Placed plan first
       first-placed = after-placed plan (taken p + 12) (omega arith) (omega (arith, long))
 
+      room : first .at + k ≤ length plan
+      room = omega (arith, long)
+
       -- what is left past its data
       past-left : leftAt plan past ≡ pastFirst bs
-      past-left =
-          let on : taken p + 12 + k * 8 ≡ taken p + (12 + k * 8) = omega arith in
-          ap (λ (m : ℕ). leftAt plan (placeAfter m)) on ∙ after-left plan p (12 + k * 8) ∙ sym (drop-drop (k * 8) 12 bs)
+      past-left = further-left plan first k first-placed ∙ ap (drop (k * 8)) (after-left plan p 12)
 
       -- its data
       bytes : bytesOf (take (k * 8) (drop 12 bs)) ≡ firstBytes k (leftAt plan first)
@@ -134,10 +136,11 @@ module _ (plan : List ℕ) (c : Cursor) where
           let t = transactionAt plan (subaddressIn bs) k first in
           let v = valid next n (next (subaddressIn bs + k)) in
           by-reader (suc n) l
-          ∙ ap₂ (λ (b : Bool) (d : List ℕ). restBy true (b && v (pastFirst bs)) (record { subaddress = subaddressIn bs; bytes = d } ∷ named n (pastFirst bs))) f bytes
+          ∙ ap₂ (λ (b : Bool) (d : List ℕ). restBy true (b && v (pastFirst bs)) (record { subaddress = subaddressIn bs; bytes = d } ∷ named n (pastFirst bs)))
+          f bytes
           ∙ prefixed-rest t true (v (pastFirst bs)) (named n (pastFirst bs))
           ∙ ap₂ (λ (b : Bool) (l : List Bool). prefixed t (restBy b (v l) (named n l)))
-          (sym (placed-inside plan past (after-placed plan (taken p + 12 + k * 8) (omega arith) (omega (arith, long))))) (sym past-left)
+          (sym (placed-inside plan past (further-placed plan first k first-placed room))) (sym past-left)
 
       found : Stepped plan c (firstAt p n (c .order) bs)
       found =
@@ -147,7 +150,7 @@ module _ (plan : List ℕ) (c : Cursor) where
             some = front .some;
             few = number-lt 6 (drop 6 bs);
             placed = first-placed;
-            room = omega (arith, long);
+            room = room;
             left = l;
             order = refl;
           }

@@ -2,7 +2,7 @@
 -- 3 for an index past the last transaction, 10 where the memory lent is shorter than the data. A refusal writes nothing.
 use mathlib.Core.Bool.{cond}
 use mathlib.Core.List.{List, [], _∷_, _++_}
-use Prim.Native.Nat.{ℕ, zero, suc, _+_, _≤_, _<_}
+use Prim.Native.Nat.{ℕ, zero, suc, _+_, _≤_}
 use lib.Dec.{leb}
 use lib.ListN.{length, drop}
 use Rattle.refusals.specs.Refusal.{Judged, accepted, refused, numberOf}

@@ -2,7 +2,7 @@
 -- 6 bits of data count, never 0, then the data. After the last one zero bits fill the last byte. Anything else is a fault.
 use mathlib.Core.Bool.{Bool, cond, _&&_}
 use mathlib.Core.List.{List}
-use Prim.Native.Nat.{ℕ, zero, suc, _+_, _-_, _*_, _/_}
+use Prim.Native.Nat.{ℕ, zero, suc, _+_, _*_}
 use lib.Dec.{leb, ltb, eqb}
 use lib.ListN.{length, drop}
 use Rattle.bits.specs.Strings.{msbValue, byteBits, firstBytes}
@@ -44,11 +44,15 @@ pastFirst bs = drop (countIn bs * 8) (drop 12 bs)
 abbrev pub inFront : ℕ → List Bool → Bool
 inFront free bs = leb 12 (length bs) && (ltb 0 (countIn bs) && (leb free (subaddressIn bs) && leb (countIn bs * 8) (length (drop 12 bs))))
 
--- the transaction that stands in front, with the place of its data, and the cursor past it
+-- a transaction with its data at a place, and the cursor past it, with so many transactions to come
+abbrev pub foundAt : ℕ → ℕ → Place → ℕ → Order → Step
+foundAt subaddress count p left order =
+    Transaction subaddress count p
+    (record { place = record { at = p .at + count; held = p .held }; left = left; free = startAfter order (subaddress + count); order = order })
+
+-- the transaction that stands in front of the bits left at a place
 abbrev pub firstAt : Place → ℕ → Order → List Bool → Step
-firstAt p left order bs =
-    Transaction (subaddressIn bs) (countIn bs) (placeAfter (taken p + 12))
-    (record { place = placeAfter (taken p + 12 + countIn bs * 8); left = left; free = startAfter order (subaddressIn bs + countIn bs); order = order })
+firstAt p left order bs = foundAt (subaddressIn bs) (countIn bs) (placeAfter (taken p + 12)) left order
 
 -- the step at a place, by how many transactions are to come and the bits left
 abbrev pub stepAt : Place → ℕ → ℕ → Order → List Bool → Step

@@ -1,7 +1,8 @@
 // One step through a packed plan: the next transaction with the place of its data, the end, or a fault. Every walk takes it.
 ghost use mathlib.Core.Path.{_≡_};
+ghost use Prim.Native.Nat.{_+_, _^_, _<_};
 ghost use Rattle.unpacking.specs.Places.{leftAt, Placed};
-ghost use Rattle.unpacking.specs.Steps.{startAfter, beginning, filling as fillingOf, nextOf};
+ghost use Rattle.unpacking.specs.Steps.{startAfter, beginning, filling as fillingOf, foundAt, nextOf};
 use crate::places::FIRST_HELD;
 use crate::places::HEADER_BYTES;
 use crate::places::ONE_TRANSACTION;
@@ -61,6 +62,28 @@ fn filling(plan: &[u8], place: Place) -> bool
     plan[last] as u32 % (1 << place.held) == 0
 }
 
+// A transaction with its data at a place, and the cursor past it, with so many transactions to come.
+fn found(subaddress: u8, count: u8, place: Place, left: u8, order: Order) -> Step
+    requires { ⌜ (subaddress + count < 2 ^ 8) × (place .at + count < 2 ^ 64) ⌝ }
+    ensures answer { λ r. ⌜ r ≡ foundAt subaddress count place left order ⌝ }
+{
+    let after = Place {
+        at: place.at + count as usize,
+        held: place.held,
+    };
+    Step::Transaction {
+        subaddress,
+        count,
+        data: place,
+        after: Cursor {
+            place: after,
+            left,
+            free: start_after(order, subaddress + count),
+            order,
+        },
+    }
+}
+
 // The cursor at a plan's beginning.
 pub fn begin(plan: &[u8], order: Order) -> Cursor
     ensures answer { λ r. ⌜ r ≡ beginning (now (plan .entry)) order ⌝ }
@@ -118,19 +141,5 @@ pub fn next(plan: &[u8], cursor: Cursor) -> Step
     if plan.len() - data.at < count as usize {
         return Step::Fault;
     }
-    let after = Place {
-        at: data.at + count as usize,
-        held: data.held,
-    };
-    Step::Transaction {
-        subaddress,
-        count,
-        data,
-        after: Cursor {
-            place: after,
-            left: left - 1,
-            free: start_after(order, subaddress + count),
-            order,
-        },
-    }
+    found(subaddress, count, data, left - 1, order)
 }

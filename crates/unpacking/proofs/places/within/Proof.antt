@@ -1,5 +1,5 @@
 -- `unpacking::places::within` meets its contract. Assumes nothing.
-use mathlib.Core.Path.{sym, ap, ap₂, _∙_}
+use mathlib.Core.Path.{sym, ap, ap₂}
 use mathlib.Core.Bool.{Bool, _&&_}
 use Prim.Native.Nat.{_<_, zero-le}
 use native.Mathlib.Omega.{arith}

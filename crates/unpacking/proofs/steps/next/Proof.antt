@@ -2,7 +2,7 @@
 use mathlib.Core.Path.{_≡_, sym, ap, _∙_, subst}
 use mathlib.Core.Bool.{Bool, true, false}
 use mathlib.Core.List.{List}
-use Prim.Native.Nat.{ℕ, suc, _+_, _-_, _*_, _≤_, _<_, zero-le}
+use Prim.Native.Nat.{ℕ, suc, _+_, _-_, _*_, _<_, zero-le}
 use native.Mathlib.Omega.{arith}
 use lib.Arith.{lt-of-le-ne}
 use lib.ListN.{length, drop, length-drop}
@@ -120,9 +120,6 @@ small h =
     let bs = bits-at (turned h .before .before) in
     (subst (λ (n : ℕ). n < 64) (sym (e .subaddress)) (number-lt 6 bs), subst (λ (n : ℕ). n < 64) (sym (e .count)) (number-lt 6 (drop 6 bs)))
 
-add-start-after : tie.Need-add-start-after
-add-start-after c = record { fits = omega (arith, small (header (c .before)) .0, small (header (c .before)) .1) }
-
 front : (c : tie.Else7) → Front (cursor-at (turned (header c) .before .before) .free) (bits-at (turned (header c) .before .before))
 front c =
     let h = header c in
@@ -135,16 +132,24 @@ front c =
       held = omega (arith, c .if7 .left, e .count, data-length h);
     }
 
+-- the data are there
+found-requires : tie.Need-found-requires
+found-requires c κs =
+    let h = header c in
+    let e = h .header-at .ensures in
+    let k = small h in
+    (omega (arith, k .0, k .1), omega (arith, c .if7 .left, e .placed .inside, turned h .before .before .before .before .before .good .0 .0))
+
 returns-8 : tie.Need-returns-8
 returns-8 c =
-    let s = c .before .before in
+    let s = c .before in
     let h = header s in
     let w = turned h .before .before in
     let n = cursor-at w .left - 1 in
-    let there : inFront (cursor-at w .free) (bits-at w) ≡ true = holds (inFront (cursor-at w .free) (bits-at w)) (front-from (cursor-at w .free) (bits-at w) (front s)) in
-    rw (c .start-after .ensures)
-    (header-first (plan-at w) (cursor-at w .place) (h .header-at .result) n (cursor-at w .order) (h .header-at .ensures)
-    ∙ sym (in-front (plan-at w) (cursor-at w) (right (turned h .before)) n true (turn (turned h)) there))
+    let there : inFront (cursor-at w .free) (bits-at w) ≡ true =
+    holds (inFront (cursor-at w .free) (bits-at w)) (front-from (cursor-at w .free) (bits-at w) (front s)) in
+    c .found .ensures ∙ header-first (plan-at w) (cursor-at w .place) (h .header-at .result) n (cursor-at w .order) (h .header-at .ensures)
+    ∙ sym (in-front (plan-at w) (cursor-at w) (right (turned h .before)) n true (turn (turned h)) there)
 
 pub next-spec : {M : Type 1} → statement M
 next-spec =
@@ -164,8 +169,5 @@ next-spec =
     (λ c. search needs)
     returns-7
     (λ c. search needs)
-    (λ c. search needs)
-    (λ c. search needs)
-    add-start-after
-    (λ c κs. search needs)
+    found-requires
     returns-8)
