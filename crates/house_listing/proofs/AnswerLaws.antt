@@ -10,7 +10,7 @@ use Rattle.refusals.specs.Verdict.{Verdict, good, refusedAt}
 use Rattle.bus.specs.Transactions.{Transaction}
 use Rattle.packing.specs.Packing.{packed}
 use Rattle.unpacking.specs.Unpacking.{unpack}
-use Rattle.unpacking.specs.Ahead.{listed, Accepted}
+use Rattle.unpacking.specs.Listed.{listed, Accepted}
 use Rattle.listing.specs.declared.Word.{Word}
 use Rattle.listing.specs.declared.Word.the-variants.{Plan}
 use Rattle.listing.specs.Lines.{planLine, refusedLine}

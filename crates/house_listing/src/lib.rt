@@ -2,7 +2,7 @@
 ghost use mathlib.Core.Path.{_≡_};
 ghost use lib.ListN.{length};
 ghost use Rattle.unpacking.specs.Unpacking.{unpack};
-ghost use Rattle.unpacking.specs.Ahead.{listed, Accepted};
+ghost use Rattle.unpacking.specs.Listed.{listed, Accepted};
 ghost use Rattle.text.specs.Line.{placeAfter, appended};
 ghost use Rattle.listing.specs.Written.{lineOf, wordOf};
 ghost use Rattle.adv7194_settings.specs.House.{house as houseSetting};

@@ -21,7 +21,7 @@ use Rattle.unpacking.specs.declared.steps.Step.the-variants.{Transaction as Fou
 use Rattle.unpacking.specs.Unpacking.{unpack}
 use Rattle.unpacking.specs.Places.{leftAt, dataCopied}
 use Rattle.unpacking.specs.Steps.{beginning, transactionAt}
-use Rattle.unpacking.specs.Ahead.{listed, Accepted}
+use Rattle.unpacking.specs.Listed.{listed, Accepted}
 use Rattle.unpacking.proofs.steps.Step.{the-type}
 use Rattle.unpacking.proofs.PlaceLaws.{data-copied}
 use Rattle.unpacking.proofs.StepLaws.{Went, Stepped}

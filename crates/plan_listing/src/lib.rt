@@ -5,7 +5,7 @@ ghost use Prim.Native.Nat.{_+_, _*_, _≤_};
 ghost use lib.ListN.{length};
 ghost use Rattle.bus.specs.Cost.{dataCount};
 ghost use Rattle.unpacking.specs.Unpacking.{unpack};
-ghost use Rattle.unpacking.specs.Ahead.{listed, Accepted};
+ghost use Rattle.unpacking.specs.Listed.{listed, Accepted};
 ghost use Rattle.text.specs.Line.{placeAfter, appended};
 ghost use Rattle.plan_listing.specs.PlanText.{transactionLine, transactionLines};
 ghost use Rattle.plan_listing.specs.Listing.{listingOf, listingIn, listedAs};

@@ -12,7 +12,7 @@ use Rattle.text.specs.declared.Place.{Place}
 use Rattle.text.specs.declared.Place.the-variants.{TooShort}
 use Rattle.text.specs.Line.{placeAfter, appended}
 use Rattle.unpacking.specs.Unpacking.{unpack}
-use Rattle.unpacking.specs.Ahead.{listed, Accepted}
+use Rattle.unpacking.specs.Listed.{listed, Accepted}
 use Rattle.listing.specs.declared.Word.{Word}
 use Rattle.listing.proofs.Word as word
 use Rattle.listing.specs.declared.Word.the-variants.{Plan, Refused, Other}

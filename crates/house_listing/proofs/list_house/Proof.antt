@@ -7,7 +7,7 @@ use lib.ListN.{length, getD, take}
 use borrow.Author.Needs.{needs}
 use Rattle.text.specs.Line.{placeAfter, appended}
 use Rattle.unpacking.specs.Unpacking.{unpack}
-use Rattle.unpacking.specs.Ahead.{listed, Accepted}
+use Rattle.unpacking.specs.Listed.{listed, Accepted}
 use Rattle.listing.specs.Written.{wordOf}
 use Rattle.listing.proofs.LineLaws.{line-long, line-part}
 use Rattle.planning.specs.Plan.{Counts}

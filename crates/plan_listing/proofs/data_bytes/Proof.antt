@@ -8,7 +8,7 @@ use Rattle.bus.specs.Cost.{dataCount}
 use Rattle.bus.proofs.CostLaws.{bytes-count}
 use Rattle.packing.specs.Packing.{behind}
 use Rattle.packing.proofs.PackedLaws.{packed-length}
-use Rattle.unpacking.specs.Ahead.{listed}
+use Rattle.unpacking.specs.Listed.{listed}
 use Rattle.unpacking.specs.Unpacking.{unpack}
 use Rattle.unpacking.proofs.Exact.{unpacks-packed}
 use Rattle.plan_listing.proofs.data_bytes.Statement.{statement}

@@ -6,7 +6,7 @@ use borrow.Author.Needs.{needs}
 use Rattle.refusals.specs.Refusal.{Judged, accepted, numberOf}
 use Rattle.bus.specs.Transactions.{Transaction}
 use Rattle.unpacking.specs.Unpacking.{unpack, counted, answerOf}
-use Rattle.unpacking.specs.Ahead.{Accepted}
+use Rattle.unpacking.specs.Listed.{Accepted}
 use Rattle.unpacking.proofs.PlanLaws.{accepted-plan, listed-length, refused-list}
 use Rattle.plan_listing.specs.Listing.{listingOf, listingIn}
 use Rattle.plan_listing.proofs.list_plan.Statement.{statement}

@@ -5,7 +5,7 @@ use Prim.Native.Nat.{ℕ, _+_, _*_, _≤_}
 use native.Mathlib.Omega.{arith}
 use lib.ListN.{length, length-append}
 use borrow.Author.Needs.{needs}
-use Rattle.unpacking.specs.Ahead.{listed}
+use Rattle.unpacking.specs.Listed.{listed}
 use Rattle.unpacking.specs.Unpacking.{unpack}
 use Rattle.text.proofs.Appending.{Written, answered, kept, next, refused}
 use Rattle.plan_listing.specs.PlanText.{transactionLines}
