@@ -48,17 +48,17 @@ module _ (masks : List ℕ) {image wanted : List ℕ} (table : length masks ≡ 
       (a ∙ sym d, b ∙ sym d, omega arith)
 
   -- m is the map of the registers of a part that have a bit and where two images differ, the part's first register the lowest
-  module _ (m : ℕ) (told : (j : ℕ) → has m j ≡ differsIn (part start end masks) (part start end image) (part start end wanted) j) where
+  module _ (m : ℕ) (compared : (j : ℕ) → has m j ≡ differsIn (part start end masks) (part start end image) (part start end wanted) j) where
     within : (j : ℕ) → j < end - start → has m j ≡ differsIn masks image wanted (start + j)
     within j h =
         let at : (l : List ℕ) → getD (part start end l) j 0 ≡ getD l (start + j) 0 =
         λ l. getD-take (end - start) (drop start l) j 0 h ∙ getD-drop start l j 0 in
-        told j ∙ rw (at masks, at image, at wanted)
+        compared j ∙ rw (at masks, at image, at wanted)
 
     past : (j : ℕ) → end - start ≤ j → has m j ≡ false
     past j h =
         let none : (l : List ℕ) → length l ≡ end - start → getD l j 0 ≡ 0 = λ l e. List·getD-eq-default l 0 (omega arith) in
-        told j ∙ rw (none (part start end image) (sized image (χ .found .size)), none (part start end wanted) (sized wanted (χ .wants .size)))
+        compared j ∙ rw (none (part start end image) (sized image (χ .found .size)), none (part start end wanted) (sized wanted (χ .wants .size)))
         (and-false (not (eqb (getD (part start end masks) j 0) 0)))
 
     -- the map, moved up to its place

@@ -40,11 +40,11 @@ module _ (image plan : List ℕ) where
 
   module _ (bytes : (r : ℕ) → getD image r 0 < 2 ^ 8) (after : List ℕ) (memory : after ≡ planLeft image house boardAddress plan) where
     module _ (n : Counts) (answer : good n ≡ planningOf image house boardAddress (length plan)) where
-      told : (length image ≡ registerCount) × (countsOf (listOf image house) ≡ n)
-      told = sized (good n) (exactly image house boardAddress (length plan) (good n) .0 (sym answer)) n refl
+      answered : (length image ≡ registerCount) × (countsOf (listOf image house) ≡ n)
+      answered = sized (good n) (exactly image house boardAddress (length plan) (good n) .0 (sym answer)) n refl
 
       long : n .length ≡ length (packed (listOf image house))
-      long = sym (ap (λ (k : Counts). k .length) (told .1))
+      long = sym (ap (λ (k : Counts). k .length) (answered .1))
 
       -- the packed list, and what was past it
       left : after ≡ packed (listOf image house) ++ drop (n .length) plan
@@ -62,7 +62,7 @@ module _ (image plan : List ℕ) where
           (ap (take (n .length)) left
           ∙ ap (λ (k : ℕ). take k (packed (listOf image house) ++ drop (n .length) plan)) long
           ∙ take-append-seam (packed (listOf image house)) (drop (n .length) plan))
-          ∙ plan-unpacks image (wantedBy image house) (change image house bytes (told .0))
+          ∙ plan-unpacks image (wantedBy image house) (change image house bytes (answered .0))
 
       -- the line PLAN with the counts answered, and the lines of the bytes answered, are the answer's text
       planned-text : textBelow (planLine (n .transactions) (n .busBytes)) (listed (unpack (take (n .length) after))) ≡ houseTextIn image (length plan)
@@ -71,7 +71,7 @@ module _ (image plan : List ℕ) where
           let line = planLine (n .transactions) (n .busBytes) in
           ap (λ (w : Word). line ++ linesBelow w (listed (unpack (take (n .length) after)))) (plan-word (n .transactions) (n .busBytes))
           ∙ ap (λ (j : Judged (List Transaction)). line ++ transactionLines (listed j)) unpacked
-          ∙ ap (λ (k : Counts). planLine (k .transactions) (k .busBytes) ++ transactionLines (listOf image house)) (sym (told .1))
+          ∙ ap (λ (k : Counts). planLine (k .transactions) (k .busBytes) ++ transactionLines (listOf image house)) (sym (answered .1))
           ∙ ap (answerText (listOf image house)) answer
 
     -- the length answered is within the lent plan

@@ -1,4 +1,4 @@
--- `adv7194_subcarrier::word` meets its contract: the standard and square pixel that were told are those of the call. Assumes nothing.
+-- `adv7194_subcarrier::word` meets its contract: the standard and square pixel that were given are those of the call. Assumes nothing.
 use borrow.Author.Needs.{needs}
 use Rattle.adv7194_subcarrier.proofs.word.Statement.{statement}
 use Rattle.adv7194_subcarrier.proofs.word.Tie as tie

@@ -57,14 +57,14 @@ returns c =
     (p .append .ensures .0 ∙ ap (placeAfter (a .out .now) 0) e, p .append .ensures .1 ∙ ap (appended (a .out .now) 0) e)
 
 -- the line's word is PLAN, so the plan is well-formed and its lines follow
-abbrev told : tie.After-list-plan → tie.After-enum-told
-told c = c .before .before
+abbrev matched : tie.After-list-plan → tie.After-enum-told
+matched c = c .before .before
 
 abbrev entered : tie.After-list-plan → tie.Start
-entered c = start (told c .before .before)
+entered c = start (matched c .before .before)
 
 plan-word : (c : tie.After-list-plan) → wordOf (entered c .args .line .now) ≡ Plan
-plan-word c = sym (told c .before .before .first-word .ensures) ∙ told c .enum-told .given .1
+plan-word c = sym (matched c .before .before .first-word .ensures) ∙ matched c .enum-told .given .1
 
 well-formed : (c : tie.After-list-plan) → Accepted (entered c .args .plan .now)
 well-formed c = entered c .pre (plan-word c)

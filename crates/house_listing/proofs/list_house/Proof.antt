@@ -11,7 +11,7 @@ use Rattle.unpacking.specs.Listed.{listed, Accepted}
 use Rattle.listing.specs.Written.{wordOf}
 use Rattle.listing.proofs.LineLaws.{line-long, line-part}
 use Rattle.planning.specs.Plan.{Counts}
-use Rattle.adv7194_settings.specs.Order.{Verdict}
+use Rattle.refusals.specs.Verdict.{Verdict}
 use Rattle.adv7194_settings.specs.declared.settings.Settings.{Settings}
 use Rattle.adv7194_settings.specs.House.{house}
 use Rattle.adv7194_planning.specs.Planning.{planningOf, planLeft, answerOf}

@@ -83,32 +83,32 @@ header-at-requires : tie.Need-header-at-requires
 header-at-requires c κs = let p = placed (c .before .before .before) in (p, omega (arith, c .if4 .left, p .inside))
 
 -- where a header was taken
-abbrev turned : tie.After-header-at → tie.Else2
-turned h = h .before .before .before
+abbrev located : tie.After-header-at → tie.Else2
+located h = h .before .before .before
 
 returns-5 : tie.Need-returns-5
 returns-5 c =
     let h = c .before .before in
-    faulty (turned h) (λ f. omega (arith, f .some, h .header-at .ensures .count, c .if5 .taken))
+    faulty (located h) (λ f. omega (arith, f .some, h .header-at .ensures .count, c .if5 .taken))
 
 returns-6 : tie.Need-returns-6
 returns-6 c =
     let h = c .before .before .before .before in
-    faulty (turned h) (λ f. omega (arith, f .from, h .header-at .ensures .subaddress, c .if6 .taken))
+    faulty (located h) (λ f. omega (arith, f .from, h .header-at .ensures .subaddress, c .if6 .taken))
 
 -- how many bits are left from its data on
 data-length : (h : tie.After-header-at)
-    → length (drop 12 (bits-at (turned h .before .before)))
-    ≡ (length (plan-at (turned h .before .before)) - h .header-at .result .next .at) * 8 + h .header-at .result .next .held
+    → length (drop 12 (bits-at (located h .before .before)))
+    ≡ (length (plan-at (located h .before .before)) - h .header-at .result .next .at) * 8 + h .header-at .result .next .held
 data-length h =
     let e = h .header-at .ensures in
-    sym (ap length (e .rest)) ∙ left-at-length (plan-at (turned h .before .before)) (h .header-at .result .next) (e .placed)
+    sym (ap length (e .rest)) ∙ left-at-length (plan-at (located h .before .before)) (h .header-at .result .next) (e .placed)
 
 returns-7 : tie.Need-returns-7
 returns-7 c =
     let h = c .before .before .before .before .before .before in
     let e = h .header-at .ensures in
-    faulty (turned h) (λ f. omega (arith, f .held, e .count, e .placed .few, data-length h, c .if7 .taken))
+    faulty (located h) (λ f. omega (arith, f .held, e .count, e .placed .few, data-length h, c .if7 .taken))
 
 -- its data are there
 abbrev header : tie.Else7 → tie.After-header-at
@@ -117,16 +117,16 @@ header c = c .before .before .before .before .before .before
 small : (h : tie.After-header-at) → (h .header-at .result .subaddress < 64) × (h .header-at .result .count < 64)
 small h =
     let e = h .header-at .ensures in
-    let bs = bits-at (turned h .before .before) in
+    let bs = bits-at (located h .before .before) in
     (subst (λ (n : ℕ). n < 64) (sym (e .subaddress)) (number-lt 6 bs), subst (λ (n : ℕ). n < 64) (sym (e .count)) (number-lt 6 (drop 6 bs)))
 
-front : (c : tie.Else7) → Front (cursor-at (turned (header c) .before .before) .free) (bits-at (turned (header c) .before .before))
+front : (c : tie.Else7) → Front (cursor-at (located (header c) .before .before) .free) (bits-at (located (header c) .before .before))
 front c =
     let h = header c in
     let e = h .header-at .ensures in
     let some = lt-of-le-ne zero-le (λ z. c .before .before .before .before .if5 .left (sym z)) in
     record {
-      long = omega (arith, h .before .if4 .left, bits-length (turned h .before));
+      long = omega (arith, h .before .if4 .left, bits-length (located h .before));
       some = omega (arith, some, e .count);
       from = omega (arith, c .before .before .if6 .left, e .subaddress);
       held = omega (arith, c .if7 .left, e .count, data-length h);
@@ -138,18 +138,18 @@ found-requires c κs =
     let h = header c in
     let e = h .header-at .ensures in
     let k = small h in
-    (omega (arith, k .0, k .1), omega (arith, c .if7 .left, e .placed .inside, turned h .before .before .before .before .before .good .0 .0))
+    (omega (arith, k .0, k .1), omega (arith, c .if7 .left, e .placed .inside, located h .before .before .before .before .before .good .0 .0))
 
 returns-8 : tie.Need-returns-8
 returns-8 c =
     let s = c .before in
     let h = header s in
-    let w = turned h .before .before in
+    let w = located h .before .before in
     let n = cursor-at w .left - 1 in
     let there : inFront (cursor-at w .free) (bits-at w) ≡ true =
     holds (inFront (cursor-at w .free) (bits-at w)) (front-from (cursor-at w .free) (bits-at w) (front s)) in
     c .found .ensures ∙ header-first (plan-at w) (cursor-at w .place) (h .header-at .result) n (cursor-at w .order) (h .header-at .ensures)
-    ∙ sym (in-front (plan-at w) (cursor-at w) (right (turned h .before)) n true (turn (turned h)) there)
+    ∙ sym (in-front (plan-at w) (cursor-at w) (right (located h .before)) n true (turn (located h)) there)
 
 pub next-spec : {M : Type 1} → statement M
 next-spec =
