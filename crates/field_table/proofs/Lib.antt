@@ -1,0 +1,9 @@
+pub mod Signed
+pub mod Judging
+pub mod Decoding
+pub mod PlainLaws
+pub mod WriteLaws
+pub mod ApartLaws
+pub mod WalkLaws
+pub mod StepLaws
+pub mod RoundTripLaws

@@ -1,0 +1,6 @@
+pub mod Rows
+pub mod Coding
+pub mod Writes
+pub mod Walk
+pub mod Answers
+pub mod RoundTrip
