@@ -1,5 +1,5 @@
 -- The search for the setting nearest zero finds the setting that has the code and to which none is nearer. Assumes nothing.
-use mathlib.Core.Path.{_≡_, refl, sym, ap, subst}
+use mathlib.Core.Path.{_≡_, refl, sym, ap, _∙_, subst}
 use mathlib.Core.Bool.{Bool, true, false, _||_, cond}
 use mathlib.Core.Logic.{_⊎_, inl, inr, ⊎-elim}
 use Prim.Native.Nat.{ℕ, zero, suc, _^_, _≤_, _<_, max}
@@ -108,6 +108,14 @@ pub decode-none : (f : Field) (c : ℕ) → ((z : ℤ) → has f c z ≡ false) 
 unfolding decode
 decode-none f c none =
     rw (none (pos (leastMagnitude f c)), none (negℤ (pos (leastMagnitude f c))))
+
+-- by 3 where the row says so
+pub decode-outside : (f : Field) (c : ℕ) → f .row .outside ≡ 3 → ((z : ℤ) → has f c z ≡ false) → refused 3 ≡ decode f c
+decode-outside f c e none = ap refused (same (ltb c (2 ^ f .row .width))) ∙ decode-none f c none
+  where
+    same : (b : Bool) → _≡_ {A = ℕ} 3 (cond b (refusalOutside (f .row)) 3)
+    same true = rw e
+    same false = refl
 
 -- ---- what is read has the code
 

@@ -1,13 +1,14 @@
 -- What the definitions answer inside a field's range and outside it, whatever its coding. Assumes nothing.
 use mathlib.Core.Path.{_≡_, refl, ap, subst}
-use mathlib.Core.Bool.{Bool, true, false, _||_}
-use Prim.Native.Nat.{ℕ, zero, suc}
+use mathlib.Core.Bool.{Bool, true, false, cond, _||_}
+use Prim.Native.Nat.{ℕ, zero, suc, _^_, _<_}
 use native.Mathlib.Omega.{arith}
 use lib.Dec.{T, ltb, eqb, eqb→eq}
 use lib.IntN.{ℤ, pos, negsuc, negℤ}
+use lib.Pow.{pow-pos}
 use lib.Signed.{ltZ}
 use borrow.Author.Tests.{ltb-false}
-use Rattle.refusals.specs.Refusal.{Judged, accepted, refused}
+use Rattle.refusals.specs.Refusal.{Judged, accepted, refused, codeIn}
 use Rattle.rounding.proofs.Range.{Between, everywhere, over, eqZ, eqZ→eq}
 use Rattle.field_table.specs.Coding.{Field, outside, isCode, encode, codeOf}
 
@@ -20,6 +21,15 @@ outside-refused f s e n = rw (e, n)
 pub inside-coded : (f : Field) (s : ℤ) (c : ℕ) → outside (f .row) s ≡ false → c ≡ codeOf f s → accepted c ≡ encode f s
 unfolding encode
 inside-coded f s c e h = rw (e, h)
+
+-- codes fit their bits where those of settings in the range do: a refusal stands for 0
+pub fits-inside : (f : Field) → ((z : ℤ) → outside (f .row) z ≡ false → codeOf f z < 2 ^ f .row .width) → (z : ℤ) → codeIn (encode f z) < 2 ^ f .row .width
+unfolding encode
+fits-inside f h z = by (outside (f .row) z) _ refl
+  where
+    by : (b : Bool) (n : ℕ) → outside (f .row) z ≡ b → codeIn (cond b (refused n) (accepted (codeOf f z))) < 2 ^ f .row .width
+    by true n e = pow-pos (f .row .width)
+    by false n e = h z e
 
 -- both tests failed
 pub neither-l : (a b : Bool) → (a || b) ≡ false → a ≡ false

@@ -6,16 +6,16 @@ use Prim.Native.Nat.{ℕ, _+_, _^_, _≤_, _<_}
 use native.Mathlib.Omega.{arith}
 use lib.Dec.{T, ltb, leb→le, ltb→lt}
 use lib.IntN.{ℤ, pos, negsuc, natAbs}
-use lib.Pow.{pow-pos, pow-mono}
+use lib.Pow.{pow-mono}
 use lib.Signed.{ltZ, nonNeg, pos-natAbs}
 use borrow.Author.Tests.{ltb-true, ltb-false, le-ltb, lt-ltb}
-use Rattle.refusals.specs.Refusal.{Judged, accepted, refused, codeIn}
+use Rattle.refusals.specs.Refusal.{accepted, refused, codeIn}
 use Rattle.bits.proofs.FlagLaws.{first, second}
 use Rattle.field_table.specs.declared.row.Row.{Row}
 use Rattle.field_table.specs.Rows.{refusalOutside}
 use Rattle.field_table.specs.Coding.{plain, plainOf, codeBy, outside, isCode, encode, has, decode}
 use Rattle.field_table.specs.Walk.{bitsFit, rowFits}
-use Rattle.field_table.proofs.Judging.{inside-coded, neither-r}
+use Rattle.field_table.proofs.Judging.{fits-inside, inside-coded, neither-r}
 use Rattle.field_table.proofs.Decoding.{decode-found, decode-none, has-inside, has-code, code-has, no-code}
 
 -- a row that fits: its bits lie within a register, and its settings, from the lowest to the highest, are codes of them
@@ -84,11 +84,8 @@ module _ (r : Row) (fits : Fits r) where
 
   -- so codes fit their bits
   pub code-fits : (z : ℤ) → codeIn (encode (plainOf r) z) < 2 ^ r .width
-  code-fits z = by (outside r z) refl
-    where
-      by : (b : Bool) → outside r z ≡ b → codeIn (encode (plainOf r) z) < 2 ^ r .width
-      by true e = subst (λ (j : Judged ℕ). codeIn j < 2 ^ r .width) (code-out r z _ e refl) (pow-pos (r .width))
-      by false e = subst (λ (j : Judged ℕ). codeIn j < 2 ^ r .width) (code-in r z e) (small z e .1)
+  unfolding codeBy
+  code-fits = fits-inside (plainOf r) (λ z o. small z o .1)
 
   -- ---- codes
 

@@ -110,6 +110,9 @@ store-row zs e p = ap₂ (λ (x : Row) (y : ℤ). set zs (x .index) y) e p
 pub same-fits : {r s : Row} → r ≡ s → T (rowFits s) → T (rowFits r)
 same-fits e t = rw e t
 
+pub bits-fit : {r s : Row} → r ≡ s → T (bitsFit s) → r .bit + r .width ≤ 8
+bits-fit {r} {s} e t = rw e (leb→le (s .bit + s .width) 8 t)
+
 pub held-fits : {r s : Row} → r ≡ s → T (rowFits s) → r .bit + r .width ≤ 8
 held-fits {r} {s} e t = rw e (row-fits s t .bits)
 

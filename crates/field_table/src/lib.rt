@@ -11,7 +11,7 @@ pub use places::held;
 pub use plain::code;
 pub use plain::setting;
 use refusals::Refusal;
-pub use row::outside;
+pub use row::out_of_range;
 pub use rows::read_decoded;
 pub use rows::read_row;
 pub use rows::want_coded;

@@ -4,6 +4,7 @@ ghost use mathlib.Core.Bool.{_||_};
 ghost use Prim.Native.Nat.{_<_};
 ghost use lib.Signed.{ltZ};
 ghost use Rattle.field_table.specs.Rows.{signed12 as signed12Of, rowOf};
+ghost use Rattle.field_table.specs.Coding.{outside as outsideOf};
 use refusals::Refusal;
 
 // A field of one number, or must-be-zero bits.
@@ -63,8 +64,16 @@ pub fn row_of(packed: u64) -> Row
 }
 
 // Whether s is below the lowest setting or above the highest.
-pub fn outside(s: i32, low: i32, high: i32) -> bool
+pub(crate) fn outside(s: i32, low: i32, high: i32) -> bool
     ensures answer { λ r. ⌜ r ≡ (ltZ s low || ltZ high s) ⌝ }
 {
     if s < low { true } else { high < s }
+}
+
+// Whether a number is none of a row's settings.
+pub fn out_of_range(packed: u64, number: i32) -> bool
+    ensures answer { λ r. ⌜ r ≡ outsideOf (rowOf packed) number ⌝ }
+{
+    let row = row_of(packed);
+    outside(number, row.low, row.high)
 }

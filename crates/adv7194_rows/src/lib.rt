@@ -1,0 +1,19 @@
+// The ADV7194's fields of one number, row by row: settings checked and placed in an image, an image judged and read, group by group.
+mod brightness;
+mod clamp_delay;
+mod dnr;
+mod hue;
+mod output;
+mod picture;
+mod sharpness;
+mod thousandths;
+mod timing;
+
+pub use dnr::read_dnr;
+pub use dnr::want_dnr;
+pub use output::read_output;
+pub use output::want_output;
+pub use picture::read_picture;
+pub use picture::want_picture;
+pub use timing::read_timing;
+pub use timing::want_timing;

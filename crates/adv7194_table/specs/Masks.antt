@@ -1,0 +1,32 @@
+-- Document 01, fields table: the bits of each register that belong to a field, and "Must-be-zero bits: bit 7 of 21, bits 7-4 of 22".
+use mathlib.Core.Bool.{Bool, not, cond, _&&_}
+use mathlib.Core.List.{List, [], _∷_}
+use Prim.Native.Nat.{ℕ, _+_, _-_, _*_, _^_}
+use lib.Dec.{eqb, leb, ltb}
+use Rattle.adv7194_table.specs.Table.{Block, Entry, single, whole, table, fieldOf, mustBeZero}
+
+-- register r is one of a block's
+abbrev pub inBlock : Block → ℕ → Bool
+inBlock b r = leb (b .register) r && ltb r (b .register + b .registers)
+
+-- the bits of register r that an entry has
+abbrev pub bitsOf : Entry → ℕ → ℕ
+bitsOf (single f) r = cond (eqb (f .row .register) r) ((2 ^ f .row .width - 1) * 2 ^ f .row .bit) 0
+bitsOf (whole b) r = cond (inBlock b r) 0xFF 0
+
+-- the bits of register r that the entries that pass a test have: no two entries have the same bit
+unfoldable pub maskWhere : (Entry → Bool) → List Entry → ℕ → ℕ
+maskWhere P [] r = 0
+maskWhere P (e ∷ es) r = cond (P e) (bitsOf e r) 0 + maskWhere P es r
+
+-- the bits of register r that belong to a field
+unfoldable pub fieldMask : ℕ → ℕ
+fieldMask r = maskWhere (λ e. not (mustBeZero e)) table r
+
+-- the must-be-zero bits of register r
+unfoldable pub zeroMask : ℕ → ℕ
+zeroMask r = maskWhere mustBeZero table r
+
+-- the bits of register r that count to field n, must-be-zero bits too
+unfoldable pub ownMask : ℕ → ℕ → ℕ
+ownMask n r = maskWhere (λ e. eqb (fieldOf e) n) table r
