@@ -11,7 +11,8 @@ use Rattle.field_table.specs.RoundTrip.{apartFrom, allApart, someAt, ownNumbers
 use Rattle.field_table.proofs.RoundTripLaws.{means-itself}
 use Rattle.adv7194_table.specs.Fields.{numberCount, registerCount, timing, output, picture, dnr}
 use Rattle.adv7194_table.specs.Table.{singles, singleFields, table, orderOf, numberField}
-use Rattle.adv7194_table.specs.Masks.{maskWhere, fieldMask, zeroMask}
+use Rattle.adv7194_table.specs.Masks.{maskWhere, fieldMask, zeroMask, ownMask}
+use Rattle.adv7194_table.specs.RawCodes.{ownBits, rawFrom, rawCode}
 
 -- what a definition gives for each of n numbers from k on
 abbrev each : (ℕ → ℕ) → ℕ → ℕ → List ℕ
@@ -60,6 +61,15 @@ pub zero-masks : each zeroMask 0 registerCount
     ∷ 0x00 ∷ 0x00 ∷ 0x00 ∷ 0x00 ∷ 0x00 ∷ 0x00 ∷ 0x00 ∷ 0x00 ∷ 0x00 ∷ 0x00 ∷ 0x00 ∷ 0x00 ∷ 0x00 ∷ 0x00 ∷ 0x00 ∷ 0x00 ∷ 0x00 ∷ 0x00 ∷ []
 unfolding zeroMask maskWhere table singles timing output picture dnr
 zero-masks = refl
+
+-- the raw codes of an image whose bits are all set are the fields' own bits: clamp delay, signalling, brightness and the word
+abbrev all-set : List ℕ
+all-set = each (λ k. 0xFF) 0 registerCount
+
+pub raw-codes : _≡_ {A = List (List ℕ)} (rawCode all-set 8 ∷ rawCode all-set 11 ∷ rawCode all-set 16 ∷ rawCode all-set 28 ∷ [])
+    ((0x70 ∷ []) ∷ (0xFF ∷ 0xFF ∷ 0xFF ∷ []) ∷ (0xFF ∷ []) ∷ (0xFF ∷ 0xFF ∷ 0xFF ∷ 0xFF ∷ []) ∷ [])
+unfolding rawFrom ownBits ownMask maskWhere table singles timing output picture dnr
+raw-codes = refl
 
 -- ---- the round trip
 

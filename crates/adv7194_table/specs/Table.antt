@@ -2,7 +2,7 @@
 use mathlib.Core.Bool.{Bool, false, cond, _&&_}
 use mathlib.Core.List.{List, [], _∷_}
 use Prim.Native.Nat.{ℕ, _+_}
-use lib.Dec.{leb, ltb}
+use lib.Dec.{eqb, leb, ltb}
 use Rattle.field_table.specs.declared.row.Row.{Row}
 use Rattle.field_table.specs.Rows.{rowOf}
 use Rattle.field_table.specs.Coding.{Field}
@@ -67,7 +67,7 @@ orderOf (e ∷ es) = cond (mustBeZero e) (orderOf es) (fieldOf e ∷ orderOf es)
 
 -- number k of the settings is an entry's
 abbrev pub hasNumber : ℕ → Entry → Bool
-hasNumber k (single f) = leb (f .row .index) k && leb k (f .row .index)
+hasNumber k (single f) = eqb (f .row .index) k
 hasNumber k (whole b) = leb (b .index) k && ltb k (b .index + b .numbers)
 
 -- the field of number k, 0 where it has none
