@@ -9,7 +9,8 @@ use Rattle.refusals.specs.Verdict.{good}
 use Rattle.field_table.specs.Walk.{judgeOf, numbersOf, within}
 use Rattle.field_table.specs.RoundTrip.{apartFrom, allApart, someAt, ownNumbers, MeansItself}
 use Rattle.field_table.proofs.RoundTripLaws.{means-itself}
-use Rattle.adv7194_table.specs.Fields.{numberCount, registerCount, timing, output, picture, dnr}
+use Rattle.adv7194_bus.specs.Kind.{registerCount}
+use Rattle.adv7194_table.specs.Fields.{numberCount, timing, output, picture, dnr}
 use Rattle.adv7194_table.specs.Table.{singles, singleFields, table, orderOf, numberField}
 use Rattle.adv7194_table.specs.Masks.{maskWhere, fieldMask, zeroMask, ownMask}
 use Rattle.adv7194_table.specs.RawCodes.{ownBits, rawFrom, rawCode}

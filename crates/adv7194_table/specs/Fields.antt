@@ -10,10 +10,6 @@ use Rattle.field_table.specs.Coding.{Coding, plain, offset, signMagnitude, roun
 abbrev pub numberCount : ℕ
 numberCount = 49
 
--- how many registers an image has
-abbrev pub registerCount : ℕ
-registerCount = 54
-
 -- the columns of a row
 abbrev columns : ℕ → ℕ → ℕ → ℕ → ℕ → ℤ → ℤ → ℕ → Row
 columns n k r b w lowest highest refusal =

@@ -5,7 +5,7 @@ use Prim.Native.Nat.{ℕ, zero, suc, _+_, _*_, _^_}
 use lib.Dec.{eqb}
 use lib.ListN.{getD}
 use Rattle.field_table.specs.Walk.{held}
-use Rattle.adv7194_table.specs.Fields.{registerCount}
+use Rattle.adv7194_bus.specs.Kind.{registerCount}
 use Rattle.adv7194_table.specs.Table.{Entry, single, whole, table, fieldOf}
 use Rattle.adv7194_table.specs.Masks.{inBlock, ownMask}
 
