@@ -1,0 +1,69 @@
+// Answers records, a line each, from standard input. A record is a word, decimal numbers, and lists of bytes in hexadecimal. A space stands before each
+// number and between bytes, a colon before the first list and a semicolon before the second:
+//
+//   plan ADDRESS SETTINGS..:IMAGE..;LENT..  planning into the lent bytes: length, transactions, bus bytes, and the lent bytes after it
+//   play USED OWN:IMAGE..;PLAN..            playing: 1 where every byte was acknowledged, and the image after it
+//   read:IMAGE..                            reading: the 49 settings
+//   events OWN:IMAGE..;EVENTS..             a fresh chip at bus events: a byte from the master, S start, P stop, R a byte read and acknowledged,
+//                                           N one read and not acknowledged. For each the byte that the master reads with + acknowledged, - not
+//                                           acknowledged, . not asked; then the pointer, the phase (I idle, A awaits the address, S the subaddress,
+//                                           D data, T sends) and the image
+//   code FIELD SETTING, setting FIELD:CODE  the code of a field's setting, the setting of its code
+//
+// What is answered stands after `ok`; a refusal is `REFUSED number field`. A line that is no record is answered `NOT A RECORD`, an empty line and a
+// comment, which begins with #, by an empty line.
+ghost use mathlib.Core.Path.{_≡_};
+ghost use Prim.Native.Nat.{_≤_};
+ghost use lib.ListN.{length};
+
+mod calls;
+mod chip;
+mod codings;
+mod print;
+mod records;
+mod tokens;
+
+use libc::STDIN_FILENO;
+
+// Room for a line and its end.
+const LINE_WIDTH: usize = 1024;
+
+// Reads a line: one more than its characters, of which the lent memory holds so many, or 0 where the input has ended.
+fn read_line(line: &mut [u8]) -> usize
+    ensures { λ r. ⌜ (r ≤ length (now (line .exit))) × (length (now (line .exit)) ≡ length (now (line .entry))) ⌝ }
+{
+    let mut n = 0;
+    while n < line.len() {
+        let mut one = [0u8; 1];
+        let got = io::read_full(STDIN_FILENO, &mut one);
+        if (got == 0) & (n == 0) {
+            return 0;
+        }
+        let b = one[0];
+        if (got == 0) | (b == b'\n') {
+            return n + 1;
+        }
+        line[n] = b;
+        n += 1;
+    }
+    n
+}
+
+// Answers the next line; whether there was one.
+fn answer() -> bool {
+    let mut line = [0u8; LINE_WIDTH];
+    let n = read_line(&mut line);
+    if n == 0 {
+        return false;
+    }
+    records::answer(&line[0..n - 1]);
+    true
+}
+
+// A proved loop has to end, and nothing says that the input does: turns are counted down from a number that no run uses up.
+fn main() {
+    let mut turns = u64::MAX;
+    while turns > 0 && answer() {
+        turns -= 1;
+    }
+}

@@ -1,0 +1,109 @@
+// Which record makes which call.
+use crate::calls;
+use crate::chip;
+use crate::codings;
+use crate::print;
+use crate::tokens;
+use crate::tokens::Tokens;
+
+// The most bytes of an image or a plan.
+const MOST_BYTES: usize = 64;
+
+// Operations: the characters of their words.
+const PLAN: u64 = 0x706C_616E;
+
+const PLAY: u64 = 0x706C_6179;
+
+const READ: u64 = 0x7265_6164;
+
+const EVENTS: u64 = 0x6576_656E_7473;
+
+const CODE: u64 = 0x636F_6465;
+
+const SETTING: u64 = 0x73_6574_7469_6E67;
+
+// Answers a record of planning or playing, if it is one.
+fn with_plan(tokens: Tokens, word: u64, image: &mut [u8]) -> bool {
+    let held = tokens.held;
+    let numbers = tokens.numbers;
+    let mut plan = [0u8; MOST_BYTES];
+    let n = tokens::bytes(held, tokens.second, tokens.count, &mut plan);
+    if MOST_BYTES < n {
+        return false;
+    }
+    if word == PLAN {
+        return calls::plan(held, numbers, image, &mut plan[0..n]);
+    }
+    if (word != PLAY) | (numbers != 3) {
+        return false;
+    }
+    calls::play(held[1], held[2], image, &plan[0..n])
+}
+
+// Answers a record with an image, if it is one.
+fn with_image(tokens: Tokens, word: u64, image: &mut [u8]) -> bool {
+    if (word == READ) & (tokens.numbers == 1) & (tokens.middle == tokens.count) {
+        return calls::read(image);
+    }
+    if word == EVENTS {
+        return chip::events(tokens, image);
+    }
+    with_plan(tokens, word, image)
+}
+
+// Whether an operation has an image.
+fn has_image(word: u64) -> bool {
+    (word == PLAN) | (word == PLAY) | (word == READ) | (word == EVENTS)
+}
+
+// Answers a record of a coding, if it is one: so many tokens before a second list, of which so many are the word and numbers; then a field, and its
+// setting or code.
+fn coding(word: u64, count: usize, numbers: usize, field: u64, token: u64) -> bool {
+    if count != 3 {
+        return false;
+    }
+    if (word == CODE) & (numbers == 3) {
+        return codings::code(field, token);
+    }
+    if (word == SETTING) & (numbers == 2) {
+        return codings::setting(field, token);
+    }
+    false
+}
+
+// Answers a line; whether it is a record.
+fn record(text: &[u8]) -> bool {
+    let tokens = tokens::split(text);
+    if !tokens.good {
+        return false;
+    }
+    let held = tokens.held;
+    let word = held[0];
+    if !has_image(word) {
+        return coding(word, tokens.middle, tokens.numbers, held[1], held[2]);
+    }
+    let mut image = [0u8; MOST_BYTES];
+    let n = tokens::bytes(held, tokens.first, tokens.middle, &mut image);
+    if MOST_BYTES < n {
+        return false;
+    }
+    with_image(tokens, word, &mut image[0..n])
+}
+
+// Whether a line asks for nothing.
+fn is_blank(text: &[u8]) -> bool {
+    if text.len() == 0 {
+        return true;
+    }
+    text[0] == b'#'
+}
+
+// Answers a line.
+pub(crate) fn answer(text: &[u8]) {
+    if !is_blank(text) {
+        if !record(text) {
+            print::text(b"NOT A RECORD");
+        }
+    }
+    print::text(b"\n");
+}

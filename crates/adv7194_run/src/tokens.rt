@@ -1,0 +1,262 @@
+// The word, the numbers and the bytes of a record.
+ghost use mathlib.Core.Path.{_≡_};
+ghost use Prim.Native.Nat.{_≤_, _<_};
+ghost use lib.ListN.{length};
+
+// The most tokens of a record.
+const MOST: usize = 192;
+
+// A word's characters as one number are below this while one more fits.
+const WORD_LIMIT: u64 = 0x1_0000_0000_0000;
+
+// Numbers are below this while one more digit fits.
+const NUMBER_LIMIT: u64 = 0x1_0000_0000;
+
+// A number below zero is its magnitude and this.
+const NEGATIVE: u64 = 0x100_0000_0000_0000;
+
+// A token that needs one more digit is at least this.
+const OPEN: u64 = 0x400_0000_0000_0000;
+
+// What is no token.
+const NONE: u64 = 0x1000_0000_0000_0000;
+
+// In a list, a letter is its character and this.
+const LETTER: u64 = 0x100;
+
+// In a list, a byte is itself and this.
+pub(crate) const BYTE: u64 = 0x200;
+
+// More bytes than an image or a plan may have.
+const NO_BYTES: usize = 65;
+
+// The most settings of a record, and where they begin.
+pub(crate) const MOST_SETTINGS: usize = 64;
+
+const FIRST_SETTING: usize = 2;
+
+// The ends of signed and of unsigned numbers of 32 bits.
+const LOWEST: i32 = -2147483648;
+
+const HIGHEST: i32 = 2147483647;
+
+const HIGHEST_MAGNITUDE: u64 = 2147483647;
+
+const HIGHEST_UNSIGNED: u64 = 4294967295;
+
+// The value of what is no digit.
+const NO_DIGIT: u8 = 0x10;
+
+// A record's tokens: the word and the numbers, as many as `numbers`; the bytes of the first list, from `first` to `middle`; those of the second, from
+// `second` to `count`.
+pub(crate) struct Tokens {
+    pub(crate) held: [u64; 192],
+    pub(crate) numbers: usize,
+    pub(crate) first: usize,
+    pub(crate) middle: usize,
+    pub(crate) second: usize,
+    pub(crate) count: usize,
+    pub(crate) good: bool,
+}
+
+// Whether a character begins a token.
+fn begins(b: u8) -> bool {
+    (b == b' ') | (b == b':') | (b == b';')
+}
+
+// How many tokens there are with one character more.
+fn counted(count: usize, b: u8) -> usize {
+    if MOST < count {
+        return count;
+    }
+    if begins(b) { count + 1 } else { count }
+}
+
+// The place of the last of so many tokens.
+fn last(count: usize) -> usize
+    ensures { λ r. ⌜ r < 192 ⌝ }
+{
+    if count == 0 {
+        return 0;
+    }
+    if MOST < count {
+        return 0;
+    }
+    count - 1
+}
+
+// Where a list begins: at the last token if the character is the list's own.
+fn marked(mark: usize, count: usize, b: u8, own: u8) -> usize {
+    if b == own { last(count) } else { mark }
+}
+
+// The value of a decimal or capital hexadecimal digit.
+fn digit(b: u8) -> u8
+    ensures { λ r. ⌜ r ≤ 16 ⌝ }
+{
+    if (b'0' <= b) & (b <= b'9') {
+        return b % 16;
+    }
+    if (b'A' <= b) & (b <= b'F') {
+        return (b % 16 + 9) % 16;
+    }
+    NO_DIGIT
+}
+
+// A word with one letter more.
+fn word(value: u64, b: u8) -> u64 {
+    if value < WORD_LIMIT {
+        return value * 256 + b as u64;
+    }
+    NONE
+}
+
+// A decimal number with one character more.
+fn decimal(value: u64, b: u8) -> u64 {
+    if (b == b'-') & (value == 0) {
+        return NEGATIVE + OPEN;
+    }
+    let d = digit(b);
+    let magnitude = value % NEGATIVE;
+    if (d < 10) & (magnitude < NUMBER_LIMIT) {
+        return value % OPEN + magnitude % NUMBER_LIMIT * 9 + d as u64;
+    }
+    NONE
+}
+
+// Whether a character is an event's letter.
+fn is_letter(b: u8) -> bool {
+    (b == b'S') | (b == b'P') | (b == b'R') | (b == b'N')
+}
+
+// A byte with one digit more, or an event's letter.
+fn byte(value: u64, b: u8) -> u64 {
+    let d = digit(b);
+    if (value == 0) & is_letter(b) {
+        return LETTER + b as u64;
+    }
+    if d == NO_DIGIT {
+        return NONE;
+    }
+    if value == 0 {
+        return OPEN + d as u64;
+    }
+    if OPEN <= value {
+        return BYTE + value % 16 * 16 + d as u64;
+    }
+    NONE
+}
+
+// The token at a place with one character more; bytes begin at another.
+fn joined(value: u64, b: u8, at: usize, first: usize) -> u64 {
+    if begins(b) {
+        return 0;
+    }
+    if at == 0 {
+        return word(value, b);
+    }
+    if at < first {
+        return decimal(value, b);
+    }
+    byte(value, b)
+}
+
+// The smaller of two.
+fn least(a: usize, b: usize) -> usize {
+    if a < b { a } else { b }
+}
+
+// The tokens of a text.
+pub(crate) fn split(text: &[u8]) -> Tokens {
+    let mut held = [0u64; 192];
+    let mut count = 1;
+    let mut first = MOST;
+    let mut second = MOST;
+    let mut good = true;
+    let mut partial = true;
+    let mut i = 0;
+    while i < text.len() {
+        let b = text[i];
+        count = counted(count, b);
+        second = marked(second, count, b, b';');
+        first = least(marked(first, count, b, b':'), second);
+        let at = last(count);
+        let value = joined(held[at], b, at, first);
+        held[at] = value;
+        good = good & (value < NONE) & !(partial & begins(b));
+        partial = begins(b) | (OPEN <= value);
+        i += 1;
+    }
+    Tokens {
+        held,
+        numbers: least(first, count),
+        first,
+        middle: least(second, count),
+        second,
+        count,
+        good: good & !partial & (count <= MOST),
+    }
+}
+
+// Puts the bytes from one place to another into lent memory: how many they are, or `NO_BYTES` where they are too many or one is none.
+pub(crate) fn bytes(held: [u64; 192], from: usize, to: usize, out: &mut [u8]) -> usize
+    ensures { λ r. ⌜ (r ≤ 65) × (length (now (out .exit)) ≡ length (now (out .entry))) ⌝ }
+{
+    let mut n = 0;
+    let mut i = from;
+    while i < to {
+        let value = held[i % MOST];
+        if value < BYTE {
+            return NO_BYTES;
+        }
+        if out.len() <= n {
+            return NO_BYTES;
+        }
+        out[n] = (value % 256) as u8;
+        n += 1;
+        i += 1;
+    }
+    if n < NO_BYTES { n } else { NO_BYTES }
+}
+
+// The number of this magnitude below zero.
+fn below_zero(magnitude: u32) -> i32
+    requires { ⌜ magnitude ≤ 2147483647 ⌝ }
+{
+    -(magnitude as i32)
+}
+
+// A number as a signed one of 32 bits: the nearest.
+pub(crate) fn signed(number: u64) -> i32 {
+    let magnitude = number % NEGATIVE;
+    if number < NEGATIVE {
+        if HIGHEST_MAGNITUDE < magnitude {
+            return HIGHEST;
+        }
+        return magnitude as i32;
+    }
+    if HIGHEST_MAGNITUDE < magnitude {
+        return LOWEST;
+    }
+    below_zero(magnitude as u32)
+}
+
+// A number as an unsigned one of 32 bits: the largest where it does not fit.
+pub(crate) fn unsigned(number: u64) -> u32 {
+    if HIGHEST_UNSIGNED < number {
+        return HIGHEST_UNSIGNED as u32;
+    }
+    number as u32
+}
+
+// The settings of a record of planning: the numbers after the address.
+pub(crate) fn settings(held: [u64; 192]) -> [i32; 64] {
+    let mut settings = [0i32; 64];
+    let mut i = 0;
+    while i < MOST_SETTINGS {
+        let n = signed(held[i + FIRST_SETTING]);
+        settings[i] = n;
+        i += 1;
+    }
+    settings
+}
