@@ -5,6 +5,7 @@
 #![forbid(unsafe_code)]
 #![warn(missing_docs)]
 
+pub mod chip;
 pub mod codes;
 pub mod fields;
 pub mod gamma;

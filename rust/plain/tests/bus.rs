@@ -1,60 +1,23 @@
 //! Playing against the bus rules event by event, and the exhaustive searches.
 
-use plain::registers::{span, BARRED_MAP, READ_ONLY, REGISTERS, WORD, WORD_BYTES};
+use plain::chip::{Acknowledge, Chip, Event};
+use plain::registers::{span, BARRED_MAP, REGISTERS, WORD, WORD_BYTES};
 use plain::search::{every_cover, every_list, least, spans, Cost};
 use plain::{least as planner, play, transaction, MOST_DATA};
 
 /// The chip's own address.
 const OWN: u32 = 0x54;
 
-/// What the chip waits for.
-enum State {
-    Idle,
-    Address,
-    Subaddress,
-    Data,
-}
-
-/// A chip that is only written to.
-struct Chip {
-    state: State,
-    pointer: usize,
-    image: [u8; REGISTERS],
-}
-
-impl Chip {
-    /// Takes one byte from the master and says whether it is acknowledged.
-    fn byte(&mut self, byte: u8) -> bool {
-        let (state, taken) = match self.state {
-            State::Address if byte as u32 == OWN => (State::Subaddress, true),
-            State::Subaddress if (byte as usize) < REGISTERS => {
-                self.pointer = byte as usize;
-                (State::Data, true)
-            }
-            State::Data if self.pointer < REGISTERS => {
-                if self.pointer != READ_ONLY {
-                    self.image[self.pointer] = byte;
-                }
-                self.pointer += 1;
-                (State::Data, true)
-            }
-            _ => (State::Idle, false),
-        };
-        self.state = state;
-        taken
+/// One write transaction: whether the chip acknowledges every byte.
+fn write(chip: &mut Chip, address: u32, start: usize, data: &[u8]) -> bool {
+    chip.step(Event::Start);
+    let mut all = true;
+    for byte in [&[address as u8, start as u8], data].concat() {
+        let (_, acknowledge) = chip.step(Event::FromMaster(byte));
+        all &= acknowledge == Acknowledge::Yes;
     }
-
-    /// One write transaction.
-    fn write(&mut self, address: u32, start: usize, data: &[u8]) -> bool {
-        self.state = State::Address;
-        let mut all = self.byte(address as u8);
-        all &= self.byte(start as u8);
-        for &byte in data {
-            all &= self.byte(byte);
-        }
-        self.state = State::Idle;
-        all
-    }
+    chip.step(Event::Stop);
+    all
 }
 
 /// A packed plan, bit by bit.
@@ -74,19 +37,15 @@ fn packed(list: &[(usize, &[u8])]) -> Vec<u8> {
 /// Plays a list both ways; the answer is playing's refusal.
 fn both(list: &[(usize, &[u8])], used: u32) -> u32 {
     let image: [u8; REGISTERS] = std::array::from_fn(|place| place as u8 ^ 0xA5);
-    let mut chip = Chip {
-        state: State::Idle,
-        pointer: 0,
-        image,
-    };
+    let mut chip = Chip::fresh(OWN as u8, image);
     let mut all = true;
     for (start, data) in list {
-        all &= chip.write(used, *start, data);
+        all &= write(&mut chip, used, *start, data);
     }
     let mut played = image;
     let answer = play(&mut played, used, OWN, &packed(list));
     if answer.refusal == 0 {
-        assert_eq!((played, answer.acknowledged), (chip.image, all as u32));
+        assert_eq!((played, answer.acknowledged), (chip.registers, all as u32));
     } else {
         assert_eq!((played, answer.acknowledged), (image, 0));
     }

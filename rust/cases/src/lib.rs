@@ -1,0 +1,32 @@
+//! Records of the program `adv7194_run` and their answers, by the plain implementation.
+//!
+//! A record is a line of text; crates/adv7194_run/src/main.rt says what each
+//! kind asks and how it is answered. Nothing here is the program's or the library's.
+#![forbid(unsafe_code)]
+#![warn(missing_docs)]
+
+pub mod answer;
+pub mod make;
+
+mod codings;
+mod events;
+mod plans;
+mod plays;
+mod random;
+mod record;
+mod signalling;
+mod together;
+
+pub use answer::answers;
+
+/// Bytes in two hexadecimal digits each, a space between them.
+pub(crate) fn hex(bytes: &[u8]) -> String {
+    let digits: Vec<String> = bytes.iter().map(|byte| format!("{byte:02X}")).collect();
+    digits.join(" ")
+}
+
+/// Numbers with a space between them.
+pub(crate) fn decimal(numbers: &[i32]) -> String {
+    let digits: Vec<String> = numbers.iter().map(i32::to_string).collect();
+    digits.join(" ")
+}
