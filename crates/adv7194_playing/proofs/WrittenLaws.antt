@@ -117,7 +117,8 @@ broken plan ts t c w e =
     breaks : (us : List Transaction) → allKeepRules ((ts ++ (t ∷ [])) ++ us) ≡ false
     breaks us =
         rules-both (ts ++ (t ∷ [])) us
-        ∙ ap (λ (b : Bool). b && allKeepRules us) (rules-both ts (t ∷ []) ∙ ap (λ (b : Bool). allKeepRules ts && b) (rules-one t ∙ ap (λ (b : Bool). b && true) e) ∙ none (allKeepRules ts))
+        ∙ ap (λ (b : Bool). b && allKeepRules us) (rules-both ts (t ∷ [])
+        ∙ ap (λ (b : Bool). allKeepRules ts && b) (rules-one t ∙ ap (λ (b : Bool). b && true) e) ∙ none (allKeepRules ts))
 
 module _ {plan before registers : List ℕ} {c : Cursor} {transactions : ℕ} (w : Writing plan before registers c transactions)
     {subaddress count : ℕ} {first : Place} {after : Cursor} (g : Went plan c subaddress count first after) where
@@ -142,12 +143,14 @@ module _ {plan before registers : List ℕ} {c : Cursor} {transactions : ℕ} (w
           walked = walk-goes (w .walked) g;
           counts = ap (λ (n : ℕ). n + 1) (w .counts) ∙ sym (one-more (w .done) found);
           rules = rules-both (w .done) (found ∷ []) ∙ ap₂ (λ (x y : Bool). x && y) (w .rules) (rules-one found ∙ ap (λ (b : Bool). b && true) (header ∙ e));
-          written = h ∙ data-copied plan first registers subaddress count (g .placed) (g .room) (omega (arith, as-many w, long, room subaddress count (g .some) e))
+          written = h ∙ data-copied plan first registers subaddress count (g .placed) (g .room)
+              (omega (arith, as-many w, long, room subaddress count (g .some) e))
               ∙ ap (λ (l : List ℕ). sets l subaddress bytes) (w .written) ∙ sym (written-more before (w .done) found);
         }
 
 -- none was
-pub writing-begins : (plan registers : List ℕ) (c : Cursor) → c ≡ beginning plan Ascending → ((i : ℕ) → getD plan i 0 < 2 ^ 8) → Writing plan registers registers c 0
+pub writing-begins : (plan registers : List ℕ) (c : Cursor) → c ≡ beginning plan Ascending → ((i : ℕ) → getD plan i 0 < 2 ^ 8)
+    → Writing plan registers registers c 0
 unfolding allKeepRules allWritten
 writing-begins plan registers c e bytes =
     record { done = []; walked = rw e (walk-begins plan Ascending bytes); counts = refl; rules = refl; written = refl }

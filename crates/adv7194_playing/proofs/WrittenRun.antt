@@ -44,7 +44,8 @@ module _ (own : ℕ) where
   run-written [] c h = refl
   run-written (t ∷ ts) c h =
       ap (λ (d : Chip). d .registers) (run-list (adv7194 own) own c t ts) ∙ run-written ts (run (adv7194 own) c (transactionEvents own t)) (h .1)
-      ∙ ap (λ (l : List ℕ). allWritten l ts) (run-transaction (adv7194 own) c t ∙ stores-sets (t .bytes) (t .subaddress) (c .registers) (λ r p q. h .0 .inside r (p, q)))
+      ∙ ap (λ (l : List ℕ). allWritten l ts) (run-transaction (adv7194 own) c t
+      ∙ stores-sets (t .bytes) (t .subaddress) (c .registers) (λ r p q. h .0 .inside r (p, q)))
 
   -- encodable ones that keep the rules have data, and the chip has their registers
   all-fit : (free : ℕ) (ts : List Transaction) → T (ascending free ts) → Every Rules ts → Every (Fits (adv7194 own)) ts
@@ -71,7 +72,8 @@ kept-rules (refused n) ts e = let z : _≡_ {A = ℕ} 0 1 = cc in absurd (omega 
 module _ (image : List ℕ) (used own : ℕ) (same : used ≡ own) (plan : List ℕ) where
   -- what is accepted is acknowledged throughout, and its data are left
   own-list : (ts : List Transaction) → judgedByRules (unpack plan) ≡ accepted ts
-      → (allAcknowledged (adv7194 own) (fresh image) (listEvents used ts) ≡ true) × (run (adv7194 own) (fresh image) (listEvents used ts) .registers ≡ allWritten image ts)
+      → (allAcknowledged (adv7194 own) (fresh image) (listEvents used ts) ≡ true)
+      × (run (adv7194 own) (fresh image) (listEvents used ts) .registers ≡ allWritten image ts)
   own-list ts e =
       let k = kept-rules (unpack plan) ts e in
       let rules = agree-all ts .0 (k .1) in

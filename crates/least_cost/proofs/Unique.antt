@@ -62,7 +62,8 @@ module _ (p : Task) (want : ℕ → ℕ) where
 
   -- no end that weighs as little comes earlier
   abbrev Short : ℕ → ℕ → ℕ → Open → Type 0
-  Short k i r q = (k′ j : ℕ) → i + k ≡ j + k′ → i ≤ j → p .cut j ≡ true → byteWeight * j + leastClosed p k′ j ≤ leastOpen p k i r + byteWeight * i → i + length (q .bytes) ≤ j
+  Short k i r q = (k′ j : ℕ) → i + k ≡ j + k′ → i ≤ j → p .cut j ≡ true → byteWeight * j + leastClosed p k′ j ≤ leastOpen p k i r + byteWeight * i
+      → i + length (q .bytes) ≤ j
 
   short : (k i r : ℕ) → Short k i r (extend p (best p) want k i r)
   unfolding scan
@@ -183,7 +184,8 @@ module _ (p : Task) (want : ℕ → ℕ) (τ : NoTie p) where
           where
             low : (b : Bool) → ltb i (t .subaddress) ≡ b → t .subaddress ≤ i
             low false d = ltb-false i (t .subaddress) d
-            low true d = absurd (ascending-past (t .subaddress) i (t ∷ ts) (omega arith, a .1) (ltb-true i (t .subaddress) d) (covers i (omega arith) (omega arith) n))
+            low true d = absurd (ascending-past (t .subaddress) i (t ∷ ts) (omega arith, a .1) (ltb-true i (t .subaddress) d)
+                (covers i (omega arith) (omega arith) n))
 
         same : Met p want k i t ts → (t ∷ ts) ≡ begin i (want i) (extend p (best p) want k (suc i) i)
         same f =

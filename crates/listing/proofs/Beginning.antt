@@ -58,7 +58,8 @@ front-of (x ∷ word) (y ∷ line) e =
     cc
 
 -- a flag that tells whether the front is the word
-pub begins-flag : (word line : List ℕ) (r : Bool) → (r ≡ true → take (length word) line ≡ word) → (take (length word) line ≡ word → r ≡ true) → r ≡ begins word line
+pub begins-flag : (word line : List ℕ) (r : Bool) → (r ≡ true → take (length word) line ≡ word) → (take (length word) line ≡ word → r ≡ true)
+    → r ≡ begins word line
 begins-flag word line r f g = same-flag r (begins word line) (λ e. begins-of word line (f e)) (λ e. g (front-of word line e))
 
 -- the words of the two lines

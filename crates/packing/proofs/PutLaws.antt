@@ -23,7 +23,8 @@ use Rattle.packing.specs.Written.{Sound, Put, written}
 -- ---- one string after another
 
 -- a plan that begins: its first number is pending
-pub begun : (plan : List ℕ) (n : ℕ) → n < 64 → Sound (record { at = 0; count = 6; bits = n }) × (written plan (record { at = 0; count = 6; bits = n }) ≡ msbFirst 6 n)
+pub begun : (plan : List ℕ) (n : ℕ) → n < 64 → Sound (record { at = 0; count = 6; bits = n })
+    × (written plan (record { at = 0; count = 6; bits = n }) ≡ msbFirst 6 n)
 unfolding byteBits
 begun plan n h = (record { few = omega arith; low = h }, refl)
 
@@ -55,8 +56,10 @@ pub put-part : (plan last : List ℕ) (p r : Pending) (bs : List Bool) → p .at
     → Put plan (putMid (p .at) (length plan - p .at) plan last) p bs (record { at = p .at + r .at; count = r .count; bits = r .bits })
 unfolding byteBits
 put-part plan last p r bs h k =
-    let whole : take (length plan - p .at) (drop (p .at) plan) ≡ drop (p .at) plan = take-all (length plan - p .at) (drop (p .at) plan) (simp length-drop (omega arith)) in
-    let none : drop (length plan - p .at) (drop (p .at) plan) ≡ [] = drop-of-length-le (drop (p .at) plan) {i = length plan - p .at} (simp length-drop (omega arith)) in
+    let whole : take (length plan - p .at) (drop (p .at) plan) ≡ drop (p .at) plan =
+    take-all (length plan - p .at) (drop (p .at) plan) (simp length-drop (omega arith)) in
+    let none : drop (length plan - p .at) (drop (p .at) plan) ≡ [] =
+    drop-of-length-le (drop (p .at) plan) {i = length plan - p .at} (simp length-drop (omega arith)) in
     let all : putMid (p .at) (length plan - p .at) plan last ≡ take (p .at) plan ++ last = simp (none, append-nil) in
     let front : length (take (p .at) plan) ≡ p .at = length-take-le (p .at) plan h in
     let taken : take (p .at + r .at) (take (p .at) plan ++ last) ≡ take (p .at) plan ++ take (r .at) last =
@@ -159,7 +162,8 @@ put-byte plan at i count before v few h room =
     let e : count + 8 - 8 ≡ count = omega arith in
     let on : at + i + 1 ≡ at + (i + 1) = omega arith in
     let byte : x / 2 ^ (count + 8 - 8) ≡ (before * 0x100 + v) / 2 ^ count % 0x100 = cc (byte-cut count before v h) in
-    let next : _≡_ {A = Pending} (record { at = at + i + 1; count = count + 8 - 8; bits = x % 2 ^ (count + 8 - 8) }) (record { at = at + (i + 1); count = count; bits = v % 2 ^ count }) =
+    let next : _≡_ {A = Pending} (record { at = at + i + 1; count = count + 8 - 8; bits = x % 2 ^ (count + 8 - 8) })
+    (record { at = at + (i + 1); count = count; bits = v % 2 ^ count }) =
     cc (byte-left count (before % 2 ^ count) v few h) in
     subst (λ (y : ℕ). Put plan (set plan (at + i) y) p (msbFirst 8 v) (record { at = at + (i + 1); count = count; bits = v % 2 ^ count })) byte
     (subst (λ (r : Pending). Put plan (set plan (at + i) (x / 2 ^ (count + 8 - 8))) p (msbFirst 8 v) r) next
@@ -194,6 +198,12 @@ unfolding packed packedBits
 finished before mid after ts r n few room k e f =
     let bits : written mid r ≡ packedBits ts = k .wrote ∙ ap (λ (l : List Bool). l ++ listBits ts) (begun before (length ts) few .1) in
     let size : length (written mid r) ≡ r .at * 8 + r .count =
-    omega (arith, length-append (byteBits (take (r .at) mid)) (msbFirst (r .count) (r .bits)), byteBits-length (take (r .at) mid), length-take-le (r .at) mid room, msb-length (r .count) (r .bits)) in
+    omega (
+      arith,
+      length-append (byteBits (take (r .at) mid)) (msbFirst (r .count) (r .bits)),
+      byteBits-length (take (r .at) mid),
+      length-take-le (r .at) mid room,
+      msb-length (r .count) (r .bits),
+    ) in
     let past : drop n mid ≡ drop n before = drop-further mid before (r .at) n (omega (arith, bytesOf-length (written mid r))) (k .past) in
     (e ∙ ap (λ (l : List Bool). length (bytesOf l)) bits, f ∙ ap₂ (λ (l : List Bool) (d : List ℕ). bytesOf l ++ d) bits past)

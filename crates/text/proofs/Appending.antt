@@ -15,7 +15,8 @@ use Rattle.text.specs.Line.{room, placeAfter, appended}
 use Rattle.text.specs.declared.Place.the-variants.{After, TooShort}
 
 -- where the text fits it is written
-pub fitting : (line : List ℕ) (at : ℕ) (text : List ℕ) → at + length text ≤ length line → appended line at text ≡ take at line ++ text ++ drop (at + length text) line
+pub fitting : (line : List ℕ) (at : ℕ) (text : List ℕ) → at + length text ≤ length line
+    → appended line at text ≡ take at line ++ text ++ drop (at + length text) line
 unfolding appended
 fitting line at text h = rw (le-leb (at + length text) (length line) h)
 
@@ -106,7 +107,8 @@ module _ {line : List ℕ} {at : ℕ} {text after : List ℕ} {place : ℕ} (w :
   answered = (ap After (w .here) ∙ sym (placed line at text (w .fit)), w .memory)
 
   -- a further text that fits
-  pub next : (more : List ℕ) {after' : List ℕ} {place' : ℕ} → place + length more ≤ length line → after' ≡ appended after place more → place' ≡ place + length more
+  pub next : (more : List ℕ) {after' : List ℕ} {place' : ℕ} → place + length more ≤ length line → after' ≡ appended after place more
+      → place' ≡ place + length more
       → Written line at (text ++ more) after' place'
   next more {after'} {place'} h m p =
       let both : length (text ++ more) ≡ length text + length more = length-append text more in

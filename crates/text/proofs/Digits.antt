@@ -21,7 +21,8 @@ unfolding leading
 leading-last steps n h = rw (ne-eqb n 0 (λ e. omega arith))
 
 -- one step more changes nothing, where fewer are enough for the tens
-enough-more : (steps n : ℕ) → ((m : ℕ) → m ≤ steps → leading (suc steps) m ≡ leading steps m) → n ≤ suc steps → leading (suc (suc steps)) n ≡ leading (suc steps) n
+enough-more : (steps n : ℕ) → ((m : ℕ) → m ≤ steps → leading (suc steps) m ≡ leading steps m) → n ≤ suc steps
+    → leading (suc (suc steps)) n ≡ leading (suc steps) n
 enough-more steps zero ih h = leading-zero (suc (suc steps)) ∙ sym (leading-zero (suc steps))
 enough-more steps (suc n) ih h =
     leading-last (suc steps) (suc n) (omega arith)

@@ -7,21 +7,20 @@ use Prim.Native.Nat.{ℕ, _+_, _-_, _*_, _/_, _^_, _≤_, _<_}
 use native.Mathlib.Omega.{arith}
 use lib.Dec.{T, leb, ltb, le→leb, lt→ltb, leb→le, ltb→lt}
 use lib.ListN.{length, take, drop, getD, replicate, take-append-drop, length-append}
-use borrow.Author.Tests.{le-leb, lt-leb}
 use Rattle.bits.specs.Strings.{msbFirst, byteBits}
 use Rattle.bits.specs.Bytes.{sameBytes}
 use Rattle.bits.proofs.StringLaws.{msb-length}
-use Rattle.bits.proofs.ByteLaws.{byteBits-length, byteBits-bytesOf}
+use Rattle.bits.proofs.ByteLaws.{byteBits-bytesOf}
 use Rattle.bus.specs.Transactions.{Transaction, Every, end}
 use Rattle.refusals.specs.Refusal.{Judged, accepted, refused}
-use Rattle.packing.specs.Packing.{listBits, packedBits, packed, encodable, behind, anywhere, arranged, wellFormedBy}
+use Rattle.packing.specs.Packing.{listBits, packedBits, packed, encodable, behind, arranged, wellFormedBy}
 use Rattle.packing.proofs.FillLaws.{filled-bytes}
-use Rattle.unpacking.specs.Unpacking.{UnpacksBy, packs, packs-none, number, candidate, unpackBy, unpack, counted}
+use Rattle.unpacking.specs.Unpacking.{UnpacksBy, packs, packs-none, number, candidate, unpackBy, unpack}
 use Rattle.bits.proofs.FlagLaws.{both, first, second, same-test, holds}
 use Rattle.bits.proofs.SameLaws.{same-bytes, same-self}
 use Rattle.unpacking.proofs.Tests.{encodable-facts}
 use Rattle.unpacking.proofs.FrontLaws.{number-front, rest-front, number-lt, number-bits}
-use Rattle.unpacking.proofs.Reader.{valid, sound, complete, named-length}
+use Rattle.unpacking.proofs.Reader.{valid, sound, complete}
 
 -- ---- what was packed
 
@@ -37,7 +36,8 @@ packed-bits ts =
     record {
       fill = (length (packedBits ts) + 7) / 8 * 8 - length (packedBits ts);
       few = omega arith;
-      bits = byteBits-bytesOf (packedBits ts) ∙ append-assoc (msbFirst 6 (length ts)) (listBits ts) (replicate ((length (packedBits ts) + 7) / 8 * 8 - length (packedBits ts)) false);
+      bits = byteBits-bytesOf (packedBits ts) ∙ append-assoc (msbFirst 6 (length ts)) (listBits ts)
+          (replicate ((length (packedBits ts) + 7) / 8 * 8 - length (packedBits ts)) false);
     }
 
 -- next gives the first register that a transaction may start at, by the end of the one before it
@@ -68,7 +68,9 @@ module _ (next : ℕ → ℕ) where
   unfolding unpackBy
   packed-unpacks ts h =
       let e = candidate-packed ts h in
-      rw e (ap (λ (b : Bool). cond b (accepted ts) (refused 9)) (holds (wellFormedBy next ts && sameBytes (packed ts) (packed ts)) (both (wellFormedBy next ts) (sameBytes (packed ts) (packed ts)) h (subst⁻¹ T (same-self (packed ts)) tt))))
+      rw e (ap (λ (b : Bool). cond b (accepted ts) (refused 9))
+      (holds (wellFormedBy next ts && sameBytes (packed ts) (packed ts))
+      (both (wellFormedBy next ts) (sameBytes (packed ts) (packed ts)) h (subst⁻¹ T (same-self (packed ts)) tt))))
 
   -- packing what was unpacked gives the bytes again
   pub unpacks-packed : (plan : List ℕ) (ts : List Transaction) → unpackBy next plan ≡ accepted ts → T (wellFormedBy next ts) × (plan ≡ packed ts)
@@ -78,12 +80,15 @@ module _ (next : ℕ → ℕ) where
       us : List Transaction
       us = candidate plan
 
-      go : (b : Bool) → wellFormedBy next us && sameBytes plan (packed us) ≡ b → cond b (accepted us) (refused 9) ≡ accepted ts → T (wellFormedBy next ts) × (plan ≡ packed ts)
+      go : (b : Bool) → wellFormedBy next us && sameBytes plan (packed us) ≡ b → cond b (accepted us) (refused 9) ≡ accepted ts → T (wellFormedBy next ts)
+          × (plan ≡ packed ts)
       go true d f =
           let same-list : us ≡ ts = cc in
           let h = subst T (sym d) tt in
-          subst (λ (l : List Transaction). T (wellFormedBy next l) × (plan ≡ packed l)) same-list
-          (first (wellFormedBy next us) (sameBytes plan (packed us)) h, same-bytes plan (packed us) (second (wellFormedBy next us) (sameBytes plan (packed us)) h))
+          subst (λ (l : List Transaction). T (wellFormedBy next l) × (plan ≡ packed l)) same-list (
+            first (wellFormedBy next us) (sameBytes plan (packed us)) h,
+            same-bytes plan (packed us) (second (wellFormedBy next us) (sameBytes plan (packed us)) h),
+          )
       go false d f = let z : _≡_ {A = ℕ} 0 1 = cc in absurd (omega arith)
 
   -- the two as one: a plan is accepted with ts exactly when ts is well-formed and the plan is its packing
@@ -105,7 +110,8 @@ module _ (next : ℕ → ℕ) where
     where
       go : (j : Judged (List Transaction)) → unpackBy next plan ≡ j → UnpacksBy next plan j
       go (accepted ts) e = packs (unpacks-packed plan ts e .0) (unpacks-packed plan ts e .1)
-      go (refused n) e = subst (λ (m : ℕ). UnpacksBy next plan (refused m)) (refused-nine plan n e) (packs-none (λ ts h p. never ts (exact plan ts .1 (h, p)) e))
+      go (refused n) e = subst (λ (m : ℕ). UnpacksBy next plan (refused m)) (refused-nine plan n e)
+          (packs-none (λ ts h p. never ts (exact plan ts .1 (h, p)) e))
         where
           never : (ts : List Transaction) → unpackBy next plan ≡ accepted ts → unpackBy next plan ≡ refused n → ⊥
           never ts p q = let z : _≡_ {A = ℕ} 0 1 = cc in omega arith
@@ -131,12 +137,15 @@ module _ (next : ℕ → ℕ) where
   valid-packed ts h =
       let p = packed-bits ts in
       let long : 6 ≤ length (byteBits (packed ts)) =
-      subst (λ (l : List Bool). 6 ≤ length l) (sym (p .bits)) (omega (arith, length-append (msbFirst 6 (length ts)) (listBits ts ++ replicate (p .fill) false), msb-length 6 (length ts))) in
-      both (leb 6 (length (byteBits (packed ts)))) (valid next (number 6 (byteBits (packed ts))) 0 (drop 6 (byteBits (packed ts)))) (le→leb 6 (length (byteBits (packed ts))) long)
+      subst (λ (l : List Bool). 6 ≤ length l) (sym (p .bits))
+      (omega (arith, length-append (msbFirst 6 (length ts)) (listBits ts ++ replicate (p .fill) false), msb-length 6 (length ts))) in
+      both (leb 6 (length (byteBits (packed ts)))) (valid next (number 6 (byteBits (packed ts))) 0 (drop 6 (byteBits (packed ts))))
+      (le→leb 6 (length (byteBits (packed ts))) long)
       (rw (count-packed ts h, rest-packed ts h) (complete next 0 ts (p .fill) (p .few) (in-order ts h) .0))
 
   -- and nothing else
-  packed-valid : (plan : List ℕ) → ((i : ℕ) → getD plan i 0 < 2 ^ 8) → T (validPlan plan) → T (wellFormedBy next (candidate plan)) × (plan ≡ packed (candidate plan))
+  packed-valid : (plan : List ℕ) → ((i : ℕ) → getD plan i 0 < 2 ^ 8) → T (validPlan plan) → T (wellFormedBy next (candidate plan))
+      × (plan ≡ packed (candidate plan))
   unfolding validPlan wellFormedBy packed packedBits
   packed-valid plan bytes h =
       let bs = byteBits plan in
@@ -147,7 +156,8 @@ module _ (next : ℕ → ℕ) where
       let s = sound next n 0 (drop 6 bs) h₁ in
       let front : msbFirst 6 (length us) ≡ take 6 bs = ap (msbFirst 6) (s .count) ∙ number-bits 6 bs long in
       let bits : bs ≡ (msbFirst 6 (length us) ++ listBits us) ++ replicate (s .fill) false =
-      sym (take-append-drop 6 bs) ∙ ap₂ (λ (x y : List Bool). x ++ y) (sym front) (s .bits) ∙ sym (append-assoc (msbFirst 6 (length us)) (listBits us) (replicate (s .fill) false)) in (
+      sym (take-append-drop 6 bs) ∙ ap₂ (λ (x y : List Bool). x ++ y) (sym front) (s .bits)
+      ∙ sym (append-assoc (msbFirst 6 (length us)) (listBits us) (replicate (s .fill) false)) in (
         both (ltb (length us) 64) (arranged next 0 us) (lt→ltb (length us) 64 (subst (λ (m : ℕ). m < 64) (sym (s .count)) (number-lt 6 bs))) (s .order),
         filled-bytes plan (msbFirst 6 (length us) ++ listBits us) (s .fill) bytes (s .few) bits,
       )
@@ -160,7 +170,8 @@ module _ (next : ℕ → ℕ) where
       us = candidate plan
 
       to : T (wellFormedBy next us && sameBytes plan (packed us)) → T (validPlan plan)
-      to h = subst (λ (l : List ℕ). T (validPlan l)) (sym (same-bytes plan (packed us) (second (wellFormedBy next us) (sameBytes plan (packed us)) h))) (valid-packed us (first (wellFormedBy next us) (sameBytes plan (packed us)) h))
+      to h = subst (λ (l : List ℕ). T (validPlan l)) (sym (same-bytes plan (packed us) (second (wellFormedBy next us) (sameBytes plan (packed us)) h)))
+          (valid-packed us (first (wellFormedBy next us) (sameBytes plan (packed us)) h))
 
       from : T (validPlan plan) → T (wellFormedBy next us && sameBytes plan (packed us))
       from h =
@@ -173,19 +184,26 @@ module _ (next : ℕ → ℕ) where
   read-plan plan bytes = ap (λ (b : Bool). cond b (accepted (candidate plan)) (refused 9)) (agree plan bytes)
 
 -- ascending transactions that lie in so many registers are no more than those
-few-within : (registers free : ℕ) (ts : List Transaction) → free ≤ registers → T (arranged behind free ts) → Every (λ t. end t ≤ registers) ts → length ts + free ≤ registers
+few-within : (registers free : ℕ) (ts : List Transaction) → free ≤ registers → T (arranged behind free ts) → Every (λ t. end t ≤ registers) ts
+    → length ts + free ≤ registers
 unfolding arranged
 few-within registers free [] h o e = omega arith
 few-within registers free (t ∷ ts) h o e =
     let o₁ = second (leb free (t .subaddress)) (encodable t && arranged behind (end t) ts) o in
     let s = encodable-facts t (first (encodable t) (arranged behind (end t) ts) o₁) in
-    omega (arith, s .some, leb→le free (t .subaddress) (first (leb free (t .subaddress)) (encodable t && arranged behind (end t) ts) o), few-within registers (end t) ts (e .0) (second (encodable t) (arranged behind (end t) ts) o₁) (e .1))
+    omega (
+      arith,
+      s .some,
+      leb→le free (t .subaddress) (first (leb free (t .subaddress)) (encodable t && arranged behind (end t) ts) o),
+      few-within registers (end t) ts (e .0) (second (encodable t) (arranged behind (end t) ts) o₁) (e .1),
+    )
 
 -- for every register count up to 63: ascending transactions in those registers come back from their packing, and whatever unpacks to them is it
 pub round-trip : (registers : ℕ) → registers ≤ 63 → (ts : List Transaction) → T (arranged behind 0 ts) → Every (λ t. end t ≤ registers) ts
     → (unpack (packed ts) ≡ accepted ts) × ((plan : List ℕ) → unpack plan ≡ accepted ts → packed ts ≡ plan)
 unfolding wellFormedBy
 round-trip registers h ts o e = (
-  packed-unpacks behind ts (both (ltb (length ts) 64) (arranged behind 0 ts) (lt→ltb (length ts) 64 (omega (arith, few-within registers 0 ts (omega arith) o e))) o),
+  packed-unpacks behind ts (both (ltb (length ts) 64) (arranged behind 0 ts)
+      (lt→ltb (length ts) 64 (omega (arith, few-within registers 0 ts (omega arith) o e))) o),
   λ plan p. sym (unpacks-packed behind plan ts p .1),
 )

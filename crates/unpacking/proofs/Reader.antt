@@ -53,7 +53,8 @@ module _ (free : ℕ) (bs : List Bool) where
       let k = countIn bs in
       let held = leb (k * 8) (length (drop 12 bs)) in
       both (leb 12 (length bs)) (ltb 0 k && (leb free a && held)) (le→leb 12 (length bs) (s .long))
-      (both (ltb 0 k) (leb free a && held) (lt→ltb 0 k (s .some)) (both (leb free a) held (le→leb free a (s .from)) (le→leb (k * 8) (length (drop 12 bs)) (s .held))))
+      (both (ltb 0 k) (leb free a && held) (lt→ltb 0 k (s .some))
+      (both (leb free a) held (le→leb free a (s .from)) (le→leb (k * 8) (length (drop 12 bs)) (s .held))))
 
 -- ---- the reader
 
@@ -129,18 +130,26 @@ module _ (next : ℕ → ℕ) where
         count = ap suc (ih .count);
         order = both (leb free a) (encodable (head bs) && arranged next (next (end (head bs))) (named n rest)) (le→leb free a (s .from))
             (both (encodable (head bs)) (arranged next (next (end (head bs))) (named n rest))
-            (encodable-from (head bs) (record { subaddress = number-lt 6 bs; some = subst (λ (x : ℕ). 0 < x) (sym e) (s .some); count = subst (λ (x : ℕ). x < 64) (sym e) (number-lt 6 (drop 6 bs)); bytes = bytesOf-lt (take (k * 8) (drop 12 bs)) }))
+            (encodable-from (head bs) (record {
+              subaddress = number-lt 6 bs;
+              some = subst (λ (x : ℕ). 0 < x) (sym e) (s .some);
+              count =
+                  subst (λ (x : ℕ). x < 64) (sym e) (number-lt 6 (drop 6 bs));
+              bytes = bytesOf-lt (take (k * 8) (drop 12 bs));
+            }))
             (subst (λ (x : ℕ). T (arranged next (next (a + x)) (named n rest))) (sym e) (ih .order)));
         fill = ih .fill;
         few = ih .few;
-        bits = sym (head-bits bs (s .long) (s .held)) ∙ ap (λ (l : List Bool). transactionBits (head bs) ++ l) (ih .bits) ∙ sym (append-assoc (transactionBits (head bs)) (listBits (named n rest)) (replicate (ih .fill) false));
+        bits = sym (head-bits bs (s .long) (s .held)) ∙ ap (λ (l : List Bool). transactionBits (head bs) ++ l) (ih .bits)
+            ∙ sym (append-assoc (transactionBits (head bs)) (listBits (named n rest)) (replicate (ih .fill) false));
       }
 
 -- ---- what it doesn't refuse
 
 module _ (t : Transaction) (rest : List Bool) (s : Encodable t) where
   -- a transaction in front is accepted where what follows it is
-  valid-step : (next : ℕ → ℕ) (n free : ℕ) → free ≤ t .subaddress → T (valid next n (next (end t)) rest) → T (valid next (suc n) free (transactionBits t ++ rest))
+  valid-step : (next : ℕ → ℕ) (n free : ℕ) → free ≤ t .subaddress → T (valid next n (next (end t)) rest)
+      → T (valid next (suc n) free (transactionBits t ++ rest))
   unfolding valid
   valid-step next n free h more =
       let bs = transactionBits t ++ rest in

@@ -28,11 +28,13 @@ plan-at c = start c .args .plan .now
 loop-holds : tie.Need-loop-holds Inv-loop μ-loop
 loop-holds c =
     let k = c .before .before in
-    writing-begins (k .before .args .plan .now) (k .before .args .registers .now) (c .begin .result) (c .begin .ensures) (λ i. k .shared-slice-known .given i .fits)
+    writing-begins (k .before .args .plan .now) (k .before .args .registers .now) (c .begin .result) (c .begin .ensures)
+    (λ i. k .shared-slice-known .given i .fits)
 
 -- what the step says
 said : (c : tie.After-next Inv-loop μ-loop) (r : Step) → c .next .result ≡ r → Stepped (plan-at (c .before)) (c .before .loop .cursor) r
-said c r e = subst (Stepped (plan-at (c .before)) (c .before .loop .cursor)) (sym (c .next .ensures) ∙ e) (stepped (plan-at (c .before)) (c .before .loop .cursor))
+said c r e = subst (Stepped (plan-at (c .before)) (c .before .loop .cursor)) (sym (c .next .ensures) ∙ e)
+    (stepped (plan-at (c .before)) (c .before .loop .cursor))
 
 returns : tie.Need-returns Inv-loop μ-loop
 returns c = let n = c .before .before in fault-answered (n .before .loop .inv) (said n _ (c .enum-told .given .1))
@@ -66,7 +68,8 @@ loop-again : tie.Need-loop-again Inv-loop μ-loop
 loop-again c =
     let e = kept c in
     let l = found c .before .before .before in
-    written-on (l .loop .inv) (went (found c)) (start l .pre) (sym (e .before .keeps-rules .ensures) ∙ not-false _ (e .if1 .left)) _ (c .before .before .copy-data .ensures)
+    written-on (l .loop .inv) (went (found c)) (start l .pre) (sym (e .before .keeps-rules .ensures) ∙ not-false _ (e .if1 .left)) _
+    (c .before .before .copy-data .ensures)
 
 pub write-plan-spec : {M : Type 1} → statement M
 write-plan-spec =

@@ -42,7 +42,8 @@ loop-holds c =
 
 -- what the step says
 said : (c : tie.After-next Inv-loop μ-loop) (r : Step) → c .next .result ≡ r → Stepped (plan-at (c .before)) (c .before .loop .cursor) r
-said c r e = subst (Stepped (plan-at (c .before)) (c .before .loop .cursor)) (sym (c .next .ensures) ∙ e) (stepped (plan-at (c .before)) (c .before .loop .cursor))
+said c r e = subst (Stepped (plan-at (c .before)) (c .before .loop .cursor)) (sym (c .next .ensures) ∙ e)
+    (stepped (plan-at (c .before)) (c .before .loop .cursor))
 
 returns : tie.Need-returns Inv-loop μ-loop
 returns c =
@@ -60,7 +61,8 @@ add-transactions c = let v = c .before .before .before .before .loop .inv in rec
 
 -- the transaction that was found
 went : (c : tie.After-after Inv-loop μ-loop)
-    → Went (plan-at (c .before .before .before)) (c .before .before .before .loop .cursor) (c .after .given .0 .0) (c .after .given .0 .1 .0) (c .after .given .0 .1 .1 .0)
+    → Went (plan-at (c .before .before .before)) (c .before .before .before .loop .cursor) (c .after .given .0 .0) (c .after .given .0 .1 .0)
+    (c .after .given .0 .1 .1 .0)
     (c .after .given .0 .1 .1 .1 .0)
 went c = said (c .before .before) _ (c .after .given .1)
 
@@ -70,7 +72,12 @@ loop-less c = omega (arith, went (c .before) .left)
 loop-again : tie.Need-loop-again Inv-loop μ-loop
 loop-again c =
     let v = c .before .before .before .before .loop .inv in
-    record { done = v .done ++ (_ ∷ []); walked = walk-goes (v .walked) (went (c .before)); counts = ap (λ (n : ℕ). n + 1) (v .counts) ∙ sym (one-more (v .done) _) }
+    record {
+      done = v .done ++ (_ ∷ []);
+      walked = walk-goes (v .walked) (went (c .before));
+      counts = ap (λ (n : ℕ). n + 1) (v .counts)
+          ∙ sym (one-more (v .done) _);
+    }
 
 pub check-spec : {M : Type 1} → statement M
 check-spec =

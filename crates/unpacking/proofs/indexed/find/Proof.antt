@@ -53,20 +53,27 @@ loop-holds c =
 
 -- what the step says
 said : (c : tie.After-next Inv-loop μ-loop) (r : Step) → c .next .result ≡ r → Stepped (plan-at (c .before)) (c .before .loop .cursor) r
-said c r e = subst (Stepped (plan-at (c .before)) (c .before .loop .cursor)) (sym (c .next .ensures) ∙ e) (stepped (plan-at (c .before)) (c .before .loop .cursor))
+said c r e = subst (Stepped (plan-at (c .before)) (c .before .loop .cursor)) (sym (c .next .ensures) ∙ e)
+    (stepped (plan-at (c .before)) (c .before .loop .cursor))
 
 returns : tie.Need-returns Inv-loop μ-loop
 returns c =
     let n = c .before .before in
-    let l = n .before in
-    (sym (ap (λ (j : Judged (List Transaction)). transactionIn j (start l .args .index)) (walk-fails (l .loop .inv .walked) (said n _ (c .enum-told .given .1)))), tt)
+    let l = n .before in (
+      sym (ap (λ (j : Judged (List Transaction)). transactionIn j (start l .args .index))
+          (walk-fails (l .loop .inv .walked) (said n _ (c .enum-told .given .1)))),
+      tt,
+    )
 
 returns-2 : tie.Need-returns-2 Inv-loop μ-loop
 returns-2 c =
     let n = c .before .before in
     let l = n .before in
-    let v = l .loop .inv in
-    (v .is ∙ sym (ap (λ (j : Judged (List Transaction)). transactionIn j (start l .args .index)) (walk-ends (v .walked) (said n _ (c .enum-told2 .given .1)))), v .placed)
+    let v = l .loop .inv in (
+      v .is ∙ sym (ap (λ (j : Judged (List Transaction)). transactionIn j (start l .args .index))
+          (walk-ends (v .walked) (said n _ (c .enum-told2 .given .1)))),
+      v .placed,
+    )
 
 -- the transaction that was found
 went : (c : tie.After-subaddress Inv-loop μ-loop)

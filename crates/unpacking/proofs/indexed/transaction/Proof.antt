@@ -75,7 +75,8 @@ returns-4 c =
     let p = subst (FoundPlaced (plan-at f)) (s .subaddress .given .1) (f .find .ensures .1) in (
       ap (λ (n : ℕ). accepted (record { subaddress = t .subaddress; count = n })) (sym (count-at s)) ∙ sym (ap headerOf e),
       k .copy-data .ensures
-          ∙ data-copied (plan-at f) (s .subaddress .given .0 .1 .1 .0) (memory-at f) 0 (s .subaddress .given .0 .1 .0) (p .0) (p .1) (omega (arith, o .if1 .left))
+          ∙ data-copied (plan-at f) (s .subaddress .given .0 .1 .1 .0) (memory-at f) 0 (s .subaddress .given .0 .1 .0) (p .0) (p .1)
+          (omega (arith, o .if1 .left))
           ∙ sets-front (t .bytes) (memory-at f) fits
           ∙ sym (ap (λ (j : Judged Transaction). dataAfter j (memory-at f)) e),
     )

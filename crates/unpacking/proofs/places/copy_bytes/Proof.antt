@@ -37,7 +37,8 @@ turn c = c .before .before
 kept : (c : tie.At-loop Inv-loop μ-loop) → length (c .loop .registers) ≡ length (start c .args .registers .now)
 kept c =
     let s = start c in
-    ap length (c .loop .inv .wrote) ∙ length-sets (s .args .registers .now) (s .args .subaddress) (firstBytes (c .loop .i) (leftAt (s .args .plan .now) (s .args .place)))
+    ap length (c .loop .inv .wrote) ∙ length-sets (s .args .registers .now) (s .args .subaddress)
+    (firstBytes (c .loop .i) (leftAt (s .args .plan .now) (s .args .place)))
 
 -- the bytes of the plan are bytes
 before-lt : (c : tie.After-shared-slice-known Inv-loop μ-loop) → getD (c .before .args .plan .now) (c .before .args .place .at - 1) 0 < 2 ^ 8
@@ -101,7 +102,8 @@ loop-again c =
       begun = ap (λ (k : ℕ). getD plan k 0) (sym on);
       byte = byte-lt c;
       wrote = ap (λ (x : ℕ). set (l .registers) (s .args .subaddress + l .i) ((x * 0x100 + getD plan (p .at + l .i) 0) / 2 ^ p .held % 0x100)) (l .inv .begun)
-          ∙ ap (λ (r : List ℕ). set r (s .args .subaddress + l .i) ((getD plan (p .at + l .i - 1) 0 * 0x100 + getD plan (p .at + l .i) 0) / 2 ^ p .held % 0x100)) (l .inv .wrote)
+          ∙ ap (λ (r : List ℕ). set r (s .args .subaddress + l .i)
+          ((getD plan (p .at + l .i - 1) 0 * 0x100 + getD plan (p .at + l .i) 0) / 2 ^ p .held % 0x100)) (l .inv .wrote)
           ∙ copied-more plan (s .args .registers .now) p (s .args .subaddress) (l .i) (s .pre .0) (room (c .before)) (byte-lt c);
     }
 

@@ -24,14 +24,16 @@ returns-2 : tie.Need-returns-2
 returns-2 c =
     let e = c .before .before in
     let a = e .before .before .args in
-    sym (ap₂ (λ (x y : Bool). x && (y && ltb (a .place .held) 8)) (lt-ltb 0 (a .place .at) (begun e)) (lt-leb (a .place .at) (length (a .plan .now)) (c .if2 .taken)))
+    sym (ap₂ (λ (x y : Bool). x && (y && ltb (a .place .held) 8)) (lt-ltb 0 (a .place .at) (begun e))
+    (lt-leb (a .place .at) (length (a .plan .now)) (c .if2 .taken)))
 
 returns-3 : tie.Need-returns-3
 returns-3 c =
     let f = c .before in
     let e = f .before .before in
     let a = e .before .before .args in
-    sym (ap₂ (λ (x y : Bool). x && (y && ltb (a .place .held) 8)) (lt-ltb 0 (a .place .at) (begun e)) (le-leb (a .place .at) (length (a .plan .now)) (f .if2 .left)))
+    sym (ap₂ (λ (x y : Bool). x && (y && ltb (a .place .held) 8)) (lt-ltb 0 (a .place .at) (begun e))
+    (le-leb (a .place .at) (length (a .plan .now)) (f .if2 .left)))
 
 pub within-spec : {M : Type 1} → statement M
 within-spec = tie.close (tie.spec returns returns-2 returns-3)

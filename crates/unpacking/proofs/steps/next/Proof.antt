@@ -71,13 +71,22 @@ faulty c f =
     sym (not-in-front (plan-at w) (cursor-at w) (right (c .before)) (cursor-at w .left - 1) (turn c) f)
 
 -- how many bits are left
-bits-length : (c : tie.Else1) → length (bits-at (c .before)) ≡ (length (plan-at (c .before)) - cursor-at (c .before) .place .at) * 8 + cursor-at (c .before) .place .held
+bits-length : (c : tie.Else1) → length (bits-at (c .before)) ≡ (length (plan-at (c .before)) - cursor-at (c .before) .place .at) * 8 + cursor-at
+    (c .before) .place .held
 bits-length c = left-at-length (plan-at (c .before)) (cursor-at (c .before) .place) (placed c)
 
 returns-4 : tie.Need-returns-4
 returns-4 c =
     let e = c .before .before in
-    faulty e (λ f. omega (arith, f .some, f .held, length-drop 12 (bits-at (e .before .before)), bits-length (e .before), placed (e .before) .few, c .if4 .taken))
+    faulty e (λ f. omega (
+      arith,
+      f .some,
+      f .held,
+      length-drop 12 (bits-at (e .before .before)),
+      bits-length (e .before),
+      placed (e .before) .few,
+      c .if4 .taken,
+    ))
 
 header-at-requires : tie.Need-header-at-requires
 header-at-requires c κs = let p = placed (c .before .before .before) in (p, omega (arith, c .if4 .left, p .inside))
