@@ -6,7 +6,6 @@ use Rattle.refusals.specs.Refusal.{Judged, accepted, refused}
 use Rattle.refusals.specs.Verdict.{Verdict, good, refusedAt}
 use Rattle.unpacking.specs.Indexed.{Numbers}
 use Rattle.planning.specs.Plan.{Counts}
-use Rattle.adv7194_settings.specs.declared.settings.Settings.{Settings}
 use Rattle.adv7194_c.specs.declared.plan_numbers.PlanAnswer.{PlanAnswer}
 use Rattle.adv7194_c.specs.declared.play_numbers.PlayAnswer.{PlayAnswer}
 use Rattle.adv7194_c.specs.declared.read_numbers.ReadAnswer.{ReadAnswer}
@@ -28,13 +27,9 @@ abbrev pub playAnswer : Judged Bool → PlayAnswer
 playAnswer (accepted b) = record { refusal = 0; field = 0; acknowledged = yesNo b }
 playAnswer (refused n) = record { refusal = n; field = 0; acknowledged = 0 }
 
--- what reading answers where it gives settings
-abbrev pub readDone : ReadAnswer
-readDone = record { refusal = 0; field = 0 }
-
 -- what reading answers
-abbrev pub readAnswer : Verdict Settings → ReadAnswer
-readAnswer (good s) = readDone
+abbrev pub readAnswer : Verdict (Unit {0}) → ReadAnswer
+readAnswer (good u) = record { refusal = 0; field = 0 }
 readAnswer (refusedAt n f) = record { refusal = n; field = f }
 
 -- what asking for a transaction answers; its refusals belong to no field

@@ -34,7 +34,7 @@ fn plan_done(length: u32, transactions: u32, bus_bytes: u32) -> PlanAnswer
 }
 
 // The answer that is a refusal at a field.
-pub fn plan_refused(refusal: Refusal, field: u8) -> PlanAnswer
+fn plan_refused(refusal: Refusal, field: u8) -> PlanAnswer
     ensures answer { λ r. ⌜ r ≡ planAnswer (refusedAt (numberOf refusal) field) ⌝ }
 {
     PlanAnswer {

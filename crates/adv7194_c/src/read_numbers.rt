@@ -1,9 +1,8 @@
 // Reading's answer as numbers.
 ghost use mathlib.Core.Path.{_≡_};
-ghost use Rattle.refusals.specs.Refusal.{numberOf};
-ghost use Rattle.refusals.specs.Verdict.{refusedAt};
-ghost use Rattle.adv7194_c.specs.Answers.{readAnswer, readDone};
-use refusals::Refusal;
+ghost use Rattle.adv7194_reading.specs.Answers.{readAs};
+ghost use Rattle.adv7194_c.specs.Answers.{readAnswer};
+use adv7194_reading::Read;
 
 // The refusal and the field where there is none.
 const NONE: u32 = 0;
@@ -15,22 +14,18 @@ pub struct ReadAnswer {
     pub field: u32,
 }
 
-// The answer where the settings are read.
-pub fn read_done() -> ReadAnswer
-    ensures answer { λ r. ⌜ r ≡ readDone ⌝ }
+// Reading's answer.
+pub fn read_answer(taken: Read) -> ReadAnswer
+    ensures answer { λ r. ⌜ r ≡ readAnswer (readAs taken) ⌝ }
 {
-    ReadAnswer {
-        refusal: NONE,
-        field: NONE,
-    }
-}
-
-// The answer that is a refusal at a field.
-pub fn read_refused(refusal: Refusal, field: u8) -> ReadAnswer
-    ensures answer { λ r. ⌜ r ≡ readAnswer (refusedAt (numberOf refusal) field) ⌝ }
-{
-    ReadAnswer {
-        refusal: refusal.number() as u32,
-        field: field as u32,
+    match taken {
+        Read::Refused { refusal, field } => ReadAnswer {
+            refusal: refusal.number() as u32,
+            field: field as u32,
+        },
+        Read::Done => ReadAnswer {
+            refusal: NONE,
+            field: NONE,
+        },
     }
 }

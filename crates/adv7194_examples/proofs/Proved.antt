@@ -3,7 +3,7 @@ use mathlib.Core.Path.{refl}
 use mathlib.Core.Bool.{true, false}
 use Rattle.rounding.specs.First.{firstFrom}
 use Rattle.rounding.specs.Nearest.{nearest}
-use Rattle.adv7194_fields.specs.Coding.{codeBy, encode}
+use Rattle.field_table.specs.Coding.{codeBy, encode}
 use Rattle.adv7194_gamma.specs.Power.{belowHalf, nearestPower}
 use Rattle.adv7194_gamma.specs.Curve.{bytesOf, curveOf}
 use Rattle.adv7194_subcarrier.specs.declared.Standard.the-variants.{Ntsc, Pal}
@@ -13,7 +13,7 @@ use Rattle.adv7194_examples.specs.Examples.{AllHold, none, _and_, exampl
 pub proved : AllHold examples
 unfolding encode codeBy nearest firstFrom curveOf bytesOf nearestPower belowHalf
 proved =
-    refl and refl and refl and refl and refl and refl and refl and refl and refl and refl and refl and refl
+    refl and refl and refl and refl and refl and refl and refl and refl and refl and refl and refl and refl and refl and refl
     and word-is Ntsc false 0x21F07C1F tt
     and word-is Pal false 0x2A098ACB tt
     and word-is Ntsc true 0x25555555 tt

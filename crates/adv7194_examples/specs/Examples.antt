@@ -5,8 +5,8 @@ use mathlib.Core.List.{List, [], _∷_}
 use Prim.Native.Nat.{ℕ}
 use lib.IntN.{ℤ, pos, negℤ}
 use Rattle.refusals.specs.Refusal.{accepted, refused}
-use Rattle.adv7194_fields.specs.Coding.{Format, encode}
-use Rattle.adv7194_fields.specs.Fields.{hue, brightness, contrast, scale}
+use Rattle.field_table.specs.Coding.{Field, encode}
+use Rattle.adv7194_table.specs.Fields.{hue, brightness, contrast, uScale, vScale}
 use Rattle.adv7194_gamma.specs.Curve.{curveOf}
 use Rattle.adv7194_subcarrier.specs.declared.Standard.{Standard}
 use Rattle.adv7194_subcarrier.specs.declared.Standard.the-variants.{Ntsc, Pal}
@@ -15,9 +15,9 @@ use Rattle.adv7194_subcarrier.specs.Subcarrier.{wordOf}
 -- a worked example
 pub data Example : Type 0 where
   -- a setting and its code
-  code : Format → ℤ → ℕ → Example
+  code : Field → ℤ → ℕ → Example
   -- a setting and the number of its refusal
-  refusal : Format → ℤ → ℕ → Example
+  refusal : Field → ℤ → ℕ → Example
   -- a ratio p/q and the bytes of its curve
   curve : ℕ → ℕ → List ℕ → Example
   -- a standard, square pixel or not, and the subcarrier word
@@ -48,8 +48,10 @@ examples =
     ∷ code brightness (negℤ (pos 75)) 0x71
     ∷ code brightness (negℤ (pos 70)) 0x72
     ∷ code contrast (pos 1180) 0x97
-    ∷ code scale (pos 1996) 0xFF
-    ∷ refusal scale (pos 1997) 3
+    ∷ code uScale (pos 1996) 0xFF
+    ∷ refusal uScale (pos 1997) 3
+    ∷ code vScale (pos 1996) 0xFF
+    ∷ refusal vScale (pos 1997) 3
     ∷ curve 1 2 (76 ∷ 120 ∷ 150 ∷ 174 ∷ 196 ∷ 215 ∷ 232 ∷ [])
     ∷ word Ntsc false 0x21F07C1F
     ∷ word Pal false 0x2A098ACB

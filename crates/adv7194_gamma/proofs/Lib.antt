@@ -1,3 +1,6 @@
 pub mod Powers
 pub mod Nearest
 pub mod Answers
+pub mod ByteLaws
+pub mod CodeLaws
+pub mod SettingLaws

@@ -5,6 +5,8 @@ use Rattle.refusals.specs.Refusal.{Judged, accepted, refused, numberOf}
 use Rattle.adv7194_gamma.specs.declared.Points.{Points}
 use Rattle.adv7194_gamma.specs.declared.Coded.{Coded}
 use Rattle.adv7194_gamma.specs.declared.Coded.the-variants.{Curve, Refused}
+use Rattle.adv7194_gamma.specs.declared.field.CurveRead.{CurveRead}
+use Rattle.adv7194_gamma.specs.declared.field.CurveRead.the-variants as read
 
 -- the bytes in the order of their registers
 abbrev pub bytesIn : Points → List ℕ
@@ -14,3 +16,8 @@ bytesIn c = c .b0 ∷ c .b1 ∷ c .b2 ∷ c .b3 ∷ c .b4 ∷ c .b5 ∷ c .b6 �
 abbrev pub judged : Coded → Judged (List ℕ)
 judged (Curve c) = accepted (bytesIn c)
 judged (Refused why) = refused (numberOf why)
+
+-- the bytes read, or a refusal's number
+abbrev pub curveReadAs : CurveRead → Judged (List ℕ)
+curveReadAs (read.Points c) = accepted (bytesIn c)
+curveReadAs (read.Refused why) = refused (numberOf why)

@@ -6,6 +6,7 @@ ghost use Rattle.adv7194_gamma.specs.Curve.{bytesOf, inRatio, curveOf, N
 ghost use Rattle.adv7194_gamma.specs.Answer.{bytesIn, judged};
 use refusals::Refusal;
 
+pub mod field;
 mod search;
 
 // The seven bytes of a curve, in the order of their registers.

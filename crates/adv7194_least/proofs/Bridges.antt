@@ -9,8 +9,9 @@ use lib.Dec.{T}
 use lib.ListN.{length, getD}
 use Rattle.rounding.proofs.First.{flag}
 use Rattle.rounding.proofs.Range.{below, below-at, imp, imp→, T→true}
-use Rattle.adv7194_fields.specs.Fields.{fields, blocks}
-use Rattle.adv7194_image.specs.Masks.{numberMask, blockMask, fieldMask, zeroMask}
+use Rattle.adv7194_table.specs.Fields.{timing, output, picture, dnr}
+use Rattle.adv7194_table.specs.Table.{singles, table}
+use Rattle.adv7194_table.specs.Masks.{maskWhere, fieldMask, zeroMask}
 use Rattle.bus.specs.Transactions.{Transaction, size, end, Touches, Touched, Every}
 use Rattle.adv7194_bus.specs.Kind.{registerCount}
 use Rattle.least_cost.specs.Task.{Task}
@@ -92,12 +93,12 @@ wordTest r = imp (among 0x0c 0x0f r) (settable r)
 
 -- it passes
 steps : T (below nextTest registerCount)
-unfolding reachable settable fieldMask numberMask blockMask fields blocks zeroMask
+unfolding reachable settable fieldMask zeroMask maskWhere table singles timing output picture dnr
 steps = tt
 
 -- and so does this
 word-fields : T (below wordTest registerCount)
-unfolding settable fieldMask numberMask blockMask fields blocks zeroMask
+unfolding settable fieldMask zeroMask maskWhere table singles timing output picture dnr
 word-fields = tt
 
 -- what follows a reachable register in a transaction is reachable
@@ -135,7 +136,9 @@ module _ (image wanted : List ℕ) (χ : Change image wanted) where
   needed-settable : (x : ℕ) → needed image wanted x ≡ true → settable x ≡ true
   needed-settable x n =
       ⊎-elim
-      (λ a. T→true (settable x) (imp→ (among 0x0c 0x0f x) (settable x) (below-at wordTest registerCount word-fields x (omega arith)) (among-in 0x0c 0x0f x (a .0) (a .1))))
+      (λ a.
+      T→true (settable x)
+      (imp→ (among 0x0c 0x0f x) (settable x) (below-at wordTest registerCount word-fields x (omega arith)) (among-in 0x0c 0x0f x (a .0) (a .1))))
       (λ a. differs-settable image wanted χ x (sym (need-other (differs image wanted) x a) ∙ n) .1) (among? 0x0c 0x0f x)
 
   -- every register of a transaction of the plan is reachable
@@ -160,7 +163,8 @@ module _ (image wanted : List ℕ) (χ : Change image wanted) where
           (near-more (needed image wanted) settable needed-settable (suc (t .subaddress + d)) (n (suc (t .subaddress + d)) (omega arith) (omega arith))))
 
   -- of all its transactions
-  all-reachable : (ts : List Transaction) → Every (Right (task image wanted) (λ r. getD wanted r 0)) ts → Every (AllNear (needed image wanted)) ts → Every Reachable ts
+  all-reachable : (ts : List Transaction) → Every (Right (task image wanted) (λ r. getD wanted r 0)) ts → Every (AllNear (needed image wanted)) ts
+      → Every Reachable ts
   all-reachable [] h n = tt
   all-reachable (t ∷ ts) h n = (transaction-reachable t (h .0) (n .0), all-reachable ts (h .1) (n .1))
 

@@ -10,8 +10,9 @@ use lib.ListN.{getD, List·getD-eq-default}
 use borrow.Author.Tests.{ltb-true, ltb-false, eqb-true, eqb-false, eq-eqb, not-true}
 use Rattle.rounding.proofs.First.{flag}
 use Rattle.rounding.proofs.Range.{below, below-at, imp, imp→, T→true}
-use Rattle.adv7194_fields.specs.Fields.{fields, blocks}
-use Rattle.adv7194_image.specs.Masks.{numberMask, blockMask, fieldMask, zeroMask}
+use Rattle.adv7194_table.specs.Fields.{timing, output, picture, dnr}
+use Rattle.adv7194_table.specs.Table.{singles, table}
+use Rattle.adv7194_table.specs.Masks.{maskWhere, fieldMask, zeroMask}
 use Rattle.adv7194_bus.specs.Kind.{registerCount}
 use Rattle.adv7194_least.specs.Change.{settable, Change}
 use Rattle.adv7194_least.specs.Plan.{writable, differs}
@@ -24,7 +25,7 @@ fieldTest r = imp (settable r) (writable r)
 
 -- it passes
 fields-writable : T (below fieldTest registerCount)
-unfolding settable fieldMask numberMask blockMask fields blocks zeroMask
+unfolding settable fieldMask zeroMask maskWhere table singles timing output picture dnr
 fields-writable = tt
 
 -- a register with a field or a must-be-zero bit may be written

@@ -32,7 +32,9 @@ module _ (must : ℕ → Bool) (fits : (x : ℕ) → must x ≡ true → writabl
   unfolding taskFor
   before-word t h x u w =
       ⊎-elim
-      (λ a. absurd (false≢true (sym (cut-inside must (t .subaddress) (a .0) (a .1) (sym (need-word must (t .subaddress) (omega arith) (a .1)) ∙ h .first)) ∙ h .opens)))
+      (λ a.
+      let w = sym (need-word must (t .subaddress) (omega arith) (a .1)) ∙ h .first in
+      absurd (false≢true (sym (cut-inside must (t .subaddress) (a .0) (a .1) w) ∙ h .opens)))
       (λ a. ⊎-elim (λ b. omega arith) (λ b. absurd (omega arith)) a) (among? 0x0d 0x0f (t .subaddress))
 
   -- and ends past the last of them
@@ -40,7 +42,9 @@ module _ (must : ℕ → Bool) (fits : (x : ℕ) → must x ≡ true → writabl
   unfolding taskFor
   past-word t h x u w =
       ⊎-elim
-      (λ a. absurd (false≢true (sym (cut-inside must (end t) (a .0) (a .1) (sym (need-word must (end t - 1) (omega arith) (omega arith)) ∙ h .last)) ∙ h .ends)))
+      (λ a.
+      let w = sym (need-word must (end t - 1) (omega arith) (omega arith)) ∙ h .last in
+      absurd (false≢true (sym (cut-inside must (end t) (a .0) (a .1) w) ∙ h .ends)))
       (λ a. ⊎-elim (λ b. absurd (omega arith)) (λ b. b) a) (among? 0x0d 0x0f (end t))
 
   -- it keeps the rules

@@ -8,6 +8,4 @@ pub mod PlayedPlan
 pub mod Bridges
 pub mod Room
 pub mod Nothing
-pub mod WantedBytes
-pub mod SettingsBytes
 pub mod WantedChange

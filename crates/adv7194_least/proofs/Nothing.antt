@@ -32,7 +32,8 @@ scan-none p goes want i = refl
 no-transaction : (image : List ℕ) → planOf image image ≡ []
 unfolding planOf greedyPlan taskFor
 no-transaction image =
-    scan-skips (task image image) (joining (task image image) writable) image registerCount 0 0 registerCount (omega arith) (omega arith) (λ x a b. none-needed image x)
+    scan-skips (task image image) (joining (task image image) writable) image registerCount 0 0 registerCount (omega arith) (omega arith)
+    (λ x a b. none-needed image x)
     ∙ scan-none (task image image) (joining (task image image) writable) (λ r. getD image r 0) registerCount
 
 -- where the images are the same the plan is empty

@@ -73,5 +73,5 @@ module _ (image wanted : List ℕ) (χ : Change image wanted) where
   }
 
   -- its numbers are the plan's
-  pub plan-counted : Counted (packed (planOf image wanted)) (length (packed (planOf image wanted))) (length (planOf image wanted)) (busBytes (planOf image wanted))
+  pub plan-counted : (let ts = planOf image wanted in Counted (packed ts) (length (packed ts)) (length ts) (busBytes ts))
   plan-counted = record { list = planOf image wanted; unpacks = plan-unpacks; size-is = refl; transactions-are = refl; bytes-are = refl }

@@ -10,8 +10,9 @@ use lib.ListN.{length, replicate}
 use borrow.Author.Tests.{ltb-true, ltb-false}
 use Rattle.bits.proofs.FlagLaws.{first, second, either}
 use Rattle.rounding.proofs.Range.{below, below-at, imp, imp→}
-use Rattle.adv7194_fields.specs.Fields.{fields, blocks}
-use Rattle.adv7194_image.specs.Masks.{numberMask, blockMask, fieldMask, zeroMask}
+use Rattle.adv7194_table.specs.Fields.{timing, output, picture, dnr}
+use Rattle.adv7194_table.specs.Table.{singles, table}
+use Rattle.adv7194_table.specs.Masks.{maskWhere, fieldMask, zeroMask}
 use Rattle.bus.specs.Transactions.{Transaction, size, end, Touched, Every, busBytes}
 use Rattle.bus.specs.Cost.{dataCount}
 use Rattle.bus.proofs.CostLaws.{bytes-count}
@@ -68,7 +69,7 @@ count-span f a (suc m) h =
 
 -- so many registers can be touched
 most-data : count reachable registerCount ≡ mostData
-unfolding count reachable settable fieldMask numberMask blockMask fields blocks zeroMask
+unfolding count reachable settable fieldMask zeroMask maskWhere table singles timing output picture dnr
 most-data = refl
 
 -- an ascending list of transactions that touch only such registers has no more data than there are
@@ -110,7 +111,7 @@ stretchTest r = imp (settable r) (among 0x00 0x05 r || (among 0x0c 0x10 r || amo
 
 -- it passes
 stretched : T (below stretchTest registerCount)
-unfolding settable fieldMask numberMask blockMask fields blocks zeroMask
+unfolding settable fieldMask zeroMask maskWhere table singles timing output picture dnr
 stretched = tt
 
 -- they touch every register that can be set
@@ -118,7 +119,9 @@ stretches-touch : (r : ℕ) → r < registerCount → settable r ≡ true → To
 unfolding stretches
 stretches-touch r h e =
     ⊎-elim (λ a. inl (omega (arith, span 0x00 0x05 a)))
-    (λ b. inr (⊎-elim (λ a. inl (omega (arith, span 0x0c 0x10 a))) (λ a. inr (inl (omega (arith, span 0x19 0x33 a)))) (either (among 0x0c 0x10 r) (among 0x19 0x33 r) b)))
+    (λ b.
+    inr
+    (⊎-elim (λ a. inl (omega (arith, span 0x0c 0x10 a))) (λ a. inr (inl (omega (arith, span 0x19 0x33 a)))) (either (among 0x0c 0x10 r) (among 0x19 0x33 r) b)))
     (either (among 0x00 0x05 r) (among 0x0c 0x10 r || among 0x19 0x33 r)
     (imp→ (settable r) (among 0x00 0x05 r || (among 0x0c 0x10 r || among 0x19 0x33 r)) (below-at stretchTest registerCount stretched r h) e))
   where
@@ -137,7 +140,8 @@ module _ (image wanted : List ℕ) (χ : Change image wanted) where
   few-data : dataCount (planOf image wanted) ≤ mostData
   unfolding count
   few-data =
-      omega (arith, data-below (planOf image wanted) 0 (omega arith) (plan-inside image wanted χ) (plan-reachable image wanted χ) (plan-ascending image wanted χ))
+      let ascending = plan-ascending image wanted χ in
+      omega (arith, data-below (planOf image wanted) 0 (omega arith) (plan-inside image wanted χ) (plan-reachable image wanted χ) ascending)
 
   -- the plan's bus bytes
   few-bytes : busBytes (planOf image wanted) ≤ mostCost
@@ -146,7 +150,8 @@ module _ (image wanted : List ℕ) (χ : Change image wanted) where
         arith,
         stretches-bytes,
         no-more-bytes (planOf image wanted) stretches
-            (touching-no-dearer image wanted χ stretches stretches-rules (λ x d. let q = differs-settable image wanted χ x d in stretches-touch x (q .0) (q .1))),
+            (touching-no-dearer image wanted χ stretches stretches-rules
+            (λ x d. let q = differs-settable image wanted χ x d in stretches-touch x (q .0) (q .1))),
       )
 
   -- the plan's bits

@@ -7,7 +7,7 @@ use Prim.Native.Nat.{ℕ, _+_, _^_, _<_}
 use lib.Dec.{eqb}
 use lib.ListN.{length, getD}
 use Rattle.adv7194_bus.specs.Kind.{registerCount}
-use Rattle.adv7194_image.specs.Masks.{fieldMask, zeroMask}
+use Rattle.adv7194_table.specs.Masks.{fieldMask, zeroMask}
 
 -- register r has a bit that belongs to a field or must be zero
 unfoldable pub settable : ℕ → Bool

@@ -1,2 +1,2 @@
-pub mod Choosing
-pub mod Putting
+pub mod KindLaws
+pub mod LineLaws

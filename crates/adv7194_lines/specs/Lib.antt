@@ -1,3 +1,2 @@
-pub mod Ascii
-pub mod Values
-pub mod Put
+pub mod Kinds
+pub mod Lines

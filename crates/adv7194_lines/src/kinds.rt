@@ -1,17 +1,18 @@
-// The settings that have kinds: signalling and curves. Each function answers the place after what it wrote.
-use crate::values::put_code;
-use crate::values::put_flag;
-use crate::values::put_next;
-use crate::values::put_number;
-use crate::values::put_signed;
-use adv7194_settings::settings::Curve;
-use adv7194_settings::settings::Signalling;
+// The settings that have kinds, signalling and gamma curves: some of the settings' numbers from index k on. Each function answers the place after what
+// it wrote.
+use adv7194_names::values::put_code;
+use adv7194_names::values::put_flag;
+use adv7194_names::values::put_number;
+use adv7194_names::values::put_signed;
 use text::put;
+ghost use mathlib.Core.Path.{_≡_};
 ghost use mathlib.Core.List.{_++_};
-ghost use Prim.Native.Nat.{_+_, _≤_};
+ghost use Prim.Native.Nat.{_+_, _*_, _≤_, _<_};
 ghost use lib.ListN.{length};
-ghost use Rattle.adv7194_lines.specs.Put.{Put, signallingWidth, fourWidth, curveWidth};
-ghost use Rattle.adv7194_lines.specs.Values.{code, next, cgmsText, signallingText, ratioText, bytesText, curveText};
+ghost use Rattle.text.specs.Text.{space};
+ghost use Rattle.adv7194_names.specs.Put.{Put, signallingWidth, nextWidth, curveWidth};
+ghost use Rattle.adv7194_lines.specs.Kinds.{numberAt, cgmsText, signallingText, ratioText, bytesText, sevenText, curveText};
+ghost use Rattle.adv7194_names.specs.Values.{code};
 
 // The kinds of signalling.
 const OFF: i32 = 0;
@@ -25,71 +26,96 @@ const RATIO: i32 = 0;
 
 const BYTES: i32 = 1;
 
-// Writes CGMS: its payload and three yes/no.
-fn put_cgms(line: &mut [u8], at: usize, signalling: Signalling) -> usize
-    requires { ⌜ at + signallingWidth ≤ length (now line) ⌝ }
-    ensures written { λ r. ⌜ Put signallingWidth (now (line .entry)) at (cgmsText signalling) (now (line .exit)) r ⌝ }
+// Where a curve's first byte stands among its numbers, and how many follow it.
+const FIRST_BYTE: usize = 3;
+
+const FURTHER_BYTES: usize = 6;
+
+// Number k of the settings, 0 past the last.
+pub fn number_at(numbers: &[i32], k: usize) -> i32
+    ensures answer { λ r. ⌜ r ≡ numberAt (now (numbers .entry)) k ⌝ }
 {
-    let payload = put_number(line, at, b"CGMS ", signalling.number);
-    let odd = put_flag(line, payload, b" odd ", signalling.odd);
-    let even = put_flag(line, odd, b" even ", signalling.even);
-    put_flag(line, even, b" chip check ", signalling.chip_check)
+    if k < numbers.len() {
+        return numbers[k];
+    }
+    0
+}
+
+// Writes CGMS: its payload and three yes/no.
+fn put_cgms(line: &mut [u8], at: usize, numbers: &[i32], k: usize) -> usize
+    requires { ⌜ (at + signallingWidth ≤ length (now line)) × (k < 256) ⌝ }
+    ensures written { λ r. ⌜ Put signallingWidth (now (line .entry)) at (cgmsText (now (numbers .entry)) k) (now (line .exit)) r ⌝ }
+{
+    let payload = put_number(line, at, b"CGMS ", number_at(numbers, k + 1));
+    let odd = put_flag(line, payload, b" odd ", number_at(numbers, k + 2));
+    let even = put_flag(line, odd, b" even ", number_at(numbers, k + 3));
+    put_flag(line, even, b" chip check ", number_at(numbers, k + 4))
 }
 
 // Writes signalling by its kind.
-pub(crate) fn put_signalling(line: &mut [u8], at: usize, signalling: Signalling) -> usize
-    requires { ⌜ at + signallingWidth ≤ length (now line) ⌝ }
-    ensures written { λ r. ⌜ Put signallingWidth (now (line .entry)) at (signallingText signalling) (now (line .exit)) r ⌝ }
+pub fn put_signalling(line: &mut [u8], at: usize, numbers: &[i32], k: usize) -> usize
+    requires { ⌜ (at + signallingWidth ≤ length (now line)) × (k < 256) ⌝ }
+    ensures written { λ r. ⌜ Put signallingWidth (now (line .entry)) at (signallingText (now (numbers .entry)) k) (now (line .exit)) r ⌝ }
 {
-    let kind = signalling.kind;
+    let kind = number_at(numbers, k);
     match kind {
         OFF => put(line, at, b"off"),
-        CGMS => put_cgms(line, at, signalling),
-        WSS => put_number(line, at, b"WSS ", signalling.number),
+        CGMS => put_cgms(line, at, numbers, k),
+        WSS => put_number(line, at, b"WSS ", number_at(numbers, k + 1)),
         _ => put_signed(line, at, kind),
     }
 }
 
 // Writes a ratio.
-fn put_ratio(line: &mut [u8], at: usize, curve: Curve) -> usize
-    requires { ⌜ at + curveWidth ≤ length (now line) ⌝ }
-    ensures written { λ r. ⌜ Put curveWidth (now (line .entry)) at (ratioText curve) (now (line .exit)) r ⌝ }
+fn put_ratio(line: &mut [u8], at: usize, numbers: &[i32], k: usize) -> usize
+    requires { ⌜ (at + curveWidth ≤ length (now line)) × (k < 256) ⌝ }
+    ensures written { λ r. ⌜ Put curveWidth (now (line .entry)) at (ratioText (now (numbers .entry)) k) (now (line .exit)) r ⌝ }
 {
-    let p = put_number(line, at, b"ratio ", curve.p);
-    put_number(line, p, b"/", curve.q)
+    let p = put_number(line, at, b"ratio ", number_at(numbers, k + 1));
+    put_number(line, p, b"/", number_at(numbers, k + 2))
 }
 
-// Writes four bytes.
-fn put_four(line: &mut [u8], at: usize, a: i32, b: i32, c: i32, d: i32) -> usize
-    requires { ⌜ at + fourWidth ≤ length (now line) ⌝ }
-    ensures written { λ r. ⌜ Put fourWidth (now (line .entry)) at (code a ++ next b ++ next c ++ next d) (now (line .exit)) r ⌝ }
+// Writes a further byte of a curve.
+fn put_next(line: &mut [u8], at: usize, n: i32) -> usize
+    requires { ⌜ at + nextWidth ≤ length (now line) ⌝ }
+    ensures written { λ r. ⌜ Put nextWidth (now (line .entry)) at (space ++ code n) (now (line .exit)) r ⌝ }
 {
-    let first = put_code(line, at, a);
-    let second = put_next(line, first, b);
-    let third = put_next(line, second, c);
-    put_next(line, third, d)
+    let after = put(line, at, b" ");
+    put_code(line, after, n)
+}
+
+// Writes the further bytes of a curve, from number k on.
+fn put_further(line: &mut [u8], at: usize, numbers: &[i32], k: usize) -> usize
+    requires { ⌜ (at + nextWidth * 6 ≤ length (now line)) × (k < 512) ⌝ }
+    ensures written { λ r. ⌜ Put (nextWidth * 6) (now (line .entry)) at (bytesText (now (numbers .entry)) k 6) (now (line .exit)) r ⌝ }
+{
+    let mut place = at;
+    let mut i: usize = 0;
+    while i < FURTHER_BYTES {
+        place = put_next(line, place, number_at(numbers, k + i));
+        i += 1;
+    }
+    place
 }
 
 // Writes seven bytes.
-fn put_bytes(line: &mut [u8], at: usize, curve: Curve) -> usize
-    requires { ⌜ at + curveWidth ≤ length (now line) ⌝ }
-    ensures written { λ r. ⌜ Put curveWidth (now (line .entry)) at (bytesText curve) (now (line .exit)) r ⌝ }
+fn put_seven(line: &mut [u8], at: usize, numbers: &[i32], k: usize) -> usize
+    requires { ⌜ (at + curveWidth ≤ length (now line)) × (k < 256) ⌝ }
+    ensures written { λ r. ⌜ Put curveWidth (now (line .entry)) at (sevenText (now (numbers .entry)) k) (now (line .exit)) r ⌝ }
 {
-    let b3 = put_four(line, at, curve.b0, curve.b1, curve.b2, curve.b3);
-    let b4 = put_next(line, b3, curve.b4);
-    let b5 = put_next(line, b4, curve.b5);
-    put_next(line, b5, curve.b6)
+    let first = put_code(line, at, number_at(numbers, k + FIRST_BYTE));
+    put_further(line, first, numbers, k + FIRST_BYTE + 1)
 }
 
 // Writes a curve by its kind.
-pub(crate) fn put_curve(line: &mut [u8], at: usize, curve: Curve) -> usize
-    requires { ⌜ at + curveWidth ≤ length (now line) ⌝ }
-    ensures written { λ r. ⌜ Put curveWidth (now (line .entry)) at (curveText curve) (now (line .exit)) r ⌝ }
+pub fn put_curve(line: &mut [u8], at: usize, numbers: &[i32], k: usize) -> usize
+    requires { ⌜ (at + curveWidth ≤ length (now line)) × (k < 256) ⌝ }
+    ensures written { λ r. ⌜ Put curveWidth (now (line .entry)) at (curveText (now (numbers .entry)) k) (now (line .exit)) r ⌝ }
 {
-    let kind = curve.kind;
+    let kind = number_at(numbers, k);
     match kind {
-        RATIO => put_ratio(line, at, curve),
-        BYTES => put_bytes(line, at, curve),
+        RATIO => put_ratio(line, at, numbers, k),
+        BYTES => put_seven(line, at, numbers, k),
         _ => put_signed(line, at, kind),
     }
 }

@@ -1,10 +1,3 @@
-// Lines of one setting: its name, what is set in words and numbers, the line end.
-mod kinds;
-mod lines;
-mod values;
-
-pub use lines::amount_line;
-pub use lines::choice_line;
-pub use lines::curve_line;
-pub use lines::flag_line;
-pub use lines::signalling_line;
+// The lines of settings: number, name and the setting in its own unit.
+pub mod kinds;
+pub mod lines;

@@ -1,65 +1,111 @@
-// Whole lines, at the front of a line that has room for any: number and name, the setting, the line end. Each function answers the place after it.
+// Whole lines: number and name, the setting, the line end. Each function answers the place after what it wrote.
 use crate::kinds::put_curve;
 use crate::kinds::put_signalling;
-use crate::values::put_choice;
-use crate::values::put_flag;
-use crate::values::put_number;
-use adv7194_settings::settings::Curve;
-use adv7194_settings::settings::Signalling;
+use adv7194_names::columns::NAME;
+use adv7194_names::columns::put_column;
+use adv7194_names::values::put_decimal;
+use adv7194_names::values::put_setting;
+use adv7194_table::blocks::CURVE_A;
+use adv7194_table::blocks::CURVE_B;
+use adv7194_table::blocks::SIGNALLING;
+use adv7194_table::blocks::block_of;
+use adv7194_table::rows::rows;
+use field_table::given;
+use field_table::row::row_of;
 use text::put;
-ghost use mathlib.Core.List.{_++_};
-ghost use Prim.Native.Nat.{_+_, _≤_};
+ghost use mathlib.Core.List.{[], _++_};
+ghost use Prim.Native.Nat.{_+_, _*_, _≤_};
 ghost use lib.ListN.{length};
-ghost use Rattle.text.specs.Text.{signed};
-ghost use Rattle.adv7194_lines.specs.Put.{Put, lineWidth, nameWidth, unitWidth, numberWidth};
-ghost use Rattle.adv7194_lines.specs.Values.{lineWith, choice, yesNo, signallingText, curveText};
+ghost use Rattle.text.specs.Text.{space, lineEnd};
+ghost use Rattle.field_table.specs.Rows.{rowOf};
+ghost use Rattle.field_table.specs.Coding.{plainOf, plainFields};
+ghost use Rattle.adv7194_table.specs.Blocks.{blockOf, signalling};
+ghost use Rattle.adv7194_table.specs.Table.{single, whole, singles, signals, table};
+ghost use Rattle.adv7194_names.specs.Put.{Put, labelWidth, lineWidth, textWidth};
+ghost use Rattle.adv7194_lines.specs.Kinds.{curveText};
+ghost use Rattle.adv7194_lines.specs.Lines.{labelText};
+ghost use Rattle.adv7194_lines.specs.Lines.{lineOf, linesOf};
 
-// The line of a choice.
-pub fn choice_line(line: &mut [u8], name: &[u8], n: i32, zero: &[u8], one: &[u8]) -> usize
-    requires { ⌜ (lineWidth ≤ length (now line)) × (length (now name) ≤ nameWidth) ⌝ }
-    requires { ⌜ (length (now zero) ≤ numberWidth) × (length (now one) ≤ numberWidth) ⌝ }
-    ensures written { λ r. ⌜ Put lineWidth (now (line .entry)) 0 (lineWith (now (name .entry)) (choice (now (zero .entry)) (now (one .entry)) n)) (now (line .exit)) r ⌝ }
+// How many numbers the settings have; must-be-zero bits have an index past them.
+pub const NUMBERS: usize = 49;
+
+// How many rows stand before signalling, and how many there are.
+const FRONT: usize = 10;
+
+pub const ROWS: usize = 26;
+
+// Writes a field's number and name.
+pub fn put_label(line: &mut [u8], at: usize, field: u8) -> usize
+    requires { ⌜ at + labelWidth ≤ length (now line) ⌝ }
+    ensures written { λ r. ⌜ Put labelWidth (now (line .entry)) at (labelText field) (now (line .exit)) r ⌝ }
 {
-    let named = put(line, 0, name);
-    let chosen = put_choice(line, named, n, zero, one);
-    put(line, chosen, b"\n")
+    let number = put_decimal(line, at, field as u64);
+    let spaced = put(line, number, b" ");
+    put_column(line, spaced, field, NAME)
 }
 
-// The line of a yes/no.
-pub fn flag_line(line: &mut [u8], name: &[u8], n: i32) -> usize
-    requires { ⌜ (lineWidth ≤ length (now line)) × (length (now name) ≤ nameWidth) ⌝ }
-    ensures written { λ r. ⌜ Put lineWidth (now (line .entry)) 0 (lineWith (now (name .entry)) (yesNo n)) (now (line .exit)) r ⌝ }
+// Writes the line of a row of the table; must-be-zero bits have none.
+fn row_line(line: &mut [u8], at: usize, numbers: &[i32], packed: u64) -> usize
+    requires { ⌜ at + lineWidth ≤ length (now line) ⌝ }
+    ensures written { λ r. ⌜ Put lineWidth (now (line .entry)) at (lineOf (now (numbers .entry)) (single (plainOf (rowOf packed)))) (now (line .exit)) r ⌝ }
 {
-    let flagged = put_flag(line, 0, name, n);
-    put(line, flagged, b"\n")
+    let row = row_of(packed);
+    if NUMBERS <= row.index {
+        return at;
+    }
+    let label = put_label(line, at, row.field);
+    let spaced = put(line, label, b" ");
+    let setting = put_setting(line, spaced, row.field, given(numbers, row));
+    put(line, setting, b"\n")
 }
 
-// The line of a number in a unit.
-pub fn amount_line(line: &mut [u8], name: &[u8], n: i32, unit: &[u8]) -> usize
-    requires { ⌜ (lineWidth ≤ length (now line)) × (length (now name) ≤ nameWidth) × (length (now unit) ≤ unitWidth) ⌝ }
-    ensures written { λ r. ⌜ Put lineWidth (now (line .entry)) 0 (lineWith (now (name .entry)) (signed n ++ now (unit .entry))) (now (line .exit)) r ⌝ }
+// Writes the lines of some rows.
+fn row_lines(line: &mut [u8], at: usize, numbers: &[i32], rows: &[u64]) -> usize
+    requires { ⌜ at + lineWidth * length (now rows) ≤ length (now line) ⌝ }
+    ensures written { λ r. ⌜ Put (lineWidth * length (now (rows .entry))) (now (line .entry)) at (linesOf (now (numbers .entry)) (singles (plainFields (now (rows .entry))) [])) (now (line .exit)) r ⌝ }
 {
-    let number = put_number(line, 0, name, n);
-    let measured = put(line, number, unit);
-    put(line, measured, b"\n")
+    let mut place = at;
+    let mut i: usize = 0;
+    while i < rows.len() {
+        place = row_line(line, place, numbers, rows[i]);
+        i += 1;
+    }
+    place
 }
 
-// The line of signalling.
-pub fn signalling_line(line: &mut [u8], name: &[u8], signalling: Signalling) -> usize
-    requires { ⌜ (lineWidth ≤ length (now line)) × (length (now name) ≤ nameWidth) ⌝ }
-    ensures written { λ r. ⌜ Put lineWidth (now (line .entry)) 0 (lineWith (now (name .entry)) (signallingText signalling)) (now (line .exit)) r ⌝ }
+// Writes the line of signalling.
+fn signalling_line(line: &mut [u8], at: usize, numbers: &[i32]) -> usize
+    requires { ⌜ at + lineWidth ≤ length (now line) ⌝ }
+    ensures written { λ r. ⌜ Put lineWidth (now (line .entry)) at (lineOf (now (numbers .entry)) (whole signals signalling)) (now (line .exit)) r ⌝ }
 {
-    let named = put(line, 0, name);
-    let signalled = put_signalling(line, named, signalling);
-    put(line, signalled, b"\n")
+    let block = block_of(SIGNALLING);
+    let label = put_label(line, at, block.field);
+    let spaced = put(line, label, b" ");
+    let setting = put_signalling(line, spaced, numbers, block.index);
+    put(line, setting, b"\n")
 }
 
-// The line of a curve.
-pub fn curve_line(line: &mut [u8], name: &[u8], curve: Curve) -> usize
-    requires { ⌜ (lineWidth ≤ length (now line)) × (length (now name) ≤ nameWidth) ⌝ }
-    ensures written { λ r. ⌜ Put lineWidth (now (line .entry)) 0 (lineWith (now (name .entry)) (curveText curve)) (now (line .exit)) r ⌝ }
+// Writes the line of a gamma curve.
+fn curve_line(line: &mut [u8], at: usize, numbers: &[i32], packed: u64) -> usize
+    requires { ⌜ at + lineWidth ≤ length (now line) ⌝ }
+    ensures written { λ r. ⌜ Put lineWidth (now (line .entry)) at (labelText (blockOf packed .field) ++ space ++ curveText (now (numbers .entry)) (blockOf packed .index) ++ lineEnd) (now (line .exit)) r ⌝ }
 {
-    let named = put(line, 0, name);
-    let drawn = put_curve(line, named, curve);
-    put(line, drawn, b"\n")
+    let block = block_of(packed);
+    let label = put_label(line, at, block.field);
+    let spaced = put(line, label, b" ");
+    let setting = put_curve(line, spaced, numbers, block.index);
+    put(line, setting, b"\n")
+}
+
+// Writes the lines of all settings, in the table's order.
+pub fn setting_lines(line: &mut [u8], numbers: &[i32]) -> usize
+    requires { ⌜ textWidth ≤ length (now line) ⌝ }
+    ensures written { λ r. ⌜ Put textWidth (now (line .entry)) 0 (linesOf (now (numbers .entry)) table) (now (line .exit)) r ⌝ }
+{
+    let table = rows();
+    let front = row_lines(line, 0, numbers, &table[0..FRONT]);
+    let signalled = signalling_line(line, front, numbers);
+    let back = row_lines(line, signalled, numbers, &table[FRONT..ROWS]);
+    let first = curve_line(line, back, numbers, CURVE_A);
+    curve_line(line, first, numbers, CURVE_B)
 }

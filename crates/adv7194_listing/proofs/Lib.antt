@@ -1,2 +1,2 @@
-pub mod RowLaws
-pub mod Split
+pub mod FaultLaws
+pub mod TextLaws

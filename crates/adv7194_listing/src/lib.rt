@@ -1,24 +1,62 @@
-// A line a field: number, name and setting in its own unit.
-mod fields;
-mod groups;
+// The text of an image: the settings that it holds, or why it is refused.
+mod faults;
 
-use adv7194_settings::settings::Settings;
-use fields::field_line;
+use adv7194_lines::lines::NUMBERS;
+use adv7194_lines::lines::setting_lines;
+use adv7194_reading::Read;
+use adv7194_reading::read;
+use faults::fault_line;
+use listing::refused_line;
+use refusals::Refusal;
 use text::Place;
 use text::append;
+use text::put;
 ghost use mathlib.Core.Path.{_≡_};
+ghost use mathlib.Core.List.{_++_};
+ghost use Prim.Native.Nat.{_≤_};
+ghost use lib.ListN.{length};
 ghost use Rattle.text.specs.Line.{placeAfter, appended};
-ghost use Rattle.adv7194_listing.specs.Listing.{lineOf};
+ghost use Rattle.listing.specs.Lines.{refusedLine};
+ghost use Rattle.refusals.specs.Refusal.{numberOf};
+ghost use Rattle.adv7194_names.specs.Put.{Put, textWidth};
+ghost use Rattle.adv7194_listing.specs.Faults.{faultText};
+ghost use Rattle.adv7194_listing.specs.Listing.{settingsText};
 
-// Room for any line.
-const LINE_WIDTH: usize = 128;
+// Room for the text of any image.
+pub const TEXT_WIDTH: usize = 4096;
 
-// Writes the line of one field at the front of a lent line, or nothing where it does not fit. A number that is no field's has no text.
-pub fn settings_line(line: &mut [u8], settings: Settings, field: u8) -> Place
-    ensures answer { λ r. ⌜ r ≡ placeAfter (now (line .entry)) 0 (lineOf settings field) ⌝ }
-    ensures memory { λ _. ⌜ now (line .exit) ≡ appended (now (line .entry)) 0 (lineOf settings field) ⌝ }
+// Writes the two lines of a refusal, and answers the place after them.
+fn refused_text(line: &mut [u8], image: &[u8], refusal: Refusal, field: u8) -> usize
+    requires { ⌜ textWidth ≤ length (now line) ⌝ }
+    ensures written { λ r. ⌜ Put textWidth (now (line .entry)) 0 (refusedLine (numberOf refusal) field ++ faultText (now (image .entry)) (numberOf refusal) field) (now (line .exit)) r ⌝ }
 {
-    let mut composed = [0u8; LINE_WIDTH];
-    let n = field_line(&mut composed, settings, field);
-    append(line, 0, &composed[0..n])
+    let first = refused_line(refusal.number(), field);
+    let bytes = first.bytes;
+    let end = first.length;
+    let second = put(line, 0, &bytes[0..end]);
+    fault_line(line, second, image, refusal, field)
+}
+
+// Writes the text of an image, and answers the place after it.
+fn compose(line: &mut [u8], image: &[u8]) -> usize
+    requires { ⌜ textWidth ≤ length (now line) ⌝ }
+    ensures written { λ r. ⌜ Put textWidth (now (line .entry)) 0 (settingsText (now (image .entry))) (now (line .exit)) r ⌝ }
+{
+    let mut numbers = [0i32; NUMBERS];
+    let answer = read(image, &mut numbers);
+    match answer {
+        Read::Done => setting_lines(line, &numbers),
+        Read::Refused { refusal, field } => refused_text(line, image, refusal, field),
+    }
+}
+
+// Writes the text of an image at the front of a lent one, or nothing where it does not fit.
+pub fn settings_text(image: &[u8], out: &mut [u8]) -> Place
+    ensures answer { λ r. ⌜ r ≡ placeAfter (now (out .entry)) 0 (settingsText (now (image .entry))) ⌝ }
+    ensures memory { λ _. ⌜ now (out .exit) ≡ appended (now (out .entry)) 0 (settingsText (now (image .entry))) ⌝ }
+    ensures most { λ _. ⌜ length (settingsText (now (image .entry))) ≤ textWidth ⌝ }
+{
+    let mut composed = [0u8; TEXT_WIDTH];
+    let end = compose(&mut composed, image);
+    append(out, 0, &composed[0..end])
 }

@@ -16,9 +16,10 @@ use Rattle.bits.proofs.SetLaws.{has-or}
 use Rattle.planning.specs.Registers.{differsIn}
 use Rattle.planning.proofs.ShiftLaws.{has-past, has-shl, has-below}
 use Rattle.planning.proofs.RoundLaws.{span-size}
-use Rattle.adv7194_fields.specs.Fields.{fields, blocks}
-use Rattle.adv7194_image.specs.Masks.{numberMask, blockMask, fieldMask, zeroMask, fieldMasks}
 use Rattle.adv7194_bus.specs.Kind.{registerCount}
+use Rattle.adv7194_table.specs.Fields.{timing, output, picture, dnr}
+use Rattle.adv7194_table.specs.Table.{singles, table}
+use Rattle.adv7194_table.specs.Masks.{maskWhere, fieldMask, zeroMask, fieldMasks}
 use Rattle.adv7194_least.specs.Change.{settable, Change}
 use Rattle.adv7194_least.specs.Plan.{differs}
 use Rattle.adv7194_least.proofs.Differing.{differs-settable}
@@ -33,7 +34,7 @@ part start end l = take (end - start) (drop start l)
 abbrev inPart : ℕ → ℕ → ℕ → Bool
 inPart start end r = leb start r && ltb r end
 
-module _ (masks : List ℕ) {image wanted : List ℕ} (table : length masks ≡ registerCount) (χ : Change image wanted)
+module _ (masks : List ℕ) {image wanted : List ℕ} (full : length masks ≡ registerCount) (χ : Change image wanted)
     (start end : ℕ) (ordered : start ≤ end) (ends : end ≤ registerCount) where
   sized : (l : List ℕ) → length l ≡ registerCount → length (part start end l) ≡ end - start
   sized l e = span-size l start end ordered (omega arith)
@@ -42,7 +43,7 @@ module _ (masks : List ℕ) {image wanted : List ℕ} (table : length masks ≡ 
   pub comparable : (length (part start end masks) ≡ length (part start end wanted)) × (length (part start end image) ≡ length (part start end wanted))
       × (length (part start end wanted) ≤ 64)
   comparable =
-      let a = sized masks table in
+      let a = sized masks full in
       let b = sized image (χ .found .size) in
       let d = sized wanted (χ .wants .size) in
       (a ∙ sym d, b ∙ sym d, omega arith)
@@ -102,7 +103,7 @@ abbrev comparedTest : ℕ → Bool
 comparedTest r = imp (settable r) (inHalf r && hasField r)
 
 settable-compared : T (below comparedTest registerCount)
-unfolding settable fieldMasks fieldMask numberMask blockMask fields blocks zeroMask
+unfolding settable fieldMasks fieldMask zeroMask maskWhere table singles timing output picture dnr
 settable-compared = tt
 
 -- the table has an entry a register

@@ -1,41 +1,38 @@
--- Document 01, "Refusals": planning checks 1, 2, then the settings' fields in order, then 10; of its image it judges only the length.
+-- Document 01, "Refusals": planning checks 1, 2, then the settings' fields in order, then 10; of its image it judges only the length. The settings are 49
+-- numbers: another count is refused as 3 at field 0, before the fields.
 use mathlib.Core.Bool.{Bool, cond, not, _&&_}
 use mathlib.Core.List.{List, [], _∷_, _++_}
 use Prim.Native.Nat.{ℕ}
 use lib.Dec.{eqb, ltb}
+use lib.IntN.{ℤ}
 use lib.ListN.{length}
-use Rattle.refusals.specs.Order.{Place}
+use Rattle.refusals.specs.Order.{Place, placesAt}
 use Rattle.bus.specs.Transactions.{Transaction}
 use Rattle.packing.specs.Packing.{packed}
 use Rattle.adv7194_bus.specs.Kind.{registerCount}
 use Rattle.adv7194_bus.specs.Address.{addressRight}
-use Rattle.adv7194_settings.specs.declared.settings.Settings.{Settings}
+use Rattle.adv7194_table.specs.Fields.{numberCount}
+use Rattle.adv7194_settings.specs.Wanted.{wantedBy}
 use Rattle.adv7194_settings.specs.Order.{order}
 use Rattle.adv7194_settings.specs.Rows.{rowHolds}
-use Rattle.adv7194_settings.specs.Codes.{codesOf}
-use Rattle.adv7194_image.specs.Wanted.{wantedOf}
 use Rattle.adv7194_least.specs.Plan.{planOf}
 
--- the image that the settings mean over the starting image
-unfoldable pub wantedBy : List ℕ → Settings → List ℕ
-wantedBy image settings = wantedOf image (codesOf settings)
-
 -- the plan's transactions
-unfoldable pub listOf : List ℕ → Settings → List Transaction
-listOf image settings = planOf image (wantedBy image settings)
+unfoldable pub listOf : List ℕ → List ℤ → List Transaction
+listOf image zs = planOf image (wantedBy image zs)
 
--- row n holds at field f of what is handed to planning, with a lent plan of that many bytes
-unfoldable pub rowPlanned : List ℕ → Settings → ℕ → ℕ → ℕ → ℕ → Bool
-rowPlanned image settings address room n f =
-    cond (eqb n 1) (eqb f 0 && not (eqb (length image) registerCount))
-    (cond (eqb n 2) (eqb f 0 && not (addressRight address))
-    (cond (eqb n 10) (eqb f 0 && ltb room (length (packed (listOf image settings))))
-    (rowHolds settings n f)))
+-- row n holds of the call, at no field: the image's length, the address, the count of numbers, a lent plan of that many bytes
+abbrev pub callRow : List ℕ → List ℤ → ℕ → ℕ → ℕ → Bool
+callRow image zs address room n =
+    cond (eqb n 1) (not (eqb (length image) registerCount))
+    (cond (eqb n 2) (not (addressRight address))
+    (cond (eqb n 3) (not (eqb (length zs) numberCount))
+    (eqb n 10 && ltb room (length (packed (listOf image zs))))))
 
--- a row that belongs to no field
-abbrev apart : ℕ → Place
-apart n = record { row = n; field = 0 }
+-- row n holds at field f of what is handed to planning
+unfoldable pub rowPlanned : List ℕ → List ℤ → ℕ → ℕ → ℕ → ℕ → Bool
+rowPlanned image zs address room n f = cond (eqb f 0) (callRow image zs address room n) (rowHolds zs n f)
 
 -- the checking order of planning
 unfoldable pub planOrder : List Place
-planOrder = apart 1 ∷ apart 2 ∷ (order ++ (apart 10 ∷ []))
+planOrder = placesAt (1 ∷ 2 ∷ 3 ∷ []) 0 ++ (order ++ placesAt (10 ∷ []) 0)

@@ -4,13 +4,12 @@ ghost use Prim.Native.Nat.{ℕ, _<_};
 ghost use lib.ListN.{length, take};
 ghost use Rattle.refusals.specs.Verdict.{refusedAt};
 ghost use Rattle.planning.specs.Plan.{packingOf, planAfter};
-ghost use Rattle.adv7194_settings.specs.Codes.{codesOf};
-ghost use Rattle.adv7194_image.specs.Wanted.{wantedOf, CodesFit};
-ghost use Rattle.adv7194_image.specs.Demand.{Demanded};
+ghost use Rattle.adv7194_settings.specs.Wanted.{wantedBy};
+ghost use Rattle.adv7194_settings.specs.Demand.{Demanded};
 ghost use Rattle.adv7194_least.specs.Change.{Change};
 ghost use Rattle.adv7194_least.specs.Plan.{planOf};
 ghost use Rattle.adv7194_least.specs.Demands.{Played, Counted, Least, Only, mostBytes};
-ghost use Rattle.adv7194_planning.specs.Rows.{wantedBy, listOf};
+ghost use Rattle.adv7194_planning.specs.Rows.{listOf};
 ghost use Rattle.adv7194_planning.specs.Judges.{Judges};
 ghost use Rattle.adv7194_planning.specs.Planning.{planningOf, planLeft, withoutField, done, answerOf};
 use crate::registers::changed_registers;
@@ -18,11 +17,10 @@ use crate::registers::needed_registers;
 use crate::registers::writable_registers;
 use adv7194_bus::REGISTERS;
 use adv7194_bus::address_right;
-use adv7194_image::want;
-use adv7194_settings::Checked;
-use adv7194_settings::check;
-use adv7194_settings::codes::Codes;
-use adv7194_settings::settings::Settings;
+use adv7194_bus::image::copied;
+use adv7194_settings::NUMBERS;
+use adv7194_wanted::want;
+use field_table::Checked;
 use planning::plan::Packed;
 use planning::plan::pack;
 use refusals::Refusal;
@@ -70,27 +68,17 @@ fn plan_change(image: &[u8], wanted: &[u8], plan: &mut [u8]) -> Planned
     }
 }
 
-// Plans codes over an image, into the lent plan.
-fn plan_codes(image: &[u8], codes: Codes, plan: &mut [u8]) -> Planned
-    requires { ⌜ Change (now image) (wantedOf (now image) codes) × CodesFit codes ⌝ }
-    ensures answer { λ r. ⌜ answerOf r ≡ withoutField (packingOf (planOf (now (image .entry)) (wantedOf (now (image .entry)) codes)) (length (now (plan .entry)))) ⌝ }
-    ensures memory { λ r. ⌜ now (plan .exit) ≡ planAfter (planOf (now (image .entry)) (wantedOf (now (image .entry)) codes)) (now (plan .entry)) ⌝ }
-{
-    let wanted = want(image, codes);
-    plan_change(image, &wanted, plan)
-}
-
 // Plans the settings over an image, for the chip at a bus address, into the lent plan.
-pub fn plan(image: &[u8], settings: Settings, address: u32, plan: &mut [u8]) -> Planned
-    ensures answer { λ r. ⌜ answerOf r ≡ planningOf (now (image .entry)) settings address (length (now (plan .entry))) ⌝ }
-    ensures memory { λ r. ⌜ now (plan .exit) ≡ planLeft (now (image .entry)) settings address (now (plan .entry)) ⌝ }
+pub fn plan(image: &[u8], numbers: &[i32], address: u32, plan: &mut [u8]) -> Planned
+    ensures answer { λ r. ⌜ answerOf r ≡ planningOf (now (image .entry)) (now (numbers .entry)) address (length (now (plan .entry))) ⌝ }
+    ensures memory { λ r. ⌜ now (plan .exit) ≡ planLeft (now (image .entry)) (now (numbers .entry)) address (now (plan .entry)) ⌝ }
     ensures counted { λ r. ⌜ ((l t b : ℕ) → answerOf r ≡ done l t b → Counted (take l (now (plan .exit))) l t b) ⌝ }
-    ensures demanded { λ r. ⌜ ((l t b : ℕ) → answerOf r ≡ done l t b → Demanded (now (image .entry)) (codesOf settings) (wantedBy (now (image .entry)) settings)) ⌝ }
-    ensures played { λ r. ⌜ ((l t b : ℕ) → answerOf r ≡ done l t b → Played (now (image .entry)) (wantedBy (now (image .entry)) settings) (take l (now (plan .exit)))) ⌝ }
-    ensures least { λ r. ⌜ ((l t b : ℕ) → answerOf r ≡ done l t b → Least (now (image .entry)) (wantedBy (now (image .entry)) settings) t b) ⌝ }
-    ensures only { λ r. ⌜ ((l t b : ℕ) → answerOf r ≡ done l t b → Only (now (image .entry)) (wantedBy (now (image .entry)) settings) (listOf (now (image .entry)) settings)) ⌝ }
+    ensures demanded { λ r. ⌜ ((l t b : ℕ) → answerOf r ≡ done l t b → Demanded (now (image .entry)) (now (numbers .entry)) (wantedBy (now (image .entry)) (now (numbers .entry)))) ⌝ }
+    ensures played { λ r. ⌜ ((l t b : ℕ) → answerOf r ≡ done l t b → Played (now (image .entry)) (wantedBy (now (image .entry)) (now (numbers .entry))) (take l (now (plan .exit)))) ⌝ }
+    ensures least { λ r. ⌜ ((l t b : ℕ) → answerOf r ≡ done l t b → Least (now (image .entry)) (wantedBy (now (image .entry)) (now (numbers .entry))) t b) ⌝ }
+    ensures only { λ r. ⌜ ((l t b : ℕ) → answerOf r ≡ done l t b → Only (now (image .entry)) (wantedBy (now (image .entry)) (now (numbers .entry))) (listOf (now (image .entry)) (now (numbers .entry)))) ⌝ }
     ensures room { λ r. ⌜ ((f : ℕ) → answerOf r ≡ refusedAt 10 f → length (now (plan .entry)) < mostBytes) ⌝ }
-    ensures judged { λ r. ⌜ Judges (now (image .entry)) settings address (length (now (plan .entry))) (answerOf r) ⌝ }
+    ensures judged { λ r. ⌜ Judges (now (image .entry)) (now (numbers .entry)) address (length (now (plan .entry))) (answerOf r) ⌝ }
 {
     if image.len() != REGISTERS as usize {
         return Planned::Refused {
@@ -104,8 +92,15 @@ pub fn plan(image: &[u8], settings: Settings, address: u32, plan: &mut [u8]) -> 
             field: NO_FIELD,
         };
     }
-    match check(settings) {
+    if numbers.len() != NUMBERS {
+        return Planned::Refused {
+            refusal: Refusal::OutOfRange,
+            field: NO_FIELD,
+        };
+    }
+    let mut wanted = copied(image);
+    match want(numbers, &mut wanted) {
         Checked::Refused { refusal, field } => Planned::Refused { refusal, field },
-        Checked::Good(codes) => plan_codes(image, codes, plan),
+        Checked::Good => plan_change(image, &wanted, plan),
     }
 }

@@ -7,7 +7,7 @@ ghost use Rattle.adv7194_least.specs.Plan.{writable, differs, withWord};
 use adv7194_bus::BARRED;
 use adv7194_bus::REGISTERS;
 use adv7194_bus::WORD;
-use adv7194_image::field_masks;
+use adv7194_table::field_masks;
 use planning::maps::differing;
 
 // The map of the registers that a byte may be written to: all but the barred ones.

@@ -1,6 +1,6 @@
-pub mod SignalLaws
-pub mod SignalHeldLaws
-pub mod SignalWordLaws
-pub mod SignalFaultLaws
-pub mod SubcarrierLaws
-pub mod PartLaws
+pub mod RowLaws
+pub mod FieldLaws
+pub mod BlockLaws
+pub mod JudgeLaws
+pub mod ReadLaws
+pub mod AnswerLaws

@@ -1,16 +1,64 @@
-// Reading an image: the settings that it holds, or the first field at fault.
-mod curves;
-pub mod reading;
-mod refusal;
-mod signal;
-mod signal_word;
-mod word;
+// An image judged and read: the settings that it holds, as 49 numbers.
+ghost use mathlib.Core.Path.{_≡_};
+ghost use lib.ListN.{length};
+ghost use Rattle.refusals.specs.Order.{Exactly};
+ghost use Rattle.adv7194_settings.specs.Reading.{rowRead, readOrder, readOf, readLeft};
+ghost use Rattle.adv7194_reading.specs.Answers.{readAs};
 
-use adv7194_settings::settings::Settings;
+mod answers;
+mod reading;
+
+use adv7194_bus::REGISTERS;
+pub use answers::Read;
+use answers::answer;
+use field_table::Checked;
+use reading::read_first;
+use reading::read_last;
 use refusals::Refusal;
 
-// What reading answers: the settings that an image holds, or a refusal with its field.
-pub enum Read {
-    Settings(Settings),
-    Refused { refusal: Refusal, field: u8 },
+// How many numbers settings are.
+const NUMBERS: usize = 49;
+
+// The field of a refusal where none applies.
+const NO_FIELD: u8 = 0;
+
+// Numbers copied into as many others.
+fn copy(from: &[i32], to: &mut [i32])
+    requires { ⌜ length (now from) ≡ length (now to) ⌝ }
+    ensures memory { λ r. ⌜ now (to .exit) ≡ now (from .entry) ⌝ }
+{
+    let mut i = 0;
+    while i < to.len() {
+        let number = from[i];
+        to[i] = number;
+        i += 1;
+    }
+}
+
+// The settings of an image, left in the 49 lent numbers; on a refusal these are as they were.
+pub fn read(image: &[u8], numbers: &mut [i32]) -> Read
+    ensures answer { λ r. ⌜ readAs r ≡ readOf (now (image .entry)) (length (now (numbers .entry))) ⌝ }
+    ensures memory { λ r. ⌜ now (numbers .exit) ≡ readLeft (now (image .entry)) (now (numbers .entry)) ⌝ }
+    ensures exactly { λ r. ⌜ Exactly (rowRead (now (image .entry)) (length (now (numbers .entry)))) readOrder tt (readAs r) ⌝ }
+{
+    if image.len() != REGISTERS as usize {
+        return Read::Refused {
+            refusal: Refusal::ImageLength,
+            field: NO_FIELD,
+        };
+    }
+    if numbers.len() != NUMBERS {
+        return Read::Refused {
+            refusal: Refusal::OutOfRange,
+            field: NO_FIELD,
+        };
+    }
+    let mut held = [0i32; NUMBERS];
+    let first = read_first(image, &mut held);
+    let judged = read_last(first, image, &mut held);
+    let Checked::Good = judged else {
+        return answer(judged);
+    };
+    copy(&held, numbers);
+    Read::Done
 }

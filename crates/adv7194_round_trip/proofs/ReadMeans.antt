@@ -1,80 +1,75 @@
 -- What is read from an image means that image. Assumes nothing.
-use mathlib.Core.Path.{_≡_, sym, ap, _∙_, subst}
-use mathlib.Core.Bool.{false}
-use mathlib.Core.List.{List, _++_}
-use Prim.Native.Nat.{ℕ, _+_}
-use native.Mathlib.Omega.{arith}
+use mathlib.Core.Path.{_≡_, sym, ap, _∙_}
+use mathlib.Core.List.{List, [], _∷_, _++_}
+use Prim.Native.Nat.{ℕ}
 use lib.IntN.{ℤ}
-use lib.ListN.{drop, length-drop}
-use Rattle.refusals.specs.Refusal.{Judged, refusedBy}
+use Rattle.refusals.specs.Refusal.{accepted}
 use Rattle.refusals.specs.Verdict.{good}
-use Rattle.adv7194_fields.specs.Fields.{fields}
-use Rattle.adv7194_gamma.specs.Answer.{bytesIn}
-use Rattle.adv7194_settings.specs.declared.settings.Settings.{Settings}
-use Rattle.adv7194_settings.specs.declared.codes.Signal.{Signal}
-use Rattle.adv7194_settings.specs.Rows.{codings, codingAt, numberCodings, gammaOf}
-use Rattle.adv7194_settings.specs.Codes.{codesIn, pointsBy, pointsOf, codesOf}
-use Rattle.adv7194_settings.proofs.GroupLaws.{signal-codes, curve-a-coding, curve-b-coding}
-use Rattle.adv7194_image.specs.Writes.{held}
-use Rattle.adv7194_image.specs.Wanted.{numberWrites, byteWrites, signalWrites, writes, wantedOf}
-use Rattle.adv7194_image.proofs.ApartLaws.{AllThere, puts-there}
-use Rattle.adv7194_reading_groups.specs.Held.{curveAt, settingsHeld}
-use Rattle.adv7194_reading_groups.specs.Rows.{rowHeld}
-use Rattle.adv7194_reading.specs.Reading.{readOrder, readOf}
+use Rattle.field_table.specs.Writes.{Write, Each}
+use Rattle.field_table.proofs.ApartLaws.{AllThere, puts-there}
+use Rattle.adv7194_table.specs.Fields.{standard}
+use Rattle.adv7194_table.specs.Blocks.{signalling}
+use Rattle.adv7194_table.specs.Table.{Entry, table}
+use Rattle.adv7194_signalling.specs.Signalling.{signallingConflict}
+use Rattle.adv7194_settings.specs.Codes.{numbersIn, codesIn}
+use Rattle.adv7194_settings.specs.Wanted.{entryWrites, writesOf, wantedBy}
+use Rattle.adv7194_settings.specs.Held.{settingHeld, settingsHeld}
+use Rattle.adv7194_settings.specs.Rows.{judgeOf}
 use Rattle.adv7194_round_trip.specs.RoundTrip.{Bytes, MeansItself}
-use Rattle.adv7194_round_trip.proofs.FirstLaws.{cleared}
-use Rattle.adv7194_round_trip.proofs.NumberLaws.{AllTaken, held-taken, held-there, numbers-held, settings-codes}
-use Rattle.adv7194_round_trip.proofs.ByteLaws.{elements-are, elements-there, curve-coded}
-use Rattle.adv7194_round_trip.proofs.PartLaws.{each-write}
-use Rattle.adv7194_round_trip.proofs.SignalLaws.{signal-held}
-use Rattle.adv7194_round_trip.proofs.HeldLaws.{Held, all-held}
-use Rattle.adv7194_round_trip.proofs.CodeLaws.{blockCodings, Passing, passing, number-codes}
+use Rattle.adv7194_round_trip.proofs.EntryLaws.{All, all-map, all-zip, at-signalling}
+use Rattle.adv7194_round_trip.proofs.RowLaws.{Taken, passing, Read, Reading, has-read}
+use Rattle.adv7194_round_trip.proofs.StoredLaws.{Stored, stored, standard-stored, square-pixel-stored}
+use Rattle.adv7194_round_trip.proofs.CodedLaws.{Known, known, Coded, signal-free, read-coded, coded-there}
 
--- no coding of the settings is a refusal
-held-passing : (image : List ℕ) → Bytes image → Held image → Passing (settingsHeld image)
-unfolding codings settingsHeld
-held-passing image b h =
-    let s = settingsHeld image in
-    let curve-taken : (r n : ℕ) → refusedBy n (gammaOf (curveAt image r)) ≡ false = λ r n. ap (refusedBy n) (curve-coded image b r) in
-    let others : AllTaken (blockCodings s) = (signal-held image b (h .signal) .taken, (curve-taken 0x26, (curve-taken 0x2D, tt))) in
+-- ---- the writes of some entries, entry by entry
+
+joined : (P : Write → Type 0) (vs ws : List Write) → Each P vs → Each P ws → Each P (vs ++ ws)
+joined P [] ws p q = q
+joined P (v ∷ vs) ws p q = (p .0, joined P vs ws (p .1) q)
+
+divided : (P : Write → Type 0) (vs ws : List Write) → Each P (vs ++ ws) → Each P vs × Each P ws
+divided P [] ws h = (tt, h)
+divided P (v ∷ vs) ws h = let rest = divided P vs ws (h .1) in ((h .0, rest .0), rest .1)
+
+pub each-write : (P : Write → Type 0) (zs : List ℤ) (es : List Entry) → All (λ e. Each P (entryWrites zs e)) es → Each P (writesOf zs es)
+unfolding writesOf
+each-write P zs [] h = tt
+each-write P zs (e ∷ es) h = joined P (entryWrites zs e) (writesOf zs es) (h .0) (each-write P zs es (h .1))
+
+pub each-entry : (P : Write → Type 0) (zs : List ℤ) (es : List Entry) → Each P (writesOf zs es) → All (λ e. Each P (entryWrites zs e)) es
+unfolding writesOf
+each-entry P zs [] h = tt
+each-entry P zs (e ∷ es) h = let both = divided P (entryWrites zs e) (writesOf zs es) h in (both .0, each-entry P zs es (both .1))
+
+-- ---- an image whose readings are accepted
+
+-- each code of the settings that it holds is the one that it holds
+pub held-coded : (image : List ℕ) → Bytes image → Reading image → All (Coded image (settingsHeld image)) table
+held-coded image b r =
+    let zs = settingsHeld image in
+    all-zip (λ e. Known e × Stored image zs e) (Read image) (Coded image zs)
+    (λ e k h. read-coded image b zs (standard-stored image) (square-pixel-stored image) e (k .0) (k .1) h) table
+    (all-zip Known (Stored image zs) (λ e. Known e × Stored image zs e) (λ e k s. (k, s)) table known (stored image)) (r .read)
+
+-- so these settings mean it
+pub held-means : (image : List ℕ) → Bytes image → Reading image → MeansItself image (settingsHeld image)
+unfolding wantedBy
+held-means image b r =
+    let zs = settingsHeld image in
+    let coded = held-coded image b r in
+    let free = signal-free image b zs (at-signalling (Stored image zs) (stored image)) (at-signalling (Read image) (r .read)) (settingHeld image standard) in
+    let there = all-zip Known (Coded image zs) (λ e. AllThere image (entryWrites zs e)) (coded-there image b zs) table known coded in
     record {
-      taken = subst (λ (zs : List ℤ). AllTaken (numberCodings fields zs ++ blockCodings s)) (sym (numbers-held image)) (held-taken image fields (blockCodings s) (h .readable) others);
-      no-5 = h .no-5;
-      no-6 = h .no-6;
-      no-7 = h .no-7;
+      passes =
+          passing zs (record {
+            taken = all-map (Coded image zs) (Taken zs) (λ e h. h ∙ ap (λ j. accepted (codesIn j)) (sym h)) table coded;
+            no-5 = r .no-5;
+            no-6 = r .no-6;
+            no-7 = ap (λ z. signallingConflict z (numbersIn zs signalling)) (standard-stored image) ∙ free ∙ r .no-7;
+          });
+      same = puts-there image (writesOf zs table) (each-write _ zs table there);
     }
 
--- a curve's bytes are there
-curve-there : (image : List ℕ) → Bytes image → (r : ℕ) (j : Judged (List ℕ)) → gammaOf (curveAt image r) ≡ j → AllThere image (byteWrites (r + 0) (bytesIn (pointsBy (codesIn j))))
-curve-there image b r j e =
-    subst (λ (i : Judged (List ℕ)). AllThere image (byteWrites (r + 0) (bytesIn (pointsBy (codesIn i))))) (sym (curve-coded image b r) ∙ e) (elements-there image b r 0 7)
-
--- every code of the settings is there
-codes-there : (image : List ℕ) → Bytes image → Held image → AllThere image (writes (codesOf (settingsHeld image)))
-unfolding codesOf pointsOf settingsHeld
-codes-there image b h =
-    let s = settingsHeld image in
-    let codes = number-codes s ∙ settings-codes image (h .readable) in
-    let word = h .word ∙ elements-are (drop 0x0C image) 0 4 (omega (arith, length-drop 0x0C image, h .size)) in
-    each-write (λ w. held image w ≡ w .value) (codesOf s)
-    (record {
-      of-numbers = subst (λ (vs : List ℕ). AllThere image (numberWrites fields vs)) (sym codes) (held-there image fields);
-      of-zeros = (h .zero-21, (h .zero-22, tt));
-      of-a = curve-there image b 0x26 (codingAt s 26) (curve-a-coding s);
-      of-b = curve-there image b 0x2D (codingAt s 27) (curve-b-coding s);
-      of-word = subst (λ (l : List ℕ). AllThere image (byteWrites 0x0C l)) (sym word) (elements-there image b 0x0C 0 4);
-      of-signal = subst (λ (g : Signal). AllThere image (signalWrites g)) (signal-codes s) (signal-held image b (h .signal) .there);
-    })
-
--- an image that is so means itself
-pub held-means : (image : List ℕ) → Bytes image → Held image → MeansItself image (settingsHeld image)
-unfolding wantedOf
-held-means image b h =
-    record { passes = passing (settingsHeld image) (held-passing image b h); same = puts-there image (writes (codesOf (settingsHeld image))) (codes-there image b h) }
-
 -- what is read from an image means that image
-pub means-itself : (image : List ℕ) (s : Settings) → Bytes image → readOf image ≡ good s → MeansItself image s
-unfolding readOf
-means-itself image s b e =
-    let c = cleared (rowHeld image) readOrder (settingsHeld image) s e in
-    subst (MeansItself image) (c .0) (held-means image b (all-held image (c .1)))
+pub means-itself : (image : List ℕ) → Bytes image → judgeOf image ≡ good tt → MeansItself image (settingsHeld image)
+means-itself image b e = held-means image b (has-read image e)

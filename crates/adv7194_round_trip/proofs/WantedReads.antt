@@ -1,157 +1,134 @@
 -- The image that settings want is read back, as settings that have the same codes. Assumes nothing.
-use mathlib.Core.Path.{_≡_, refl, sym, ap, ap₂, _∙_, subst}
-use mathlib.Core.Bool.{false}
-use mathlib.Core.List.{List}
-use Prim.Native.Nat.{ℕ, _+_}
+use mathlib.Core.Path.{_≡_, refl, sym, ap, ap₂, _∙_}
+use mathlib.Core.Bool.{_&&_}
+use mathlib.Core.List.{List, [], _∷_, _++_, map}
+use Prim.Native.Nat.{ℕ}
+use native.Mathlib.Nat.{mod-eq-of-lt}
 use native.Mathlib.Omega.{arith}
-use lib.Dec.{eqb}
+use lib.Dec.{T}
 use lib.IntN.{ℤ}
-use lib.ListN.{length, getD, take, drop, length-drop}
-use Rattle.refusals.specs.Refusal.{Judged, accepted}
+use lib.ListN.{length}
+use Rattle.refusals.specs.Refusal.{Judged, accepted, refused, codeIn}
 use Rattle.refusals.specs.Verdict.{good}
-use Rattle.rounding.specs.First.{firstFrom}
-use Rattle.rounding.proofs.Range.{eqZ, eqZ→eq}
-use Rattle.adv7194_fields.specs.Coding.{codeBy, codeOf, outside, decode}
-use Rattle.adv7194_fields.specs.Fields.{fields, standard, yesNo}
-use Rattle.adv7194_fields.proofs.Judging.{in-range}
-use Rattle.adv7194_subcarrier.specs.Subcarrier.{wordOf}
-use Rattle.adv7194_gamma.specs.declared.Points.{Points}
-use Rattle.adv7194_gamma.specs.Answer.{bytesIn}
-use Rattle.adv7194_settings.specs.declared.settings.Timing.{Timing}
-use Rattle.adv7194_settings.specs.declared.settings.Settings.{Settings}
-use Rattle.adv7194_settings.specs.declared.codes.Signal.{Signal}
-use Rattle.adv7194_settings.specs.declared.codes.Codes.{Codes}
-use Rattle.adv7194_settings.specs.Order.{order}
-use Rattle.adv7194_settings.specs.Rows.{numberCodings, numbers, codings, codingIn, codingAt, signallingOf, squareWithOversampling, pedestalWithPal, conflict, rowHolds}
-use Rattle.adv7194_settings.specs.Codes.{codesIn, pointsBy, signalBy, signalOf, pointsOf, standardBy, codeAt, wordAt, timingOf, outputOf, pictureOf, gainsOf, modeOf, codesOf, checkOf}
-use Rattle.adv7194_settings.proofs.GroupLaws.{signal-codes, curve-a-coding, curve-b-coding}
-use Rattle.adv7194_image.specs.Wanted.{numberWrites, wordBytes, byteWrites, signalWrites, wantedOf}
-use Rattle.adv7194_image.proofs.ApartLaws.{AllThere}
-use Rattle.adv7194_reading_groups.specs.Held.{readings, readingIn, readingAt, settingIn, settingAt, signallingHeld, settingsHeld}
-use Rattle.adv7194_reading_groups.specs.Rows.{registers}
+use Rattle.field_table.specs.declared.row.Row.{Row}
+use Rattle.field_table.specs.Coding.{plainOf}
+use Rattle.field_table.specs.Writes.{Write, puts, Each, AllHeld}
+use Rattle.field_table.specs.Walk.{given, held, settingIn, codingOf, rowWrite, rowFits}
+use Rattle.field_table.specs.Blocks.{is}
+use Rattle.field_table.proofs.ApartLaws.{AllThere}
+use Rattle.field_table.proofs.PlainLaws as plain
+use Rattle.adv7194_bus.specs.Kind.{registerCount}
+use Rattle.adv7194_table.specs.Fields.{standard, squarePixel, oversampling, pedestal}
+use Rattle.adv7194_table.specs.Blocks.{signalling}
+use Rattle.adv7194_table.specs.Table.{Entry, single, whole, table}
+use Rattle.adv7194_signalling.specs.Signalling.{heldConflict}
+use Rattle.adv7194_settings.specs.Codes.{oneCode, codesOf, codesIn}
+use Rattle.adv7194_settings.specs.Wanted.{blockWrites, entryWrites, writesOf, wantedBy}
+use Rattle.adv7194_settings.specs.Held.{settingHeld, bytesIn, settingsHeld}
+use Rattle.adv7194_settings.specs.Rows.{checkOf}
+use Rattle.adv7194_settings.proofs.FitLaws.{FitsIn, inChip, writes-fit, wanted-bytes}
+use Rattle.adv7194_settings.proofs.DemandLaws.{demanded}
 use Rattle.adv7194_round_trip.specs.RoundTrip.{Bytes, ReadsBack}
-use Rattle.adv7194_round_trip.proofs.FirstLaws.{cleared}
-use Rattle.adv7194_round_trip.proofs.NumberLaws.{AllReadable, codesHeld, firstCodes, settings-codes}
-use Rattle.adv7194_round_trip.proofs.ByteLaws.{elements, elements-are, curve-coded}
-use Rattle.adv7194_round_trip.proofs.HeldLaws.{Held, held-read}
-use Rattle.adv7194_round_trip.proofs.ReadMeans.{held-means}
-use Rattle.adv7194_round_trip.proofs.InsideLaws.{codesSet, set-codes, there-held}
-use Rattle.adv7194_round_trip.proofs.SmallLaws.{bytes-back}
-use Rattle.adv7194_round_trip.proofs.SignalBack.{SignalBack, signal-back}
-use Rattle.adv7194_round_trip.proofs.PassedLaws.{Passed, has-passed, codes-set, Has, wanted-has}
+use Rattle.adv7194_round_trip.proofs.EntryLaws as entries
+use Rattle.adv7194_round_trip.proofs.EntryLaws.{All, all-zip, at-signalling}
+use Rattle.adv7194_round_trip.proofs.RowLaws.{Taken, Passing, has-passed, Read, Reading, reading}
+use Rattle.adv7194_round_trip.proofs.StoredLaws.{standard-stored, square-pixel-stored, oversampling-stored, pedestal-stored}
+use Rattle.adv7194_round_trip.proofs.CodedLaws.{Known, known, Coded, one-back, there-coded, signal-again, there-read}
+use Rattle.adv7194_round_trip.proofs.ReadMeans.{each-entry, held-coded, held-means}
 
--- ---- yes/no and the standard are read as they were set
+-- ---- what settings with the same codes set
 
-yesNo-again : (z : ℤ) → outside yesNo z ≡ false → settingIn (decode yesNo (codeOf yesNo z)) ≡ z
-unfolding decode codeBy firstFrom
-yesNo-again z e = eqZ→eq _ z (in-range 0 1 (λ (t : ℤ). eqZ (settingIn (decode yesNo (codeOf yesNo t))) t) tt z e)
+-- what an image holds of values that fit their bits is the values
+held-whole : (image : List ℕ) (ws : List Write) → Each (FitsIn inChip) ws → AllHeld image ws → AllThere image ws
+held-whole image [] n h = tt
+held-whole image (w ∷ ws) n h = (h .0 ∙ mod-eq-of-lt (n .0 .fits), held-whole image ws (n .1) (h .1))
 
-standard-again : (z : ℤ) → outside standard z ≡ false → settingIn (decode standard (codeOf standard z)) ≡ z
-unfolding decode codeBy firstFrom
-standard-again z e = eqZ→eq _ z (in-range 0 1 (λ (t : ℤ). eqZ (settingIn (decode standard (codeOf standard t))) t) tt z e)
+-- settings have the same codes for an entry
+abbrev Same : List ℤ → List ℤ → Entry → Type 0
+Same ys zs e = codesOf ys e ≡ codesOf zs e
 
--- settings of fields 1 to 4
-abbrev timing : ℤ → ℤ → ℤ → ℤ → Timing
-timing st sq os pd = record { standard = st; «square_pixel» = sq; oversampling = os; pedestal = pd }
+same-one : (i j : Judged ℕ) → oneCode i ≡ oneCode j → i ≡ j
+same-one (accepted a) (accepted c) e = let q : a ≡ c = cc in ap accepted q
+same-one (accepted a) (refused n) e = let x : _≡_ {A = ℕ} 0 1 = cc in absurd (omega arith)
+same-one (refused m) (accepted c) e = let x : _≡_ {A = ℕ} 0 1 = cc in absurd (omega arith)
+same-one (refused m) (refused n) e = let q : m ≡ n = cc in ap refused q
 
-timing-again : (image : List ℕ) (s : Settings) → Passed s → codesHeld image fields ≡ codesSet fields (numbers s) → settingsHeld image .timing ≡ s .timing
-unfolding settingsHeld readingAt readingIn readings fields
-timing-again image s p e =
-    let t = s .timing in
-    let at : (k : ℕ) → getD (codesHeld image fields) k 0 ≡ getD (codesSet fields (numbers s)) k 0 = λ k. ap (λ (l : List ℕ). getD l k 0) e in
-    let one = ap (λ (c : ℕ). settingIn (decode standard c)) (at 0) ∙ standard-again (t .standard) (p .inside .0) in
-    let two = ap (λ (c : ℕ). settingIn (decode yesNo c)) (at 1) ∙ yesNo-again (t .«square_pixel») (p .inside .1 .0) in
-    let three = ap (λ (c : ℕ). settingIn (decode yesNo c)) (at 2) ∙ yesNo-again (t .oversampling) (p .inside .1 .1 .0) in
-    let four = ap (λ (c : ℕ). settingIn (decode yesNo c)) (at 3) ∙ yesNo-again (t .pedestal) (p .inside .1 .1 .1 .0) in
-    ap₂ (λ (x y : ℤ). timing x y (settingAt image 3) (settingAt image 4)) one two ∙ ap₂ (λ (x y : ℤ). timing (t .standard) (t .«square_pixel») x y) three four
+same-writes : (ys zs : List ℤ) (e : Entry) → Same ys zs e → entryWrites ys e ≡ entryWrites zs e
+same-writes ys zs (single f) h = ap (λ j. rowWrite (f .row) (codeIn j) ∷ []) (same-one (codingOf ys f) (codingOf zs f) h)
+same-writes ys zs (whole c b) h = ap (λ j. blockWrites c b (codesIn j)) h
 
--- ---- the codes again
+all-writes : (ys zs : List ℤ) (es : List Entry) → All (Same ys zs) es → writesOf ys es ≡ writesOf zs es
+unfolding writesOf
+all-writes ys zs [] h = refl
+all-writes ys zs (e ∷ es) h = ap₂ _++_ (same-writes ys zs e (h .0)) (all-writes ys zs es (h .1))
 
--- codes from those of single numbers, in the table's order, and the others
-abbrev fromNumbers : List ℕ → Signal → Points → Points → Codes
-fromNumbers ns signal a b =
-    let at : ℕ → ℕ = λ k. getD ns k 0 in
-    record {
-      timing = record { standard = standardBy (at 0); «square_pixel» = at 1; oversampling = at 2; pedestal = at 3 };
-      output = record { «y_level» = at 4; «uv_level» = at 5; «rgb_sync» = at 6; «clamp_delay» = at 7; «back_porch» = at 8; phase = at 9 };
-      signal = signal;
-      picture = record { contrast = at 10; «u_scale» = at 11; «v_scale» = at 12; hue = at 13; brightness = at 14; sharpness = at 15 };
-      gains = record { «border_gain» = at 16; «data_gain» = at 17; threshold = at 18; «border_area» = at 19; «block_size» = at 20 };
-      mode = record { «dnr_input» = at 21; «dnr_mode» = at 22; «block_offset» = at 23 };
-      «curve_a» = a;
-      «curve_b» = b;
-      word = wordOf (standardBy (at 0)) (eqb (at 1) 1);
-    }
+same-codes : (ys zs : List ℤ) (es : List Entry) → All (Same ys zs) es → map (codesOf ys) es ≡ map (codesOf zs) es
+same-codes ys zs [] h = refl
+same-codes ys zs (e ∷ es) h = ap₂ _∷_ (h .0) (same-codes ys zs es (h .1))
 
--- the codes of settings are so
-from-numbers : (s : Settings) → codesOf s ≡ fromNumbers (firstCodes (numberCodings fields (numbers s))) (signalOf s) (pointsOf s 26) (pointsOf s 27)
-unfolding codesOf timingOf outputOf pictureOf gainsOf modeOf wordAt codeAt codingAt codings codingIn numberCodings fields
-from-numbers s = refl
+-- ---- an image that has what settings set
 
--- settings with the same ones have the same codes
-same-codes : (s t : Settings) → firstCodes (numberCodings fields (numbers s)) ≡ firstCodes (numberCodings fields (numbers t)) → signalOf s ≡ signalOf t
-    → pointsOf s 26 ≡ pointsOf t 26 → pointsOf s 27 ≡ pointsOf t 27 → codesOf s ≡ codesOf t
-same-codes s t n g a b =
-    from-numbers s ∙ ap₂ (λ (ns : List ℕ) (signal : Signal). fromNumbers ns signal (pointsOf s 26) (pointsOf s 27)) n g
-    ∙ ap₂ (λ (x y : Points). fromNumbers (firstCodes (numberCodings fields (numbers t))) (signalOf t) x y) a b ∙ sym (from-numbers t)
+module _ (out : List ℕ) (b : Bytes out) (zs : List ℤ) (p : Passing zs) (there : All (λ e. AllThere out (entryWrites zs e)) table) where
+  abbrev Ready : Entry → Type 0
+  Ready e = Known e × (Taken zs e × AllThere out (entryWrites zs e))
 
--- the points of a curve that an image has
-points-again : (image : List ℕ) → Bytes image → (r : ℕ) (j : Judged (List ℕ)) (v : Points) → AllThere image (byteWrites (r + 0) (bytesIn v))
-    → j ≡ accepted (elements (drop r image) 0 7) → pointsBy (codesIn j) ≡ v
-points-again image b r j v h e = ap (λ (i : Judged (List ℕ)). pointsBy (codesIn i)) e ∙ ap pointsBy (bytes-back image b r 0 (bytesIn v) h)
+  ready : All Ready table
+  ready =
+      all-zip Known (λ e. Taken zs e × AllThere out (entryWrites zs e)) Ready (λ e k h. (k, h)) table known
+      (all-zip (Taken zs) (λ e. AllThere out (entryWrites zs e)) (λ e. Taken zs e × AllThere out (entryWrites zs e)) (λ e t h. (t, h)) table (p .taken) there)
 
--- ---- reading
+  coded : All (Coded out zs) table
+  coded = entries.all-map Ready (Coded out zs) (λ e h. there-coded out b zs (p .no-7) e (h .0) (h .1 .0) (h .1 .1)) table ready
 
--- an image that has the codes of settings that pass: what reading finds in it
-module _ (image : List ℕ) (s : Settings) (p : Passed s) (h : Has image s) where
-  found : (codesHeld image fields ≡ codesSet fields (numbers s)) × AllReadable image fields
-  found = there-held image fields (numbers s) (p .inside) (subst (λ (vs : List ℕ). AllThere image (numberWrites fields vs)) (codes-set s p) (h .there .of-numbers))
+  -- a setting that is its code is read as it was set
+  plain-again : (r : Row) → T (rowFits r) → Coded out zs (single (plainOf r)) → given zs r ≡ settingHeld out (plainOf r)
+  plain-again r t e =
+      sym (ap settingIn (plain.read-coded r (plain.row-fits r t) (given zs r) (held out r) (one-back (codingOf zs (plainOf r)) (held out r) e)))
 
-  signal-again : SignalBack image (s .timing .standard) (codesIn (signallingOf (s .signalling)))
-  unfolding codesOf
-  signal-again =
-      signal-back image (h .bytes) (s .timing .standard) (s .signalling) _ (p .signal) (p .no-7)
-      (subst (λ (g : Signal). AllThere image (signalWrites g)) (sym (signal-codes s)) (h .there .of-signal))
+  standard-again : given zs (standard .row) ≡ settingHeld out standard
+  standard-again = plain-again (standard .row) tt (entries.at-standard (Coded out zs) coded)
 
-  codes-again : codesOf (settingsHeld image) ≡ codesOf s
-  unfolding settingsHeld codesOf pointsOf
-  codes-again =
-      let r = settingsHeld image in
-      same-codes r s
-      (settings-codes image (found .1) ∙ found .0 ∙ sym (set-codes fields (numbers s) (p .inside)))
-      (sym (signal-codes r) ∙ ap (λ (j : Judged (List ℕ)). signalBy (codesIn j)) (signal-again .coded) ∙ signal-codes s)
-      (points-again image (h .bytes) 0x26 (codingAt r 26) (pointsOf s 26) (h .there .of-a) (sym (curve-a-coding r) ∙ curve-coded image (h .bytes) 0x26))
-      (points-again image (h .bytes) 0x2D (codingAt r 27) (pointsOf s 27) (h .there .of-b) (sym (curve-b-coding r) ∙ curve-coded image (h .bytes) 0x2D))
+  square-again : given zs (squarePixel .row) ≡ settingHeld out squarePixel
+  square-again = plain-again (squarePixel .row) tt (entries.at-square-pixel (Coded out zs) coded)
 
-  word-again : wordBytes (wordAt (settingsHeld image)) ≡ take 4 (drop 0x0C image)
-  unfolding codesOf
-  word-again =
-      ap (λ (c : Codes). wordBytes (c .word)) codes-again
-      ∙ sym (elements-are (drop 0x0C image) 0 4 (omega (arith, length-drop 0x0C image, h .size)) ∙ bytes-back image (h .bytes) 0x0C 0 (wordBytes (wordAt s)) (h .there .of-word))
+  oversampling-again : given zs (oversampling .row) ≡ settingHeld out oversampling
+  oversampling-again = plain-again (oversampling .row) tt (entries.at-oversampling (Coded out zs) coded)
 
-  held-again : Held image
-  held-again =
-      let t = timing-again image s p (found .0) in
+  pedestal-again : given zs (pedestal .row) ≡ settingHeld out pedestal
+  pedestal-again = plain-again (pedestal .row) tt (entries.at-pedestal (Coded out zs) coded)
+
+  -- so it is good
+  good-again : Reading out
+  good-again =
+      let signal = signal-again out b zs (p .no-7) (at-signalling (Taken zs) (p .taken)) (at-signalling (λ e. AllThere out (entryWrites zs e)) there) in
       record {
-        size = h .size;
-        readable = found .1;
-        zero-21 = h .there .of-zeros .0;
-        zero-22 = h .there .of-zeros .1 .0;
-        signal = signal-again .clear;
-        no-5 = ap squareWithOversampling t ∙ p .no-5;
-        no-6 = ap pedestalWithPal t ∙ p .no-6;
-        no-7 = ap (λ (x : Timing). conflict (x .standard) (signallingHeld image)) t ∙ signal-again .no-conflict;
-        word = word-again;
+        read =
+            entries.all-map Ready (Read out)
+            (λ e h. there-read out b zs (p .no-7) standard-again square-again e (h .0) (h .1 .0) (h .1 .1)) table ready;
+        no-5 =
+            ap₂ (λ (x y : ℤ). is 1 x && is 1 y) (square-pixel-stored out ∙ sym square-again) (oversampling-stored out ∙ sym oversampling-again) ∙ p .no-5;
+        no-6 = ap₂ (λ (x y : ℤ). is 1 x && is 1 y) (pedestal-stored out ∙ sym pedestal-again) (standard-stored out ∙ sym standard-again) ∙ p .no-6;
+        no-7 = ap (λ z. heldConflict z (bytesIn out signalling)) (sym standard-again) ∙ signal .free;
       }
 
--- the image that settings want is read back, and what is read has their codes
-pub reads-back : (image : List ℕ) (s : Settings) (c : Codes) → length image ≡ registers → Bytes image → checkOf s ≡ good c → ReadsBack image c
-unfolding checkOf
-reads-back image s c size b e =
-    let w = cleared (rowHolds s) order (codesOf s) c e in
-    let p = has-passed s (w .1) in
-    let out = wantedOf image (codesOf s) in
-    let h = wanted-has image s size b p in
-    let again = held-again out s p h in
-    subst (ReadsBack image) (w .0)
-    (record { reads = held-read out again; codes = held-means out (h .bytes) again .passes ∙ ap good (codes-again out s p h) })
+  -- and the settings that it holds have the same codes
+  codes-again : All (Same (settingsHeld out) zs) table
+  codes-again =
+      all-zip (Coded out (settingsHeld out)) (Coded out zs) (Same (settingsHeld out) zs) (λ e g h. g ∙ sym h) table (held-coded out b good-again) coded
+
+-- the image that settings want is read back, as settings that have the same codes
+pub reads-back : (image : List ℕ) (zs : List ℤ) → length image ≡ registerCount → Bytes image → checkOf zs ≡ good tt → ReadsBack image zs
+unfolding wantedBy
+reads-back image zs size b e =
+    let out = wantedBy image zs in
+    let p = has-passed zs e in
+    let bytes : Bytes out = record { byte = wanted-bytes image zs (b .byte) } in
+    let there = each-entry _ zs table (held-whole out (writesOf zs table) (writes-fit zs) (demanded image zs size .fields)) in
+    let again = good-again out bytes zs p there in
+    let codes = codes-again out bytes zs p there in
+    record {
+      reads = reading out again;
+      passes = held-means out bytes again .passes;
+      codes = same-codes (settingsHeld out) zs table codes;
+      same = ap (puts image) (all-writes (settingsHeld out) zs table codes);
+    }

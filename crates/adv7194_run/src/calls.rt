@@ -1,10 +1,26 @@
 // The calls of the C interface.
 use crate::print;
 use crate::tokens;
-use crate::tokens::MOST_SETTINGS;
+
+// The most settings of a record, and where they begin.
+const MOST_SETTINGS: usize = 64;
+
+const FIRST_SETTING: usize = 2;
 
 // How many numbers a set of settings is.
 const SETTINGS: usize = 49;
+
+// The settings of a record of planning: the numbers after the address.
+fn settings(held: [u64; 192]) -> [i32; 64] {
+    let mut settings = [0i32; 64];
+    let mut i = 0;
+    while i < MOST_SETTINGS {
+        let n = tokens::signed(held[i + FIRST_SETTING]);
+        settings[i] = n;
+        i += 1;
+    }
+    settings
+}
 
 // Planning: the word and numbers, the image and the lent plan.
 pub(crate) fn plan(held: [u64; 192], numbers: usize, image: &[u8], plan: &mut [u8]) -> bool {
@@ -15,7 +31,7 @@ pub(crate) fn plan(held: [u64; 192], numbers: usize, image: &[u8], plan: &mut [u
     if MOST_SETTINGS < count {
         return false;
     }
-    let settings = tokens::settings(held);
+    let settings = settings(held);
     let answer = adv7194_c::adv7194_plan(
         image,
         &settings[0..count],

@@ -1,10 +1,14 @@
 // The codings of the fields that hold one number.
+ghost use lib.Dec.{T};
+ghost use Rattle.field_table.specs.Rows.{rowOf};
+ghost use Rattle.field_table.specs.Walk.{rowFits};
 use crate::print;
 use crate::tokens;
 use crate::tokens::BYTE;
-use adv7194_fields::Coded;
-use adv7194_fields::Decoded;
-use adv7194_fields::plain::Plain;
+use adv7194_table::rows;
+use field_table::row::Coded;
+use field_table::row::Decoded;
+use field_table::row::row_of;
 
 // The last field that is set by one number, and the one before it that is not.
 const LAST_FIELD: u64 = 25;
@@ -16,43 +20,56 @@ fn is_single(field: u64) -> bool {
     (0 < field) & (field <= LAST_FIELD) & (field != SIGNALLING)
 }
 
-// The format of a field whose setting is its code, by its number in document 01.
-fn format(field: u64) -> Plain {
+// The row of a field whose setting is its code, by its number in document 01.
+fn plain_row(field: u64) -> u64
+    ensures { λ r. ⌜ T (rowFits (rowOf r)) ⌝ }
+{
     match field {
-        1 => Plain::Standard,
-        6 => Plain::UvLevel,
-        10 => Plain::SubcarrierPhase,
-        18 | 19 => Plain::DnrGain,
-        20 => Plain::DnrThreshold,
-        23 => Plain::DnrInput,
-        25 => Plain::DnrBlockOffset,
-        _ => Plain::YesNo,
+        1 => rows::STANDARD,
+        2 => rows::SQUARE_PIXEL,
+        3 => rows::OVERSAMPLING,
+        4 => rows::PEDESTAL,
+        5 => rows::Y_LEVEL,
+        6 => rows::UV_LEVEL,
+        7 => rows::RGB_SYNC,
+        9 => rows::BACK_PORCH,
+        10 => rows::PHASE,
+        18 => rows::BORDER_GAIN,
+        19 => rows::DATA_GAIN,
+        20 => rows::THRESHOLD,
+        21 => rows::BORDER_AREA,
+        22 => rows::BLOCK_SIZE,
+        23 => rows::DNR_INPUT,
+        24 => rows::DNR_MODE,
+        _ => rows::BLOCK_OFFSET,
     }
 }
 
 // The code of a field's setting.
 fn code_of(field: u64, n: i32) -> Coded {
     match field {
-        8 => adv7194_signed::clamp_delay_code(n),
-        12 => adv7194_rounded::contrast_code(n),
-        13 | 14 => adv7194_rounded::scale_code(n),
-        15 => adv7194_rounded::hue_code(n),
-        16 => adv7194_signed::brightness_code(n),
-        17 => adv7194_signed::sharpness_code(n),
-        _ => format(field).code(n),
+        8 => adv7194_codes::clamp_delay_code(n),
+        12 => adv7194_codes::thousandths_code(rows::CONTRAST, n),
+        13 => adv7194_codes::thousandths_code(rows::U_SCALE, n),
+        14 => adv7194_codes::thousandths_code(rows::V_SCALE, n),
+        15 => adv7194_codes::hue_code(n),
+        16 => adv7194_codes::brightness_code(n),
+        17 => adv7194_codes::sharpness_code(n),
+        _ => field_table::code(row_of(plain_row(field)), n),
     }
 }
 
 // The setting of a field's code.
 fn setting_of(field: u64, c: u8) -> Decoded {
     match field {
-        8 => adv7194_signed::clamp_delay_setting(c),
-        12 => adv7194_rounded::contrast_setting(c),
-        13 | 14 => adv7194_rounded::scale_setting(c),
-        15 => adv7194_rounded::hue_setting(c),
-        16 => adv7194_signed::brightness_setting(c),
-        17 => adv7194_signed::sharpness_setting(c),
-        _ => format(field).setting(c),
+        8 => adv7194_codes::clamp_delay_setting(c),
+        12 => adv7194_codes::thousandths_setting(rows::CONTRAST, c),
+        13 => adv7194_codes::thousandths_setting(rows::U_SCALE, c),
+        14 => adv7194_codes::thousandths_setting(rows::V_SCALE, c),
+        15 => adv7194_codes::hue_setting(c),
+        16 => adv7194_codes::brightness_setting(c),
+        17 => adv7194_codes::sharpness_setting(c),
+        _ => field_table::setting(row_of(plain_row(field)), c),
     }
 }
 

@@ -12,42 +12,18 @@
 //
 // What is answered stands after `ok`; a refusal is `REFUSED number field`. A line that is no record is answered `NOT A RECORD`, an empty line and a
 // comment, which begins with #, by an empty line.
-ghost use mathlib.Core.Path.{_≡_};
-ghost use Prim.Native.Nat.{_≤_};
-ghost use lib.ListN.{length};
-
+mod answers;
 mod calls;
 mod chip;
 mod codings;
+mod lines;
 mod print;
-mod records;
 mod tokens;
 
-use libc::STDIN_FILENO;
+use lines::read_line;
 
 // Room for a line and its end.
 const LINE_WIDTH: usize = 1024;
-
-// Reads a line: one more than its characters, of which the lent memory holds so many, or 0 where the input has ended.
-fn read_line(line: &mut [u8]) -> usize
-    ensures { λ r. ⌜ (r ≤ length (now (line .exit))) × (length (now (line .exit)) ≡ length (now (line .entry))) ⌝ }
-{
-    let mut n = 0;
-    while n < line.len() {
-        let mut one = [0u8; 1];
-        let got = io::read_full(STDIN_FILENO, &mut one);
-        if (got == 0) & (n == 0) {
-            return 0;
-        }
-        let b = one[0];
-        if (got == 0) | (b == b'\n') {
-            return n + 1;
-        }
-        line[n] = b;
-        n += 1;
-    }
-    n
-}
 
 // Answers the next line; whether there was one.
 fn answer() -> bool {
@@ -56,7 +32,7 @@ fn answer() -> bool {
     if n == 0 {
         return false;
     }
-    records::answer(&line[0..n - 1]);
+    answers::answer(&line[0..n - 1]);
     true
 }
 

@@ -1,7 +1,9 @@
 // The word, the numbers and the bytes of a record.
 ghost use mathlib.Core.Path.{_≡_};
 ghost use Prim.Native.Nat.{_≤_, _<_};
+ghost use lib.IntN.{pos, negℤ};
 ghost use lib.ListN.{length};
+ghost use Rattle.adv7194_run.specs.Numbers.{signedOf, unsignedOf};
 
 // The most tokens of a record.
 const MOST: usize = 192;
@@ -29,11 +31,6 @@ pub(crate) const BYTE: u64 = 0x200;
 
 // More bytes than an image or a plan may have.
 const NO_BYTES: usize = 65;
-
-// The most settings of a record, and where they begin.
-pub(crate) const MOST_SETTINGS: usize = 64;
-
-const FIRST_SETTING: usize = 2;
 
 // The ends of signed and of unsigned numbers of 32 bits.
 const LOWEST: i32 = -2147483648;
@@ -161,13 +158,22 @@ fn joined(value: u64, b: u8, at: usize, first: usize) -> u64 {
     byte(value, b)
 }
 
+// Whether a character begins a list that has begun before; the first list begins no later than the second.
+fn repeated(b: u8, first: usize, second: usize) -> bool {
+    ((b == b':') & (first < MOST)) | ((b == b';') & (second < MOST))
+}
+
 // The smaller of two.
-fn least(a: usize, b: usize) -> usize {
+fn least(a: usize, b: usize) -> usize
+    ensures answer { λ r. ⌜ r ≤ b ⌝ }
+{
     if a < b { a } else { b }
 }
 
 // The tokens of a text.
-pub(crate) fn split(text: &[u8]) -> Tokens {
+pub(crate) fn split(text: &[u8]) -> Tokens
+    ensures within { λ r. ⌜ (r .numbers ≤ r .count) × (r .middle ≤ r .count) ⌝ }
+{
     let mut held = [0u64; 192];
     let mut count = 1;
     let mut first = MOST;
@@ -177,6 +183,7 @@ pub(crate) fn split(text: &[u8]) -> Tokens {
     let mut i = 0;
     while i < text.len() {
         let b = text[i];
+        good = good & !repeated(b, first, second);
         count = counted(count, b);
         second = marked(second, count, b, b';');
         first = least(marked(first, count, b, b':'), second);
@@ -222,12 +229,15 @@ pub(crate) fn bytes(held: [u64; 192], from: usize, to: usize, out: &mut [u8]) ->
 // The number of this magnitude below zero.
 fn below_zero(magnitude: u32) -> i32
     requires { ⌜ magnitude ≤ 2147483647 ⌝ }
+    ensures answer { λ r. ⌜ r ≡ negℤ (pos magnitude) ⌝ }
 {
     -(magnitude as i32)
 }
 
 // A number as a signed one of 32 bits: the nearest.
-pub(crate) fn signed(number: u64) -> i32 {
+pub(crate) fn signed(number: u64) -> i32
+    ensures answer { λ r. ⌜ r ≡ signedOf number ⌝ }
+{
     let magnitude = number % NEGATIVE;
     if number < NEGATIVE {
         if HIGHEST_MAGNITUDE < magnitude {
@@ -242,21 +252,11 @@ pub(crate) fn signed(number: u64) -> i32 {
 }
 
 // A number as an unsigned one of 32 bits: the largest where it does not fit.
-pub(crate) fn unsigned(number: u64) -> u32 {
+pub(crate) fn unsigned(number: u64) -> u32
+    ensures answer { λ r. ⌜ r ≡ unsignedOf number ⌝ }
+{
     if HIGHEST_UNSIGNED < number {
         return HIGHEST_UNSIGNED as u32;
     }
     number as u32
-}
-
-// The settings of a record of planning: the numbers after the address.
-pub(crate) fn settings(held: [u64; 192]) -> [i32; 64] {
-    let mut settings = [0i32; 64];
-    let mut i = 0;
-    while i < MOST_SETTINGS {
-        let n = signed(held[i + FIRST_SETTING]);
-        settings[i] = n;
-        i += 1;
-    }
-    settings
 }

@@ -1,10 +1,4 @@
-pub mod Numbers
-pub mod Codings
-pub mod ByKind
-pub mod Faults
-pub mod ByteLaws
-pub mod Turns
-pub mod TimingLaws
-pub mod GroupLaws
-pub mod CheckLaws
-pub mod OrderLaws
+pub mod BlockBytes
+pub mod FitLaws
+pub mod EntryLaws
+pub mod DemandLaws

@@ -1,6 +1,8 @@
+pub mod Codes
+pub mod Wanted
+pub mod Demand
+pub mod Held
 pub mod Order
 pub mod Rows
 pub mod House
-pub mod Codes
-pub mod Answers
-pub mod Groups
+pub mod Reading

@@ -1,18 +1,10 @@
-// A whole set of settings of the ADV7194, and its check: the codes of every field, or the first refusal in document 01's order.
-mod checking;
-pub mod codes;
-mod curves;
-mod fault;
-mod gains;
-mod mode;
-mod output;
-mod picture;
-mod refusal;
-pub mod settings;
-mod signal;
-mod timing;
+// Settings as 49 numbers: the house setting, and the conflicts between fields (rows 5, 6 and 7 of the refusals). What settings mean and what an image holds
+// are this crate's definitions; `adv7194_wanted` and `adv7194_reading` have the code.
+mod conflicts;
+mod house_setting;
 
-pub use checking::Checked;
-pub use checking::check;
-pub use fault::is;
-pub use timing::standard_of;
+pub use conflicts::fault;
+pub use conflicts::pedestal_with_pal;
+pub use conflicts::square_with_oversampling;
+pub use house_setting::NUMBERS;
+pub use house_setting::house;

@@ -25,7 +25,8 @@ checkPart-lt payload = reversed-lt (checkOf payload)
 
 -- the number of a CGMS word
 pub cgms-value : (payload : ℕ) (odd even chip : Bool) → payload < 2 ^ 14
-    → lsbValue (cgmsBits payload odd even chip) ≡ payload + checkPart payload * 0x4000 + bitValue chip * 0x100000 + bitValue odd * 0x200000 + bitValue even * 0x400000
+    → lsbValue (cgmsBits payload odd even chip)
+    ≡ payload + checkPart payload * 0x4000 + bitValue chip * 0x100000 + bitValue odd * 0x200000 + bitValue even * 0x400000
 unfolding cgmsBits lsbValue
 cgms-value payload odd even chip h =
     let check = msbFirst 6 (checkOf payload) in
@@ -68,7 +69,8 @@ abbrev pub cgmsNumber : ℤ → ℤ → ℤ → ℤ → ℕ
 cgmsNumber payload odd even chip = lsbValue (cgmsBits (natAbs payload) (yes odd) (yes even) (yes chip))
 
 -- its coding
-pub cgms-coded : (payload odd even chip : ℤ) → inside payload odd even chip ≡ true → cgmsOf payload odd even chip ≡ accepted (wordBytes (cgmsNumber payload odd even chip))
+pub cgms-coded : (payload odd even chip : ℤ) → inside payload odd even chip ≡ true
+    → cgmsOf payload odd even chip ≡ accepted (wordBytes (cgmsNumber payload odd even chip))
 unfolding cgmsOf
 cgms-coded payload odd even chip h = rw h (ap accepted (bytes-of-value (cgmsBits (natAbs payload) (yes odd) (yes even) (yes chip))))
 

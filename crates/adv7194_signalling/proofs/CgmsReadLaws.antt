@@ -75,7 +75,8 @@ coded-again word = lsbValue (cgmsBits (payloadOf word) (eqb (oddOf word) 1) (eqb
 
 -- it is in its range
 again-inside : (word : ℕ) → inside (pos (payloadOf word)) (pos (oddOf word)) (pos (evenOf word)) (pos (chipOf word)) ≡ true
-again-inside word = rw (rest-within word numberTop, rest-within (word / 0x200000) yesTop, rest-within (word / 0x400000) yesTop, rest-within (word / 0x100000) yesTop)
+again-inside word =
+    rw (rest-within word numberTop, rest-within (word / 0x200000) yesTop, rest-within (word / 0x400000) yesTop, rest-within (word / 0x100000) yesTop)
 
 -- a word that is coded again unchanged holds a setting
 pub again-held : (word : ℕ) → coded-again word ≡ word

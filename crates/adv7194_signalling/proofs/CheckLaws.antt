@@ -78,7 +78,8 @@ afterBits-append [] ys r = refl
 afterBits-append (x ∷ xs) ys r = afterBits-append xs ys (afterBit r x)
 
 -- the payload's fourteen are five, five and four
-steps : (payload : ℕ) → checkOf payload ≡ afterBits (afterBits (afterBits sixOnes (lsbFirst 5 payload)) (lsbFirst 5 (payload / 32))) (lsbFirst 4 (payload / 1024))
+steps : (payload : ℕ)
+    → checkOf payload ≡ afterBits (afterBits (afterBits sixOnes (lsbFirst 5 payload)) (lsbFirst 5 (payload / 32))) (lsbFirst 4 (payload / 1024))
 unfolding checkOf
 steps payload = rw (lsb-cat 5 9 payload, lsb-cat 5 4 (payload / 32), afterBits-append, afterBits-append, shr-shr payload 5 5)
 

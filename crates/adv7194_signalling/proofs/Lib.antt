@@ -7,3 +7,6 @@ pub mod CgmsReadLaws
 pub mod WssLaws
 pub mod HeldLaws
 pub mod KindLaws
+pub mod CodeLaws
+pub mod SettingLaws
+pub mod RefusalLaws

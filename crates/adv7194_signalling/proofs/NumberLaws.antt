@@ -1,15 +1,19 @@
 -- Signed settings: what it says of one that it is within 0 to top. Assumes nothing.
 use mathlib.Core.Path.{_≡_, refl, sym, ap, _∙_}
 use mathlib.Core.Bool.{true, false}
+use mathlib.Core.List.{List, [], _∷_}
 use Prim.Native.Nat.{ℕ, suc, _%_, _^_, _≤_, _<_}
 use native.Mathlib.Nat.{mod-lt, zero-lt-suc, le-of-suc-le-suc}
 use native.Mathlib.Omega.{arith}
 use lib.Dec.{T, leb}
 use lib.IntN.{ℤ, pos, negsuc, natAbs}
-use lib.Signed.{ltZ, nonNeg, pos-natAbs}
+use lib.Signed.{ltZ, nonNeg, pos-natAbs, mag}
 use mir.Syntax.{w32}
 use mir.Val.{Fits, SFits}
+use mir.ValLaws.{toZ-ofZ}
 use borrow.Author.Tests.{ltb-true, leb-true, le-leb}
+use Rattle.refusals.specs.Refusal.{Judged, accepted}
+use Rattle.rounding.proofs.Range.{back}
 use Rattle.adv7194_signalling.specs.Numbers.{within}
 
 -- a negative number is outside
@@ -47,3 +51,23 @@ within-only {y = y} {z = z} v w e = sym (pos-natAbs y (v .sign)) ∙ ap pos e �
 -- a remainder is within its divisor
 pub rest-within : (n top : ℕ) → within top (pos (n % suc top)) ≡ true
 rest-within n top = le-leb (n % suc top) top (le-of-suc-le-suc (mod-lt n (zero-lt-suc top)))
+
+-- ---- what a callee says of numbers that were passed to it
+
+pub passed : {A : Type 0} (code : ℤ → A) (z : ℤ) {v : A} → v ≡ code (back w32 z) → mag z < 2 ^ 31 → v ≡ code z
+passed code z e h = e ∙ ap code (toZ-ofZ w32 z (record { sfits = h }))
+
+-- the same of four
+pub passed4 : {A : Type 0} (code : ℤ → ℤ → ℤ → ℤ → A) (a b c d : ℤ) {v : A} → v ≡ code (back w32 a) (back w32 b) (back w32 c) (back w32 d)
+    → mag a < 2 ^ 31 → mag b < 2 ^ 31 → mag c < 2 ^ 31 → mag d < 2 ^ 31 → v ≡ code a b c d
+passed4 code a b c d e ha hb hc hd =
+    passed (λ (x : ℤ). code x b c d) a
+    (passed (λ (x : ℤ). code (back w32 a) x c d) b
+    (passed (λ (x : ℤ). code (back w32 a) (back w32 b) x d) c (passed (λ (x : ℤ). code (back w32 a) (back w32 b) (back w32 c) x) d e hd) hc)
+    hb)
+    ha
+
+-- and of four that are kept
+pub four-back : (a b c d : ℤ) → mag a < 2 ^ 31 → mag b < 2 ^ 31 → mag c < 2 ^ 31 → mag d < 2 ^ 31
+    → _≡_ {A = Judged (List ℤ)} (accepted (pos 1 ∷ back w32 a ∷ back w32 b ∷ back w32 c ∷ back w32 d ∷ [])) (accepted (pos 1 ∷ a ∷ b ∷ c ∷ d ∷ []))
+four-back a b c d = passed4 (λ (x y z u : ℤ). accepted (pos 1 ∷ x ∷ y ∷ z ∷ u ∷ [])) a b c d refl

@@ -24,7 +24,8 @@ pub value-append : (xs ys : List Bool) → lsbValue (xs ++ ys) ≡ lsbValue xs +
 unfolding lsbValue
 value-append [] ys = omega arith
 value-append (x ∷ xs) ys =
-    let q : 2 ^ suc (length xs) * lsbValue ys ≡ 2 * (2 ^ length xs * lsbValue ys) = ap (λ (n : ℕ). n * lsbValue ys) (pow-succ' 2 (length xs)) ∙ mul-assoc 2 (2 ^ length xs) (lsbValue ys) in
+    let q : 2 ^ suc (length xs) * lsbValue ys ≡ 2 * (2 ^ length xs * lsbValue ys) =
+    ap (λ (n : ℕ). n * lsbValue ys) (pow-succ' 2 (length xs)) ∙ mul-assoc 2 (2 ^ length xs) (lsbValue ys) in
     omega (arith, value-append xs ys)
 
 -- of its first bits

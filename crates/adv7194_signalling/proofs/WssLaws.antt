@@ -53,7 +53,8 @@ pub is-coded : (z : ℤ) (bytes : List ℕ) → wssOf z ≡ accepted bytes → C
 unfolding wssOf
 is-coded z bytes h = go (flag (within numberTop z)) (flag (oddOnes (lsbFirst 4 (natAbs z))))
   where
-    go : (within numberTop z ≡ true) ⊎ (within numberTop z ≡ false) → (oddOnes (lsbFirst 4 (natAbs z)) ≡ true) ⊎ (oddOnes (lsbFirst 4 (natAbs z)) ≡ false) → Coded z bytes
+    go : (within numberTop z ≡ true) ⊎ (within numberTop z ≡ false)
+        → (oddOnes (lsbFirst 4 (natAbs z)) ≡ true) ⊎ (oddOnes (lsbFirst 4 (natAbs z)) ≡ false) → Coded z bytes
     go (inl t) (inl o) = let c = wss-coded z t o in record { in-range = is-within numberTop z t; odd = o; bytes-are = cc }
     go (inl t) (inr e) =
         let c : wssOf z ≡ refused 4 = rw (t, e) in

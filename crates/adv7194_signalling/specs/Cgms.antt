@@ -4,12 +4,14 @@
 use mathlib.Core.Bool.{Bool, false, cond, _&&_}
 use mathlib.Core.List.{List, [], _∷_, _++_}
 use Prim.Native.Nat.{ℕ}
-use lib.IntN.{ℤ, natAbs}
+use lib.IntN.{ℤ, pos, natAbs}
+use lib.ListN.{getD}
+use Rattle.bits.specs.Fields.{bit}
 use Rattle.bits.specs.Strings.{lsbFirst, msbFirst}
 use Rattle.refusals.specs.Refusal.{Judged, accepted, refused, numberOf}
 use Rattle.adv7194_signalling.specs.Numbers.{within, yes, numberTop, yesTop}
 use Rattle.adv7194_signalling.specs.Word.{registerBytes}
-use Rattle.adv7194_signalling.specs.Held.{Held}
+use Rattle.adv7194_signalling.specs.Held.{Held, heldBy, numberIn}
 use Rattle.adv7194_signalling.specs.declared.cgms.CgmsSetting.{CgmsSetting}
 use Rattle.adv7194_signalling.specs.declared.cgms.CgmsRead.{CgmsRead}
 use Rattle.adv7194_signalling.specs.declared.cgms.CgmsRead.the-variants as read
@@ -35,6 +37,20 @@ abbrev pub cgmsReadAs : CgmsRead → Judged CgmsSetting
 cgmsReadAs (read.Setting s) = accepted s
 cgmsReadAs (read.Refused why) = refused (numberOf why)
 
+-- the setting in the bits of three bytes: bits 5 and 6 of 19 send it in odd and even fields, bit 4 is the chip check
+abbrev pub cgmsIn : List ℕ → CgmsSetting
+cgmsIn bytes =
+    record {
+      payload = pos (numberIn bytes);
+      odd = pos (bit 5 (getD bytes 0 0));
+      even = pos (bit 6 (getD bytes 0 0));
+      «chip_check» = pos (bit 4 (getD bytes 0 0));
+    }
+
 -- the setting that three bytes hold. Refused 8 where they are no setting's: the check bits do not agree with the payload
+unfoldable pub cgmsHeld : List ℕ → Judged CgmsSetting
+cgmsHeld bytes = heldBy cgmsCode (cgmsIn bytes) 8 bytes
+
+-- so an answer is the only setting that is coded so
 abbrev pub CgmsHeld : List ℕ → Judged CgmsSetting → Type 0
 CgmsHeld bytes answer = Held cgmsCode 8 bytes answer

@@ -2,15 +2,10 @@
 -- bit 7 sends WSS; both at once are refused 7; bit 4 with bits 5-7 clear is refused 4; off is bits 7-4 zero.
 use mathlib.Core.Bool.{Bool, true, false, _||_}
 use Prim.Native.Nat.{ℕ}
-use Rattle.bits.specs.Fields.{withField}
 use Rattle.bits.specs.Maps.{has}
 use Rattle.refusals.specs.Refusal.{Judged, accepted, refused, numberOf}
 use Rattle.adv7194_signalling.specs.declared.kind.SignallingKind.{SignallingKind}
 use Rattle.adv7194_signalling.specs.declared.kind.SignallingKind.the-variants as kind
-
--- off: bits 7-4 of 19 zero, the remainder as found
-abbrev pub offOf : ℕ → ℕ
-offOf r19 = withField 4 4 r19 0
 
 -- the kinds of signalling
 pub data Signalling : Type 0 where

@@ -5,3 +5,5 @@ pub mod Check
 pub mod Cgms
 pub mod Wss
 pub mod Kind
+pub mod Signalling
+pub mod Answers

@@ -3,12 +3,12 @@
 use mathlib.Core.Bool.{Bool, true, false, cond, xor}
 use mathlib.Core.List.{List, [], _∷_, _++_}
 use Prim.Native.Nat.{ℕ}
-use lib.IntN.{ℤ, natAbs}
+use lib.IntN.{ℤ, pos, natAbs}
 use lib.ListN.{replicate}
 use Rattle.bits.specs.Strings.{lsbFirst}
 use Rattle.refusals.specs.Refusal.{Judged, accepted, refused, numberOf}
 use Rattle.adv7194_signalling.specs.Numbers.{within, numberTop}
-use Rattle.adv7194_signalling.specs.Held.{Held}
+use Rattle.adv7194_signalling.specs.Held.{Held, heldBy, numberIn}
 use Rattle.adv7194_signalling.specs.declared.wss.WssRead.{WssRead}
 use Rattle.adv7194_signalling.specs.declared.wss.WssRead.the-variants as read
 use Rattle.adv7194_signalling.specs.Word.{registerBytes}
@@ -35,5 +35,9 @@ wssReadAs (read.Setting z) = accepted z
 wssReadAs (read.Refused why) = refused (numberOf why)
 
 -- the number that three bytes hold. Refused 4 where they are no number's: a zero bit is set, bit 7 of 19 is not, or the count of ones is even
+unfoldable pub wssHeld : List ℕ → Judged ℤ
+wssHeld bytes = heldBy wssOf (pos (numberIn bytes)) 4 bytes
+
+-- so an answer is the only number that is coded so
 abbrev pub WssHeld : List ℕ → Judged ℤ → Type 0
 WssHeld bytes answer = Held wssOf 4 bytes answer

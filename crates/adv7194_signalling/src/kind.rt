@@ -1,6 +1,6 @@
-// The kind of signalling in register 19, and the coding of off.
+// The kind of signalling in register 19.
 ghost use mathlib.Core.Path.{_≡_};
-ghost use Rattle.adv7194_signalling.specs.Kind.{offOf, kindOf, kindAs};
+ghost use Rattle.adv7194_signalling.specs.Kind.{kindOf, kindAs};
 use refusals::Refusal;
 
 // The kind of signalling that register 19 holds, or its refusal.
@@ -9,13 +9,6 @@ pub enum SignallingKind {
     Cgms,
     Wss,
     Refused(Refusal),
-}
-
-// Register 19 with signalling off: bits 7-4 zero, the remainder as found.
-pub fn off_code(r19: u8) -> u8
-    ensures answer { λ r. ⌜ r ≡ offOf r19 ⌝ }
-{
-    r19 % 16
 }
 
 // The kind that register 19 holds: bit 7 sends WSS, bits 6 and 5 send CGMS, bit 4 belongs to CGMS.

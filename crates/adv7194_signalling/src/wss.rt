@@ -2,7 +2,7 @@
 ghost use mathlib.Core.Path.{_≡_};
 ghost use Rattle.bits.specs.Strings.{lsbFirst};
 ghost use Rattle.adv7194_signalling.specs.Word.{threeBytes, codedAs};
-ghost use Rattle.adv7194_signalling.specs.Wss.{oddOnes, wssOf, WssHeld, wssReadAs};
+ghost use Rattle.adv7194_signalling.specs.Wss.{oddOnes, wssOf, wssHeld, WssHeld, wssReadAs};
 use crate::numbers::NUMBER_TOP;
 use crate::numbers::within;
 use crate::registers::Coded;
@@ -46,7 +46,8 @@ pub fn wss_code(number: i32) -> Coded
 
 // The WSS number that the registers hold, or refusal 4.
 pub fn wss_setting(registers: Registers) -> WssRead
-    ensures answer { λ r. ⌜ WssHeld (threeBytes registers) (wssReadAs r) ⌝ }
+    ensures answer { λ r. ⌜ wssReadAs r ≡ wssHeld (threeBytes registers) ⌝ }
+    ensures only { λ r. ⌜ WssHeld (threeBytes registers) (wssReadAs r) ⌝ }
 {
     let word = joined(registers);
     let number = word % PAST_NUMBER;

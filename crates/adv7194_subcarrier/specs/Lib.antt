@@ -1,1 +1,2 @@
 pub mod Subcarrier
+pub mod Answers

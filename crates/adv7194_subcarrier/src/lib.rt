@@ -4,6 +4,8 @@ ghost use Prim.Native.Nat.{_*_, _^_};
 ghost use Rattle.rounding.specs.Nearest.{Nearest};
 ghost use Rattle.adv7194_subcarrier.specs.Subcarrier.{cyclesOf, divisorOf, clocksOf, wordOf};
 
+pub mod field;
+
 // The television standard.
 pub enum Standard {
     Ntsc,

@@ -1,7 +1,7 @@
 -- The table's rules, each computed over all of it, and the round trip of its fields of one number. Assumes nothing.
 use mathlib.Core.Path.{_≡_, refl, sym, subst}
 use mathlib.Core.List.{List, [], _∷_}
-use Prim.Native.Nat.{ℕ, zero, suc}
+use Prim.Native.Nat.{ℕ}
 use lib.Dec.{T}
 use lib.IntN.{ℤ}
 use lib.ListN.{length}
@@ -12,13 +12,8 @@ use Rattle.field_table.proofs.RoundTripLaws.{means-itself}
 use Rattle.adv7194_bus.specs.Kind.{registerCount}
 use Rattle.adv7194_table.specs.Fields.{numberCount, timing, output, picture, dnr}
 use Rattle.adv7194_table.specs.Table.{singles, singleFields, table, orderOf, numberField}
-use Rattle.adv7194_table.specs.Masks.{maskWhere, fieldMask, zeroMask, ownMask}
+use Rattle.adv7194_table.specs.Masks.{maskWhere, each, ownMask}
 use Rattle.adv7194_table.specs.RawCodes.{ownBits, rawFrom, rawCode}
-
--- what a definition gives for each of n numbers from k on
-abbrev each : (ℕ → ℕ) → ℕ → ℕ → List ℕ
-each f k zero = []
-each f k (suc n) = f k ∷ each f (suc k) n
 
 -- the checking order is 1 to 28
 pub order-is : orderOf table ≡ each (λ k. k) 1 28
@@ -46,22 +41,6 @@ fields-apart = tt
 pub fields-own : T (ownNumbers numberCount (singleFields table))
 unfolding someAt ownNumbers singleFields table singles timing output picture dnr
 fields-own = tt
-
--- the bits of every register that belong to a field
-pub field-masks : each fieldMask 0 registerCount
-    ≡ 0x03 ∷ 0x40 ∷ 0x18 ∷ 0x00 ∷ 0x00 ∷ 0xFF ∷ 0x00 ∷ 0x00 ∷ 0x00 ∷ 0x00 ∷ 0x00 ∷ 0x00 ∷ 0xFF ∷ 0xFF ∷ 0xFF ∷ 0xFF ∷ 0xFF ∷ 0x00
-    ∷ 0x00 ∷ 0x00 ∷ 0x00 ∷ 0x00 ∷ 0x00 ∷ 0x00 ∷ 0x00 ∷ 0xFF ∷ 0xFF ∷ 0xFF ∷ 0x00 ∷ 0xFF ∷ 0xFF ∷ 0xFF ∷ 0xFF ∷ 0x7F ∷ 0x0F ∷ 0xFF
-    ∷ 0xFF ∷ 0xFF ∷ 0xFF ∷ 0xFF ∷ 0xFF ∷ 0xFF ∷ 0xFF ∷ 0xFF ∷ 0xFF ∷ 0xFF ∷ 0xFF ∷ 0xFF ∷ 0xFF ∷ 0xFF ∷ 0xFF ∷ 0xFF ∷ 0x00 ∷ 0x00 ∷ []
-unfolding fieldMask maskWhere table singles timing output picture dnr
-field-masks = refl
-
--- the must-be-zero bits
-pub zero-masks : each zeroMask 0 registerCount
-    ≡ 0x00 ∷ 0x00 ∷ 0x00 ∷ 0x00 ∷ 0x00 ∷ 0x00 ∷ 0x00 ∷ 0x00 ∷ 0x00 ∷ 0x00 ∷ 0x00 ∷ 0x00 ∷ 0x00 ∷ 0x00 ∷ 0x00 ∷ 0x00 ∷ 0x00 ∷ 0x00
-    ∷ 0x00 ∷ 0x00 ∷ 0x00 ∷ 0x00 ∷ 0x00 ∷ 0x00 ∷ 0x00 ∷ 0x00 ∷ 0x00 ∷ 0x00 ∷ 0x00 ∷ 0x00 ∷ 0x00 ∷ 0x00 ∷ 0x00 ∷ 0x80 ∷ 0xF0 ∷ 0x00
-    ∷ 0x00 ∷ 0x00 ∷ 0x00 ∷ 0x00 ∷ 0x00 ∷ 0x00 ∷ 0x00 ∷ 0x00 ∷ 0x00 ∷ 0x00 ∷ 0x00 ∷ 0x00 ∷ 0x00 ∷ 0x00 ∷ 0x00 ∷ 0x00 ∷ 0x00 ∷ 0x00 ∷ []
-unfolding zeroMask maskWhere table singles timing output picture dnr
-zero-masks = refl
 
 -- the raw codes of an image whose bits are all set are the fields' own bits: clamp delay, signalling, brightness and the word
 abbrev all-set : List ℕ

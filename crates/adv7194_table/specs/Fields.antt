@@ -68,15 +68,33 @@ brightness = row 16 19 0x21 0 7 (negℤ (pos 75)) (pos 150) 3 (truncated 2015631
 abbrev pub sharpness : Field
 sharpness = row 17 20 0x22 0 4 (negℤ (pos 6)) (pos 6) 3 (offset 6)
 
--- ---- the groups, in field order
+-- ---- the fields that others depend on
 
--- 1 standard (0 NTSC, 1 PAL), 2 square pixel, 3 4x oversampling
-unfoldable pub timing : List Field
-timing = code 1 0 0x00 0 2 0 1 ∷ yesNo 2 1 0x02 4 ∷ yesNo 3 2 0x01 6 ∷ []
+-- 1, standard: 0 NTSC, 1 PAL
+abbrev pub standard : Field
+standard = code 1 0 0x00 0 2 0 1
+
+-- 2, square pixel
+abbrev pub squarePixel : Field
+squarePixel = yesNo 2 1 0x02 4
+
+-- 3, 4x oversampling
+abbrev pub oversampling : Field
+oversampling = yesNo 3 2 0x01 6
 
 -- 4
 abbrev pub pedestal : Field
 pedestal = yesNo 4 3 0x02 3
+
+-- 23, DNR input
+abbrev pub dnrInput : Field
+dnrInput = code 23 26 0x25 0 3 1 4
+
+-- ---- the groups, in field order
+
+-- 1 to 3
+unfoldable pub timing : List Field
+timing = standard ∷ squarePixel ∷ oversampling ∷ []
 
 -- 5 Y level, 6 UV level, 7 RGB sync, 8 clamp delay, 9 clamp in back porch, 10 subcarrier phase
 unfoldable pub output : List Field
@@ -94,7 +112,7 @@ dnr =
     ∷ code 20 23 0x24 0 6 0 63
     ∷ yesNo 21 24 0x24 6
     ∷ yesNo 22 25 0x24 7
-    ∷ code 23 26 0x25 0 3 1 4
+    ∷ dnrInput
     ∷ yesNo 24 27 0x25 3
     ∷ code 25 28 0x25 4 4 0 15
     ∷ []

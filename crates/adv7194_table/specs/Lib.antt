@@ -1,4 +1,5 @@
 pub mod Fields
+pub mod Blocks
 pub mod Table
 pub mod Masks
 pub mod RawCodes

@@ -1,9 +1,11 @@
 -- Document 01, fields table: the bits of each register that belong to a field, and "Must-be-zero bits: bit 7 of 21, bits 7-4 of 22".
 use mathlib.Core.Bool.{Bool, not, cond, _&&_}
 use mathlib.Core.List.{List, [], _∷_}
-use Prim.Native.Nat.{ℕ, _+_, _-_, _*_, _^_}
+use Prim.Native.Nat.{ℕ, zero, suc, _+_, _-_, _*_, _^_}
 use lib.Dec.{eqb, leb, ltb}
-use Rattle.adv7194_table.specs.Table.{Block, Entry, single, whole, table, fieldOf, mustBeZero}
+use Rattle.adv7194_bus.specs.Kind.{registerCount}
+use Rattle.adv7194_table.specs.declared.blocks.Block.{Block}
+use Rattle.adv7194_table.specs.Table.{Entry, single, whole, table, fieldOf, mustBeZero}
 
 -- register r is one of a block's
 abbrev pub inBlock : Block → ℕ → Bool
@@ -12,7 +14,7 @@ inBlock b r = leb (b .register) r && ltb r (b .register + b .registers)
 -- the bits of register r that an entry has
 abbrev pub bitsOf : Entry → ℕ → ℕ
 bitsOf (single f) r = cond (eqb (f .row .register) r) ((2 ^ f .row .width - 1) * 2 ^ f .row .bit) 0
-bitsOf (whole b) r = cond (inBlock b r) 0xFF 0
+bitsOf (whole c b) r = cond (inBlock b r) 0xFF 0
 
 -- the bits of register r that the entries that pass a test have: no two entries have the same bit
 unfoldable pub maskWhere : (Entry → Bool) → List Entry → ℕ → ℕ
@@ -30,3 +32,16 @@ zeroMask r = maskWhere mustBeZero table r
 -- the bits of register r that count to field n, must-be-zero bits too
 unfoldable pub ownMask : ℕ → ℕ → ℕ
 ownMask n r = maskWhere (λ e. eqb (fieldOf e) n) table r
+
+-- what a definition gives for each of n numbers from k on
+abbrev pub each : (ℕ → ℕ) → ℕ → ℕ → List ℕ
+each f k zero = []
+each f k (suc n) = f k ∷ each f (suc k) n
+
+-- the bits of every register that belong to a field
+unfoldable pub fieldMasks : List ℕ
+fieldMasks = each fieldMask 0 registerCount
+
+-- the must-be-zero bits of every register
+unfoldable pub zeroMasks : List ℕ
+zeroMasks = each zeroMask 0 registerCount

@@ -12,7 +12,7 @@ use Rattle.adv7194_table.specs.Masks.{inBlock, ownMask}
 -- what an image has in an entry's bits of register r, every other bit zero
 abbrev pub bitsIn : List ℕ → Entry → ℕ → ℕ
 bitsIn image (single f) r = cond (eqb (f .row .register) r) (held image (f .row) * 2 ^ f .row .bit) 0
-bitsIn image (whole b) r = cond (inBlock b r) (getD image r 0) 0
+bitsIn image (whole c b) r = cond (inBlock b r) (getD image r 0) 0
 
 -- what it has in field n's bits of register r
 unfoldable pub ownBits : List ℕ → ℕ → List Entry → ℕ → ℕ

@@ -6,38 +6,20 @@ use lib.Dec.{eqb, leb, ltb}
 use Rattle.field_table.specs.declared.row.Row.{Row}
 use Rattle.field_table.specs.Rows.{rowOf}
 use Rattle.field_table.specs.Coding.{Field}
+use Rattle.adv7194_table.specs.declared.blocks.Block.{Block}
+use Rattle.adv7194_table.specs.Blocks.{signalling, curveA, curveB, word}
 use Rattle.adv7194_table.specs.Fields.{numberCount, timing, pedestal, output, picture, dnr}
 
--- a field that fills whole registers and has a coding of its own: its number, the first of its settings' numbers and how many, its first register and how many
-pub record Block : Type 0 where
-  pub field : ℕ
-  pub index : ℕ
-  pub numbers : ℕ
-  pub register : ℕ
-  pub registers : ℕ
-
-abbrev block : ℕ → ℕ → ℕ → ℕ → ℕ → Block
-block n k count r size = record { field = n; index = k; numbers = count; register = r; registers = size }
-
--- 11, signalling: kind, payload or WSS number, odd field, even field, chip check
-abbrev pub signalling : Block
-signalling = block 11 10 5 0x19 3
-
--- 26 and 27, the gamma curves: kind, the ratio's two numbers, seven bytes
-abbrev pub curveA : Block
-curveA = block 26 29 10 0x26 7
-
-abbrev pub curveB : Block
-curveB = block 27 39 10 0x2D 7
-
--- 28, the subcarrier word, lowest byte first: worked out, not set
-abbrev pub word : Block
-word = block 28 49 0 0x0C 4
+-- what a block holds: signalling, a gamma curve or the subcarrier word
+pub data Content : Type 0 where
+  signals : Content
+  curve : Content
+  subcarrier : Content
 
 -- a row of the table: a field of one number or must-be-zero bits, or a block
 pub data Entry : Type 0 where
   single : Field → Entry
-  whole : Block → Entry
+  whole : Content → Block → Entry
 
 -- some single ones, before others
 unfoldable pub singles : List Field → List Entry → List Entry
@@ -48,17 +30,18 @@ singles (f ∷ fs) es = single f ∷ singles fs es
 unfoldable pub table : List Entry
 table =
     singles timing
-    (single pedestal ∷ singles output (whole signalling ∷ singles picture (singles dnr (whole curveA ∷ whole curveB ∷ whole word ∷ []))))
+    (single pedestal ∷ singles output
+    (whole signals signalling ∷ singles picture (singles dnr (whole curve curveA ∷ whole curve curveB ∷ whole subcarrier word ∷ []))))
 
 -- the number of an entry's field
 abbrev pub fieldOf : Entry → ℕ
 fieldOf (single f) = f .row .field
-fieldOf (whole b) = b .field
+fieldOf (whole c b) = b .field
 
 -- an entry is must-be-zero bits: its number isn't one of the settings'
 abbrev pub mustBeZero : Entry → Bool
 mustBeZero (single f) = leb numberCount (f .row .index)
-mustBeZero (whole b) = false
+mustBeZero (whole c b) = false
 
 -- the checking order: each field once, with its must-be-zero bits
 unfoldable pub orderOf : List Entry → List ℕ
@@ -68,7 +51,7 @@ orderOf (e ∷ es) = cond (mustBeZero e) (orderOf es) (fieldOf e ∷ orderOf es)
 -- number k of the settings is an entry's
 abbrev pub hasNumber : ℕ → Entry → Bool
 hasNumber k (single f) = eqb (f .row .index) k
-hasNumber k (whole b) = leb (b .index) k && ltb k (b .index + b .numbers)
+hasNumber k (whole c b) = leb (b .index) k && ltb k (b .index + b .numbers)
 
 -- the field of number k, 0 where it has none
 unfoldable pub numberField : ℕ → List Entry → ℕ
@@ -79,9 +62,15 @@ numberField k (e ∷ es) = cond (hasNumber k e) (fieldOf e) (numberField k es)
 unfoldable pub singleFields : List Entry → List Field
 singleFields [] = []
 singleFields (single f ∷ es) = f ∷ singleFields es
-singleFields (whole b ∷ es) = singleFields es
+singleFields (whole c b ∷ es) = singleFields es
 
--- their rows
+-- the blocks
+unfoldable pub blocksIn : List Entry → List Block
+blocksIn [] = []
+blocksIn (single f ∷ es) = blocksIn es
+blocksIn (whole c b ∷ es) = b ∷ blocksIn es
+
+-- the rows of the fields of one number
 unfoldable pub rowsIn : List Field → List Row
 rowsIn [] = []
 rowsIn (f ∷ fs) = f .row ∷ rowsIn fs

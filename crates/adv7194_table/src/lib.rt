@@ -1,2 +1,8 @@
-// The ADV7194's table of fields as data: a packed row for each field of one number and for must-be-zero bits.
+// The ADV7194's table of fields as data: a packed row for each field of one number and for must-be-zero bits, a packed block for each field that fills whole
+// registers, and the masks of every register.
+pub mod blocks;
+mod masks;
 pub mod rows;
+
+pub use masks::field_masks;
+pub use masks::must_be_zero;

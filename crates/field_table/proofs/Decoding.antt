@@ -2,7 +2,7 @@
 use mathlib.Core.Path.{_≡_, refl, sym, ap, _∙_, subst}
 use mathlib.Core.Bool.{Bool, true, false, _||_, cond}
 use mathlib.Core.Logic.{_⊎_, inl, inr, ⊎-elim}
-use Prim.Native.Nat.{ℕ, zero, suc, _^_, _≤_, _<_, max}
+use Prim.Native.Nat.{ℕ, zero, suc, _+_, _^_, _≤_, _<_, max}
 use native.Mathlib.Nat.{le-max-left, le-max-right, le-trans}
 use native.Mathlib.Omega.{arith}
 use lib.Dec.{T, eqb, ltb, eqb→eq}
@@ -10,7 +10,7 @@ use lib.IntN.{ℤ, pos, negsuc, negℤ, natAbs}
 use lib.Signed.{ltZ}
 use borrow.Author.Tests.{ltb-false, eqb-true, eq-eqb}
 use Rattle.refusals.specs.Refusal.{accepted, refused}
-use Rattle.rounding.proofs.First.{first-is, flag}
+use Rattle.rounding.proofs.First.{first-is, first-found, flag}
 use Rattle.rounding.proofs.Range.{both-l, both-r}
 use Rattle.field_table.specs.Rows.{refusalOutside}
 use Rattle.field_table.specs.Coding.{Field, outside, codeOf, encode, has, hasAt, settingAt, span, leastMagnitude, decode}
@@ -140,6 +140,37 @@ read-has f c s e = by (hasAt f c (leastMagnitude f c)) refl e
 
 pub decode-coded : (f : Field) (c : ℕ) (s : ℤ) → decode f c ≡ accepted s → encode f s ≡ accepted c
 decode-coded f c s e = let h = read-has f c s e in sym (inside-coded f s c (has-inside f c s h) (sym (has-code f c s h)))
+
+-- ---- what is coded is read
+
+-- the search stops where some setting has the code
+has-found : (f : Field) (c : ℕ) (z : ℤ) → has f c z ≡ true → hasAt f c (leastMagnitude f c) ≡ true
+has-found f c z h =
+    let search = first-found (hasAt f c) (suc (span (f .row))) in
+    let small = within-span (f .row .low) (f .row .high) z (has-inside f c z h) in
+    ⊎-elim
+    (λ (e : leastMagnitude f c ≡ 0 + suc (span (f .row))).
+    let none : hasAt f c (natAbs z) ≡ false = search .least (natAbs z) (omega arith) (omega arith) in
+    absurd (subst T (sym (at f c z h) ∙ none) tt))
+    (λ (e : hasAt f c (leastMagnitude f c) ≡ true). e)
+    (search .passes)
+
+-- a code in a coding is its setting's
+coded-has : (f : Field) (c : ℕ) (z : ℤ) → encode f z ≡ accepted c → has f c z ≡ true
+unfolding encode
+coded-has f c z e = by (outside (f .row) z) _ refl e
+  where
+    by : (b : Bool) (n : ℕ) → outside (f .row) z ≡ b → cond b (refused n) (accepted (codeOf f z)) ≡ accepted c → has f c z ≡ true
+    by true n o p = let x : _≡_ {A = ℕ} 0 1 = cc in absurd (omega arith)
+    by false n o p = let q : codeOf f z ≡ c = cc in code-has f c z o q
+
+-- so the code of a setting is read, as that or another setting
+pub coded-read : (f : Field) (c : ℕ) (z : ℤ) → encode f z ≡ accepted c → (s : ℤ) × (decode f c ≡ accepted s)
+unfolding decode
+coded-read f c z e =
+    (settingAt f c (leastMagnitude f c), rw (has-found f c z (coded-has f c z e)))
+
+-- ---- must-be-zero bits
 
 -- 0 is the only setting of a row that has no other
 no-sign : (z : ℤ) → T (eqb (natAbs z) 0) → z ≡ pos 0

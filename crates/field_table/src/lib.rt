@@ -8,12 +8,14 @@ mod walking;
 
 pub use places::given;
 pub use places::held;
+pub use places::store;
 pub use plain::code;
 pub use plain::setting;
 use refusals::Refusal;
 pub use row::out_of_range;
 pub use rows::read_decoded;
 pub use rows::read_row;
+pub use rows::then;
 pub use rows::want_coded;
 pub use rows::want_row;
 pub use walking::check;

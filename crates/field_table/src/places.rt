@@ -18,7 +18,7 @@ pub fn given(numbers: &[i32], row: Row) -> i32
 }
 
 // A number stored at a row's index; past the numbers there is none.
-pub(crate) fn store(numbers: &mut [i32], row: Row, number: i32)
+pub fn store(numbers: &mut [i32], row: Row, number: i32)
     ensures memory { λ r. ⌜ now (numbers .exit) ≡ set (now (numbers .entry)) (row .index) number ⌝ }
 {
     let at = row.index;

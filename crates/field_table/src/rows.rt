@@ -23,7 +23,7 @@ use crate::row::Decoded;
 use crate::row::row_of;
 
 // A verdict, and after it another, which counts only where the first is good.
-fn then(before: Checked, next: Checked) -> Checked
+pub fn then(before: Checked, next: Checked) -> Checked
     ensures answer { λ r. ⌜ checkedAs r ≡ after (checkedAs before) (checkedAs next) ⌝ }
 {
     match before {

@@ -20,10 +20,11 @@ use Rattle.plan_listing.specs.PlanText.{transactionLines, planText}
 use Rattle.planning.specs.Plan.{Counts, countsOf}
 use Rattle.adv7194_bus.specs.Kind.{registerCount}
 use Rattle.adv7194_settings.specs.House.{house}
+use Rattle.adv7194_settings.specs.Wanted.{wantedBy}
 use Rattle.adv7194_least.proofs.PlayedPlan.{plan-unpacks}
-use Rattle.adv7194_planning.specs.Rows.{wantedBy, listOf}
+use Rattle.adv7194_planning.specs.Rows.{listOf}
 use Rattle.adv7194_planning.specs.Planning.{planningOf, leftBy, planLeft}
-use Rattle.adv7194_planning.specs.Judges.{Judges, image-fault, address-fault, settings-fault, room-fault, no-fault}
+use Rattle.adv7194_planning.specs.Judges.{Judges, image-fault, address-fault, count-fault, settings-fault, room-fault, no-fault}
 use Rattle.adv7194_planning.proofs.ExactLaws.{exactly}
 use Rattle.adv7194_planning.proofs.Clauses.{change}
 use Rattle.house_listing.specs.HouseText.{boardAddress, firstLine, packedBytes, linesBelow, textBelow, answerText, houseTextIn}
@@ -34,9 +35,10 @@ module _ (image plan : List ℕ) where
       → (length image ≡ registerCount) × (countsOf (listOf image house) ≡ n)
   sized _ (image-fault h) n e = let z : _≡_ {A = ℕ} 0 1 = cc in absurd (omega arith)
   sized _ (address-fault h a) n e = let z : _≡_ {A = ℕ} 0 1 = cc in absurd (omega arith)
-  sized _ (settings-fault h a w) n e = let z : _≡_ {A = ℕ} 0 1 = cc in absurd (omega arith)
-  sized _ (room-fault h a w k) n e = let z : _≡_ {A = ℕ} 0 1 = cc in absurd (omega arith)
-  sized _ (no-fault h a w k) n e = (h, cc)
+  sized _ (count-fault h a c) n e = let z : _≡_ {A = ℕ} 0 1 = cc in absurd (omega arith)
+  sized _ (settings-fault h a c w) n e = let z : _≡_ {A = ℕ} 0 1 = cc in absurd (omega arith)
+  sized _ (room-fault h a c w k) n e = let z : _≡_ {A = ℕ} 0 1 = cc in absurd (omega arith)
+  sized _ (no-fault h a c w k) n e = (h, cc)
 
   module _ (bytes : (r : ℕ) → getD image r 0 < 2 ^ 8) (after : List ℕ) (memory : after ≡ planLeft image house boardAddress plan) where
     module _ (n : Counts) (answer : good n ≡ planningOf image house boardAddress (length plan)) where

@@ -1,13 +1,12 @@
 -- What the text of the house setting is: an image that isn't 54 bytes is refused, any other is planned; and the text is short. Assumes nothing.
 use mathlib.Core.Path.{_≡_, refl, ap}
-use mathlib.Core.Bool.{Bool, true, false, xor}
+use mathlib.Core.Bool.{Bool, true, false}
 use mathlib.Core.List.{List}
 use Prim.Native.Nat.{ℕ, _≤_, _^_, _<_}
 use native.Mathlib.Omega.{arith}
 use lib.Dec.{eqb}
 use lib.ListN.{length, getD}
 use borrow.Author.Tests.{eqb-true, eqb-false}
-use Rattle.bits.specs.Strings.{lsbFirst}
 use Rattle.refusals.specs.Verdict.{good}
 use Rattle.refusals.specs.Order.{firstOf, placesAt}
 use Rattle.bus.specs.Transactions.{busBytes}
@@ -19,18 +18,19 @@ use Rattle.listing.specs.Lines.{countsLine, refusedLine}
 use Rattle.plan_listing.specs.PlanText.{planText}
 use Rattle.plan_listing.proofs.TextLaws.{first-length, text-length}
 use Rattle.adv7194_bus.specs.Kind.{registerCount}
-use Rattle.adv7194_fields.specs.Coding.{encode}
-use Rattle.adv7194_fields.specs.Fields.{fields}
-use Rattle.adv7194_gamma.specs.Curve.{curveOf}
-use Rattle.adv7194_signalling.specs.Cgms.{cgmsOf}
-use Rattle.adv7194_signalling.specs.Wss.{wssOf, oddOnes}
+use Rattle.field_table.specs.Coding.{encode}
+use Rattle.field_table.specs.Blocks.{numbersFrom}
+use Rattle.adv7194_table.specs.Fields.{numberCount, timing, output, picture, dnr}
+use Rattle.adv7194_table.specs.Table.{singles, table, orderOf}
+use Rattle.adv7194_gamma.specs.Curve.{curveOf, curveCodes}
+use Rattle.adv7194_signalling.specs.Signalling.{signallingCodes}
 use Rattle.adv7194_settings.specs.Order.{placesOf, order}
-use Rattle.adv7194_settings.specs.Rows.{together, signallingOf, gammaOf, bytesSet, numberCodings, codings, codingIn, codingAt, rowHolds}
+use Rattle.adv7194_settings.specs.Rows.{someOf, rowHolds, checkOf}
 use Rattle.adv7194_settings.specs.House.{house}
-use Rattle.adv7194_settings.specs.Codes.{codesOf, checkOf}
+use Rattle.adv7194_settings.specs.Wanted.{wantedBy}
 use Rattle.adv7194_least.specs.Demands.{mostBytes}
 use Rattle.adv7194_least.proofs.Room.{plan-bits, plan-room}
-use Rattle.adv7194_planning.specs.Rows.{wantedBy, listOf}
+use Rattle.adv7194_planning.specs.Rows.{listOf}
 use Rattle.adv7194_planning.proofs.CaseLaws.{wrong-length, no-row}
 use Rattle.adv7194_planning.proofs.Clauses.{change}
 use Rattle.house_listing.specs.HouseText.{boardAddress, answerText, houseTextIn, houseText}
@@ -39,10 +39,20 @@ use Rattle.house_listing.specs.HouseText.{boardAddress, answerText, hous
 abbrev pub mostText : ℕ
 mostText = 138
 
--- the house setting is accepted
-house-good : checkOf house ≡ good (codesOf house)
-unfolding checkOf firstOf placesAt placesOf order rowHolds codingAt codings codingIn numberCodings fields together signallingOf gammaOf bytesSet encode cgmsOf wssOf oddOnes lsbFirst curveOf xor
-house-good = refl
+-- the house setting has no fault at any place
+no-fault : firstOf (rowHolds house) (placesOf (orderOf table)) (tt {0}) ≡ good (tt {0})
+unfolding firstOf placesAt placesOf orderOf rowHolds someOf table singles timing output picture dnr house encode numbersFrom signallingCodes curveCodes curveOf
+no-fault = refl
+
+-- so it is accepted
+house-good : checkOf house ≡ good tt
+unfolding checkOf order
+house-good = no-fault
+
+-- and it is as many numbers as settings are
+house-count : length house ≡ numberCount
+unfolding house
+house-count = refl
 
 -- an image that isn't 54 bytes is refused so
 pub not-an-image : (image : List ℕ) → (length image ≡ registerCount → ⊥) → houseText image ≡ refusedLine 1 0
@@ -60,7 +70,7 @@ module _ (image : List ℕ) (bytes : (r : ℕ) → getD image r 0 < 2 ^ 8) (h : 
   unfolding houseTextIn listOf
   an-image =
       ap (answerText (listOf image house))
-      (no-row image house boardAddress mostBytes h refl (codesOf house) house-good (plan-room image (wantedBy image house) (change image house bytes h)))
+      (no-row image house boardAddress mostBytes h refl house-count house-good (plan-room image (wantedBy image house) (change image house bytes h)))
 
   -- a plan's text is short
   planned-short : length (planText (listOf image house)) ≤ mostText

@@ -9,7 +9,7 @@ ghost use Rattle.adv7194_settings.specs.House.{house as houseSetting};
 ghost use Rattle.adv7194_planning.specs.Planning.{planLeft, answerOf};
 ghost use Rattle.house_listing.specs.HouseText.{boardAddress, firstLine, packedBytes, textBelow, houseTextIn, houseText};
 use adv7194_planning::Planned;
-use adv7194_settings::settings::house;
+use adv7194_settings::house;
 use listing::Line;
 use listing::Word;
 use listing::first_word;
@@ -77,7 +77,8 @@ fn list_house(out: &mut [u8], image: &[u8], plan: &mut [u8]) -> Place
     ensures memory { λ r. ⌜ now (out .exit) ≡ appended (now (out .entry)) 0 (houseTextIn (now (image .entry)) (length (now (plan .entry)))) ⌝ }
     ensures planned { λ r. ⌜ now (plan .exit) ≡ planLeft (now (image .entry)) houseSetting boardAddress (now (plan .entry)) ⌝ }
 {
-    let planned = adv7194_planning::plan(image, house(), BOARD_ADDRESS, plan);
+    let numbers = house();
+    let planned = adv7194_planning::plan(image, &numbers, BOARD_ADDRESS, plan);
     let packed = packed_bytes(planned);
     let line = first_line(planned);
     let bytes = line.bytes;

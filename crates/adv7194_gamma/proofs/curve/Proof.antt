@@ -23,7 +23,8 @@ same-q : (s : tie.Start) → back w32 (s .args .q) ≡ s .args .q
 same-q s = toZ-ofZ w32 (s .args .q) (s .fits .q)
 
 -- the flags are those of the arguments
-flags : (c : tie.After-inside2) → (c .before .inside .result && c .inside2 .result) ≡ (inRatio (c .before .before .args .p) && inRatio (c .before .before .args .q))
+flags : (c : tie.After-inside2)
+    → (c .before .inside .result && c .inside2 .result) ≡ (inRatio (c .before .before .args .p) && inRatio (c .before .before .args .q))
 flags c =
     let s = c .before .before in
     ap₂ _&&_ (c .before .inside .ensures ∙ ap inRatio (same-p s)) (c .inside2 .ensures ∙ ap inRatio (same-q s))

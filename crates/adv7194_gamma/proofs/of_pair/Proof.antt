@@ -30,7 +30,8 @@ returns-9 : tie.Need-returns-9
 returns-9 c p q r k =
     let n = c .before .match .rest in
     let least : 4 ≤ c .before .before .args .pair = omega arith in
-    let half : 8 ≤ c .before .before .args .pair = past (past (past (past least (n .0 .0 .0 .0 .0 .0 .0 .1)) (n .0 .0 .0 .0 .0 .0 .1)) (n .0 .0 .0 .0 .0 .1)) (n .0 .0 .0 .0 .1) in
+    let half : 8 ≤ c .before .before .args .pair =
+    past (past (past (past least (n .0 .0 .0 .0 .0 .0 .0 .1)) (n .0 .0 .0 .0 .0 .0 .1)) (n .0 .0 .0 .0 .0 .1)) (n .0 .0 .0 .0 .1) in
     let last : 12 ≤ c .before .before .args .pair = past (past (past (past half (n .0 .0 .0 .1)) (n .0 .0 .1)) (n .0 .1)) (n .1) in
     same 3 3 (search needs) (omega arith) (c .of-ratio9 .ensures) p q r k
 

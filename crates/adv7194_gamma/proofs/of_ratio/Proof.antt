@@ -7,8 +7,17 @@ use Rattle.adv7194_gamma.proofs.of_ratio.Tie as tie
 returns : tie.Need-returns
 unfolding bytesOf
 returns c =
-    rw
-    (c .before .before .before .before .before .before .byte-at .ensures, c .before .before .before .before .before .byte-at2 .ensures, c .before .before .before .before .byte-at3 .ensures, c .before .before .before .byte-at4 .ensures, c .before .before .byte-at5 .ensures, c .before .byte-at6 .ensures, c .byte-at7 .ensures)
+    let four = c .before .before .before in
+    let three = four .before in
+    rw (
+      three .before .before .byte-at .ensures,
+      three .before .byte-at2 .ensures,
+      three .byte-at3 .ensures,
+      four .byte-at4 .ensures,
+      c .before .before .byte-at5 .ensures,
+      c .before .byte-at6 .ensures,
+      c .byte-at7 .ensures,
+    )
 
 pub of-ratio-spec : {M : Type 1} → statement M
 of-ratio-spec =

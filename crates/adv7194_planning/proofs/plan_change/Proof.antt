@@ -23,7 +23,8 @@ same : (c : tie.After-writable-registers) → (let a = start c .args in
     planBy (c .before .needed-registers .result) (c .writable-registers .result) (now (a .wanted)) ≡ planOf (now (a .image)) (now (a .wanted)))
 same c =
     let a = start c .args in
-    plan-is (now (a .image)) (now (a .wanted)) _ _ _ (c .before .before .changed-registers .ensures) (c .before .needed-registers .ensures) (c .writable-registers .ensures) (start c .pre)
+    plan-is (now (a .image)) (now (a .wanted)) _ _ _ (c .before .before .changed-registers .ensures) (c .before .needed-registers .ensures)
+    (c .writable-registers .ensures) (start c .pre)
 
 -- what packing answers and leaves is what it does of that plan
 packs : (c : tie.After-pack) (v : Packed) → c .pack .result ≡ v → (let a = start (c .before .before) .args in
@@ -48,7 +49,20 @@ pack-requires : tie.Need-pack-requires
 pack-requires c κs =
     let m = c .before in
     let a = start m .args in
-    plannable (now (a .image)) (now (a .wanted)) _ _ _ (m .before .before .changed-registers .ensures) (m .before .needed-registers .ensures) (m .writable-registers .ensures) (start m .pre)
+    plannable (now (a .image)) (now (a .wanted)) _ _ _ (m .before .before .changed-registers .ensures) (m .before .needed-registers .ensures)
+    (m .writable-registers .ensures) (start m .pre)
 
 pub plan-change-spec : {M : Type 1} → statement M
-plan-change-spec = tie.close (tie.spec (λ c κs. search needs) (λ c κs. search needs) (λ c κs. search needs) pack-requires (λ c. search needs) (λ c. search needs) (λ c. search needs) returns (λ c. search needs) returns-2)
+plan-change-spec =
+    tie.close
+    (tie.spec
+    (λ c κs. search needs)
+    (λ c κs. search needs)
+    (λ c κs. search needs)
+    pack-requires
+    (λ c. search needs)
+    (λ c. search needs)
+    (λ c. search needs)
+    returns
+    (λ c. search needs)
+    returns-2)

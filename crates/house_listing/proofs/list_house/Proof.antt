@@ -3,6 +3,7 @@ use mathlib.Core.Path.{_≡_, sym, ap, ap₂, _∙_, subst, subst⁻¹}
 use mathlib.Core.List.{List}
 use Prim.Native.Nat.{ℕ, _^_, _-_, _<_, _≤_}
 use native.Mathlib.Nat.{sub-zero}
+use lib.IntN.{ℤ}
 use lib.ListN.{length, getD, take}
 use borrow.Author.Needs.{needs}
 use Rattle.text.specs.Line.{placeAfter, appended}
@@ -12,7 +13,6 @@ use Rattle.listing.specs.Written.{wordOf}
 use Rattle.listing.proofs.LineLaws.{line-long, line-part}
 use Rattle.planning.specs.Plan.{Counts}
 use Rattle.refusals.specs.Verdict.{Verdict}
-use Rattle.adv7194_settings.specs.declared.settings.Settings.{Settings}
 use Rattle.adv7194_settings.specs.House.{house}
 use Rattle.adv7194_planning.specs.Planning.{planningOf, planLeft, answerOf}
 use Rattle.house_listing.specs.HouseText.{boardAddress, firstLine, packedBytes, textBelow}
@@ -22,7 +22,7 @@ use Rattle.house_listing.proofs.list_house.Tie as tie
 
 -- where the function was entered, and what planning answered
 abbrev start : tie.After-plan → tie.Start
-start c = c .before .before .before .before .before .before
+start c = c .before .before .before .before .before .before .before
 
 abbrev verdict : tie.After-plan → Verdict Counts
 verdict c = answerOf (c .plan .result)
@@ -30,19 +30,19 @@ verdict c = answerOf (c .plan .result)
 answered : (c : tie.After-plan) → verdict c ≡ planningOf (start c .args .image .now) house boardAddress (length (start c .args .plan .now))
 answered c =
     let a = start c .args in
-    subst (λ (s : Settings). verdict c ≡ planningOf (a .image .now) s boardAddress (length (a .plan .now)))
-    (c .before .before .house .ensures) (c .plan .ensures .0)
+    subst (λ (s : List ℤ). verdict c ≡ planningOf (a .image .now) s boardAddress (length (a .plan .now)))
+    (c .before .before .before .house .ensures) (c .plan .ensures .0)
 
 -- what it left of the lent plan
 left : (c : tie.After-plan) → c .plan .last .1 .1 .1 .0 ≡ planLeft (start c .args .image .now) house boardAddress (start c .args .plan .now)
 left c =
     let a = start c .args in
-    subst (λ (s : Settings). c .plan .last .1 .1 .1 .0 ≡ planLeft (a .image .now) s boardAddress (a .plan .now))
-    (c .before .before .house .ensures) (c .plan .ensures .1 .0)
+    subst (λ (s : List ℤ). c .plan .last .1 .1 .1 .0 ≡ planLeft (a .image .now) s boardAddress (a .plan .now))
+    (c .before .before .before .house .ensures) (c .plan .ensures .1 .0)
 
 -- the image's bytes are bytes
 bytes : (c : tie.After-plan) (r : ℕ) → getD (start c .args .image .now) r 0 < 2 ^ 8
-bytes c r = c .before .before .before .before .shared-slice-known .given r .fits
+bytes c r = c .before .before .before .before .before .shared-slice-known .given r .fits
 
 -- planning, from where the first line is known
 abbrev planned : tie.After-first-line → tie.After-plan
@@ -94,6 +94,7 @@ list-house-spec =
     tie.close
     (tie.spec
     (λ c κs. search needs)
+    (λ c. search needs)
     (λ c κs. search needs)
     (λ c κs. search needs)
     (λ c κs. search needs)

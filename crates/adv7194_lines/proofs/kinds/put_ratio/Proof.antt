@@ -1,9 +1,10 @@
 -- `kinds::put_ratio` meets its contract: the two numbers in a row. Assumes nothing.
-use mathlib.Core.Path.{refl, _∙_}
 use native.Mathlib.Omega.{arith}
-use Rattle.adv7194_lines.specs.Put.{curveWidth}
-use Rattle.adv7194_lines.specs.Values.{number, ratioText}
-use Rattle.adv7194_lines.proofs.Putting.{wider, kept, more, passed}
+use Rattle.adv7194_names.specs.Put.{curveWidth}
+use Rattle.adv7194_names.specs.Values.{number}
+use Rattle.adv7194_lines.specs.Kinds.{ratioText}
+use Rattle.adv7194_names.proofs.Putting.{wider, more, looked}
+use borrow.Author.Needs.{needs}
 use Rattle.adv7194_lines.proofs.kinds.put_ratio.Statement.{statement}
 use Rattle.adv7194_lines.proofs.kinds.put_ratio.Tie as tie
 
@@ -11,11 +12,24 @@ returns : tie.Need-returns
 unfolding ratioText
 returns c =
     let d2 = c .before .before in
+    let n2 = d2 .before .number-at2 in
     let d1 = d2 .before .before .before .before .before .before in
+    let n1 = d1 .before .number-at in
     let start = d1 .before .before .before .before .before in
-    let v = start .args .curve in
-    let w1 = passed (number "ratio ") (v .p) (d1 .before .struct-told .given .1 .0 .1) (d1 .put-number .ensures) in
-    wider curveWidth (omega arith) (more w1 (passed (number "/") (v .q) (d2 .before .struct-told2 .given .1 .1 .0 .1) (d2 .put-number2 .ensures)) (omega (arith, start .pre)))
+    let w1 = looked (number "ratio ") (n1 .ok) (n1 .ensures) (d1 .put-number .ensures) in
+    wider curveWidth (omega arith) (more w1 (looked (number "/") (n2 .ok) (n2 .ensures) (d2 .put-number2 .ensures)) (omega (arith, start .pre .0)))
 
 pub put-ratio-spec : {M : Type 1} → statement M
-put-ratio-spec = tie.close (tie.spec (λ c. refl) (λ c κs. omega arith) (λ c. refl) (λ c κs. omega arith) (λ c. kept (c .before .before .put-number2 .ensures) ∙ kept (c .before .before .before .before .before .before .before .before .put-number .ensures)) returns)
+put-ratio-spec =
+    tie.close
+    (tie.spec
+    (λ c. search needs)
+    (λ c. search needs)
+    (λ c κs. search needs)
+    (λ c κs. search needs)
+    (λ c. search needs)
+    (λ c. search needs)
+    (λ c κs. search needs)
+    (λ c κs. search needs)
+    (λ c. search needs)
+    returns)

@@ -1,20 +1,45 @@
--- `lines::curve_line` meets its contract: name, curve and line end in a row. Assumes nothing.
-use mathlib.Core.Path.{refl, _∙_}
+-- `lines::curve_line` meets its contract: number and name, the setting and the line end in a row. Assumes nothing.
+use mathlib.Core.Path.{ap}
+use mathlib.Core.List.{_++_}
 use native.Mathlib.Omega.{arith}
-use Rattle.adv7194_lines.specs.Put.{lineWidth}
-use Rattle.adv7194_lines.proofs.Putting.{put, wider, kept, more}
+use Rattle.text.specs.Text.{space, lineEnd}
+use Rattle.adv7194_table.specs.declared.blocks.Block.{Block}
+use Rattle.adv7194_lines.specs.Lines.{labelText}
+use Rattle.adv7194_lines.specs.Kinds.{curveText}
+use Rattle.adv7194_names.proofs.Putting.{put, same-text, composed}
+use borrow.Author.Needs.{needs}
 use Rattle.adv7194_lines.proofs.lines.curve_line.Statement.{statement}
 use Rattle.adv7194_lines.proofs.lines.curve_line.Tie as tie
+
+put-curve-requires : tie.Need-put-curve-requires
+put-curve-requires c κs =
+    let b = c .before .before .before .before .before .before .before .before .before .before .block-of in
+    (omega arith, omega (arith, ap (λ (x : Block). x .index) (b .ensures)))
 
 returns : tie.Need-returns
 returns c =
     let e = c .before .before in
     let v = e .before .before .before .before .before in
-    let p = v .before .before .before .before in
-    let start = p .before .before .before .before in
-    let a = start .args in
-    let w = more (put (p .put .ensures .0) (p .put .ensures .1)) (v .put-curve .ensures) (omega (arith, start .pre)) in
-    wider lineWidth (omega (arith, start .pre)) (more w (put (e .put2 .ensures .0) (e .put2 .ensures .1)) (omega (arith, start .pre)))
+    let s = v .before .before .before .before in
+    let l = s .before .before .before .before .before in
+    let b = l .before .before .block-of in
+    let start = l .before .before .before .before in
+    let zs = start .args .numbers .now in
+    let w =
+    composed (l .put-label .ensures) (put (s .put .ensures .0) (s .put .ensures .1)) (v .put-curve .ensures)
+    (put (e .put2 .ensures .0) (e .put2 .ensures .1)) (omega arith) (start .pre) in
+    same-text (ap (λ (x : Block). labelText (x .field) ++ space ++ curveText zs (x .index) ++ lineEnd) (b .ensures)) w
 
 pub curve-line-spec : {M : Type 1} → statement M
-curve-line-spec = tie.close (tie.spec (λ c κs. omega arith) (λ c κs. omega arith) (λ c. refl) (λ c κs. omega arith) (λ c. kept (put (c .before .before .put2 .ensures .0) (c .before .before .put2 .ensures .1)) ∙ kept (c .before .before .before .before .before .before .before .put-curve .ensures) ∙ kept (put (c .before .before .before .before .before .before .before .before .before .before .before .put .ensures .0) (c .before .before .before .before .before .before .before .before .before .before .before .put .ensures .1))) returns)
+curve-line-spec =
+    tie.close
+    (tie.spec
+    (λ c κs. search needs)
+    (λ c κs. search needs)
+    (λ c. search needs)
+    (λ c κs. search needs)
+    put-curve-requires
+    (λ c. search needs)
+    (λ c κs. search needs)
+    (λ c. search needs)
+    returns)

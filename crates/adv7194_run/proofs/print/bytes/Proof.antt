@@ -1,4 +1,4 @@
--- `adv7194_run::print::bytes` is safe and ends: the place stays within the slice. Assumes nothing.
+-- `print::bytes` is safe and ends: the place stays within the slice. Assumes nothing.
 use Prim.Native.Nat.{_≤_, _-_}
 use lib.ListN.{length}
 use borrow.Author.Needs.{needs}

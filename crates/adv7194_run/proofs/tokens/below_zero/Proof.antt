@@ -1,10 +1,14 @@
--- `adv7194_run::tokens::below_zero` is safe: the magnitude is small. Assumes nothing.
+-- `tokens::below_zero` meets its contract: the magnitude is small. Assumes nothing.
 use native.Mathlib.Omega.{arith}
 use borrow.Author.Needs.{needs}
-use Rattle.adv7194_fields.proofs.Signed.{negated-fits}
+use Rattle.field_table.proofs.Signed.{negated, negated-fits}
 use Rattle.adv7194_run.proofs.tokens.below_zero.Statement.{statement}
 use Rattle.adv7194_run.proofs.tokens.below_zero.Tie as tie
 
 pub below-zero-spec : {M : Type 1} → statement M
 below-zero-spec =
-    tie.close (tie.spec (λ c. search needs) (λ c. negated-fits (c .args .magnitude) (omega (arith, c .pre))) (λ c. search needs))
+    tie.close
+    (tie.spec
+    (λ c. search needs)
+    (λ c. negated-fits (c .args .magnitude) (omega (arith, c .pre)))
+    (λ c. negated (c .args .magnitude) (omega (arith, c .pre))))

@@ -1,4 +1,4 @@
--- `adv7194_run::tokens::bytes` is safe and ends: so many bytes as were put are at most the lent memory, whose length stays. Assumes nothing.
+-- `tokens::bytes` is safe and ends: so many bytes as were put are at most the lent memory, whose length stays. Assumes nothing.
 use mathlib.Core.Path.{_≡_}
 use Prim.Native.Nat.{_≤_, _-_}
 use lib.ListN.{length}

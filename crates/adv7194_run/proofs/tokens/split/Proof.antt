@@ -1,4 +1,4 @@
--- `adv7194_run::tokens::split` is safe and ends: the place stays within the text. Assumes nothing.
+-- `tokens::split` is safe and ends: the place stays within the text. Assumes nothing.
 use Prim.Native.Nat.{_≤_, _-_}
 use lib.ListN.{length}
 use borrow.Author.Needs.{needs}
@@ -19,6 +19,7 @@ split-spec =
     μ-loop
     (λ c. search needs)
     (λ c. search needs)
+    (λ c κs. search needs)
     (λ c κs. search needs)
     (λ c κs. search needs)
     (λ c κs. search needs)

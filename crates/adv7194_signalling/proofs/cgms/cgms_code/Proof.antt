@@ -15,11 +15,15 @@ use Rattle.adv7194_signalling.proofs.cgms.cgms_code.Statement.{statemen
 use Rattle.adv7194_signalling.proofs.cgms.cgms_code.Tie as tie
 
 -- the four tests, as they stand in the flag
-tested : (c : tie.After-within4) → (f : Bool) → (c .before .before .before .within .result && c .before .before .within2 .result && c .before .within3 .result && c .within4 .result) ≡ f
-    → (let a = c .before .before .before .before .args in inside (back w32 (a .payload)) (back w32 (a .odd)) (back w32 (a .even)) (back w32 (a .chip-check))) ≡ f
+tested : (c : tie.After-within4) → (f : Bool)
+    → (c .before .before .before .within .result && c .before .before .within2 .result && c .before .within3 .result && c .within4 .result) ≡ f
+    → (let a = c .before .before .before .before .args in
+    inside (back w32 (a .payload)) (back w32 (a .odd)) (back w32 (a .even)) (back w32 (a .chip-check))) ≡ f
 tested c f h = rw (c .before .before .before .within .ensures, c .before .before .within2 .ensures, c .before .within3 .ensures, c .within4 .ensures) at h
 
-within-all : (c : tie.Then1) → (let a = c .before .before .before .before .before .args in Inside (back w32 (a .payload)) (back w32 (a .odd)) (back w32 (a .even)) (back w32 (a .chip-check)))
+within-all : (c : tie.Then1)
+    → (let a = c .before .before .before .before .before .args in
+    Inside (back w32 (a .payload)) (back w32 (a .odd)) (back w32 (a .even)) (back w32 (a .chip-check)))
 within-all c =
     let a = c .before .before .before .before .before .args in
     is-inside (back w32 (a .payload)) (back w32 (a .odd)) (back w32 (a .even)) (back w32 (a .chip-check)) (tested (c .before) true (c .if1 .taken))
@@ -49,7 +53,12 @@ returns c =
     let t = c .before .before in
     let s = t .before .before .before .before .before in
     let a = s .args in
-    rw (toZ-ofZ w32 (a .payload) (s .fits .payload), toZ-ofZ w32 (a .odd) (s .fits .odd), toZ-ofZ w32 (a .even) (s .fits .even), toZ-ofZ w32 (a .chip-check) (s .fits .chip-check)) at
+    rw (
+      toZ-ofZ w32 (a .payload) (s .fits .payload),
+      toZ-ofZ w32 (a .odd) (s .fits .odd),
+      toZ-ofZ w32 (a .even) (s .fits .even),
+      toZ-ofZ w32 (a .chip-check) (s .fits .chip-check),
+    ) at
     (ap accepted (c .split .ensures ∙ ap wordBytes (c .before .cgms-word .ensures))
     ∙ sym (cgms-coded (back w32 (a .payload)) (back w32 (a .odd)) (back w32 (a .even)) (back w32 (a .chip-check)) (tested (t .before) true (t .if1 .taken))))
 
@@ -57,7 +66,12 @@ returns-2 : tie.Need-returns-2
 returns-2 c =
     let s = c .before .before .before .before .before in
     let a = s .args in
-    rw (toZ-ofZ w32 (a .payload) (s .fits .payload), toZ-ofZ w32 (a .odd) (s .fits .odd), toZ-ofZ w32 (a .even) (s .fits .even), toZ-ofZ w32 (a .chip-check) (s .fits .chip-check)) at
+    rw (
+      toZ-ofZ w32 (a .payload) (s .fits .payload),
+      toZ-ofZ w32 (a .odd) (s .fits .odd),
+      toZ-ofZ w32 (a .even) (s .fits .even),
+      toZ-ofZ w32 (a .chip-check) (s .fits .chip-check),
+    ) at
     (sym (cgms-outside (back w32 (a .payload)) (back w32 (a .odd)) (back w32 (a .even)) (back w32 (a .chip-check)) (tested (c .before) false (c .if1 .left))))
 
 pub cgms-code-spec : {M : Type 1} → statement M

@@ -10,6 +10,7 @@ use Rattle.adv7194_signalling.specs.Word.{threeBytes}
 use Rattle.adv7194_signalling.proofs.CgmsLaws.{cgmsNumber}
 use Rattle.adv7194_signalling.proofs.WordLaws.{wordBytes, joined-only, bytes-joined}
 use Rattle.adv7194_signalling.proofs.CgmsReadLaws.{payloadOf, oddOf, evenOf, chipOf, is-coded, again-held, held-again}
+use Rattle.adv7194_signalling.proofs.HeldLaws.{cgms-both}
 use Rattle.adv7194_signalling.proofs.cgms.cgms_setting.Statement.{statement}
 use Rattle.adv7194_signalling.proofs.cgms.cgms_setting.Tie as tie
 
@@ -18,18 +19,21 @@ returns c =
     let j = c .before .before in
     let r = j .before .args .registers in
     let w = j .joined .result in
-    rw (toZ-pos w32 (payloadOf w) (omega arith), toZ-pos w32 (oddOf w) (omega arith), toZ-pos w32 (evenOf w) (omega arith), toZ-pos w32 (chipOf w) (omega arith))
+    cgms-both _ _
+    (rw
+    (toZ-pos w32 (payloadOf w) (omega arith), toZ-pos w32 (oddOf w) (omega arith), toZ-pos w32 (evenOf w) (omega arith), toZ-pos w32 (chipOf w) (omega arith))
     (again-held w (sym (c .before .cgms-word .ensures) ∙ c .if1 .taken)
-    ∙ ap accepted (ap wordBytes (j .joined .ensures) ∙ bytes-joined (r .r19) (r .r1a) (r .r1b) (omega arith) (omega arith)))
+    ∙ ap accepted (ap wordBytes (j .joined .ensures) ∙ bytes-joined (r .r19) (r .r1a) (r .r1b) (omega arith) (omega arith))))
 
 returns-2 : tie.Need-returns-2
-returns-2 c = (
+returns-2 c = cgms-both _ _ (
   refl,
   λ s h.
       let j = c .before .before in
       let r = j .before .args .registers in
       let held = is-coded (s .payload) (s .odd) (s .even) (s .«chip_check») (threeBytes r) h in
-      let e : cgmsNumber (s .payload) (s .odd) (s .even) (s .«chip_check») ≡ j .joined .result = joined-only _ (r .r19) (r .r1a) (r .r1b) (held .bytes-are) ∙ sym (j .joined .ensures) in
+      let e : cgmsNumber (s .payload) (s .odd) (s .even) (s .«chip_check») ≡ j .joined .result =
+      joined-only _ (r .r19) (r .r1a) (r .r1b) (held .bytes-are) ∙ sym (j .joined .ensures) in
       c .if1 .left (c .before .cgms-word .ensures ∙ rw e at (held-again (held .in-range))),
 )
 

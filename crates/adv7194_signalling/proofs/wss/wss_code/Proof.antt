@@ -50,4 +50,5 @@ returns-3 c =
     simp (rw (same s) at (sym (c .before .within .ensures) ∙ c .if1 .left))
 
 pub wss-code-spec : {M : Type 1} → statement M
-wss-code-spec = tie.close (tie.spec (λ c κs. search needs) (λ c. within-castable (number c) (lit< tt)) (λ c κs. search needs) add-split split-requires returns returns-2 returns-3)
+wss-code-spec =
+    tie.close (tie.spec (λ c κs. search needs) (λ c. within-castable (number c) (lit< tt)) (λ c κs. search needs) add-split split-requires returns returns-2 returns-3)

@@ -18,6 +18,7 @@ use Rattle.adv7194_signalling.proofs.FlagLaws.{both}
 use Rattle.adv7194_signalling.proofs.NumberLaws.{rest-within}
 use Rattle.adv7194_signalling.proofs.WordLaws.{wordBytes, joined-only, bytes-joined}
 use Rattle.adv7194_signalling.proofs.WssLaws.{wss-coded, is-coded}
+use Rattle.adv7194_signalling.proofs.HeldLaws.{wss-both}
 use Rattle.adv7194_signalling.proofs.wss.wss_setting.Statement.{statement}
 use Rattle.adv7194_signalling.proofs.wss.wss_setting.Tie as tie
 
@@ -27,12 +28,13 @@ returns c =
     let r = j .before .args .registers in
     let w = j .joined .result in
     let t = both (eqb (w % 0x4000 + 0x800000) w) (c .before .odd-ones .result) (c .if1 .taken) in
-    rw (toZ-pos w32 (w % 0x4000) (omega arith))
+    wss-both _ _
+    (rw (toZ-pos w32 (w % 0x4000) (omega arith))
     (wss-coded (pos (w % 0x4000)) (rest-within w numberTop) (sym (c .before .odd-ones .ensures) ∙ t .1)
-    ∙ ap accepted (ap wordBytes (eqb-true _ _ (t .0) ∙ j .joined .ensures) ∙ bytes-joined (r .r19) (r .r1a) (r .r1b) (omega arith) (omega arith)))
+    ∙ ap accepted (ap wordBytes (eqb-true _ _ (t .0) ∙ j .joined .ensures) ∙ bytes-joined (r .r19) (r .r1a) (r .r1b) (omega arith) (omega arith))))
 
 returns-2 : tie.Need-returns-2
-returns-2 c = (
+returns-2 c = wss-both _ _ (
   refl,
   λ s h.
       let j = c .before .before in

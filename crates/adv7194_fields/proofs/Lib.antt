@@ -1,4 +1,0 @@
-pub mod Judging
-pub mod Decoding
-pub mod Signed
-pub mod PlainFormats

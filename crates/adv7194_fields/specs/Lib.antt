@@ -1,3 +1,0 @@
-pub mod Coding
-pub mod Fields
-pub mod Answers

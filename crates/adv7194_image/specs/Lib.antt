@@ -1,4 +1,0 @@
-pub mod Writes
-pub mod Wanted
-pub mod Masks
-pub mod Demand

@@ -1,0 +1,4 @@
+pub mod ColumnLaws
+pub mod TableLaws
+pub mod Putting
+pub mod Choosing

@@ -1,0 +1,5 @@
+pub mod Ascii
+pub mod Names
+pub mod Columns
+pub mod Values
+pub mod Put

@@ -1,0 +1,3 @@
+pub mod SignalLaws
+pub mod CurveLaws
+pub mod WordLaws

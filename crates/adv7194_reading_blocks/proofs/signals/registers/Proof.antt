@@ -1,0 +1,12 @@
+-- `signals::registers` meets its contract. Assumes nothing.
+use borrow.Author.Needs.{needs}
+use Rattle.field_table.specs.Blocks.{bytesFrom}
+use Rattle.adv7194_reading_blocks.proofs.signals.registers.Statement.{statement}
+use Rattle.adv7194_reading_blocks.proofs.signals.registers.Tie as tie
+
+returns : tie.Need-returns
+unfolding bytesFrom
+returns c = cc
+
+pub registers-spec : {M : Type 1} → statement M
+registers-spec = tie.close (tie.spec (λ c κs. search needs) (λ c κs. search needs) (λ c κs. search needs) returns)

@@ -1,4 +1,0 @@
-pub mod RowLaws
-pub mod ChainLaws
-pub mod ZeroLaws
-pub mod PedestalLaws
