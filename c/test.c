@@ -4,6 +4,7 @@
  * them.
  */
 #include "adv7194.h"
+#include "compare.h"
 #include "lent.h"
 #include "transactions.h"
 
@@ -313,6 +314,7 @@ int main(void)
     test_play();
     test_transaction();
     test_read(&image);
+    test_compare(&image);
     test_null(&image);
     printf("%d passed, %d failed\n", passed, failed);
     return failed == 0 ? 0 : 1;

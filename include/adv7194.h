@@ -1,5 +1,5 @@
 /*
- * Plans, plays and reads back the settings of one ADV7194 video encoder.
+ * Plans, plays, reads back and compares the settings of ADV7194 video encoders.
  *
  * An image is the chip's 54 registers, one byte each. Settings are 49 numbers.
  * A packed plan is a list of write transactions, as adv7194_plan makes it and
@@ -171,6 +171,15 @@ typedef struct {
     uint32_t count;      /* its data bytes */
 } adv7194_transaction_answer;
 
+/* What comparing two images answers. */
+typedef struct {
+    uint32_t refusal;   /* a refusal, or 0 */
+    uint32_t field;     /* always 0 */
+    uint32_t readable;  /* 1 if adv7194_read accepts both images, else 0 */
+    uint32_t fields;    /* bit f is set where field f differs, f = 1 to 28 */
+    uint64_t registers; /* bit r is set where register r differs in bits outside all fields */
+} adv7194_compare_answer;
+
 /*
  * Packs into `plan` the least list of write transactions that brings a chip
  * holding `image` to the settings: the fewest bus bytes, then the fewest
@@ -218,6 +227,17 @@ adv7194_transaction_answer adv7194_transaction(const uint8_t *plan, size_t plan_
  */
 adv7194_read_answer adv7194_read(const uint8_t *image, size_t image_len,
                                  int32_t *settings, size_t settings_len);
+
+/*
+ * Compares two images. A field differs where any of its bits does; must-be-zero
+ * bits count to their field, and all of registers 19 to 1B to field 11. Register
+ * 34 is never compared: its bit of `registers` is always 0. Nothing differs
+ * exactly where the images are equal in every register but 34.
+ *
+ * `a` and `b` may be the same memory. Refuses 1 for either image.
+ */
+adv7194_compare_answer adv7194_compare(const uint8_t *a, size_t a_len,
+                                       const uint8_t *b, size_t b_len);
 
 #ifdef __cplusplus
 }

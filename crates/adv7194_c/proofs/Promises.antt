@@ -34,7 +34,7 @@ Promises image numbers address plan after r =
     × (r .refusal ≡ 10 → length plan < mostBytes)))))))
 
 -- a refusal's number is not that of none
-numbered : (r : Refusal) → numberOf r ≡ 0 → ⊥
+pub numbered : (r : Refusal) → numberOf r ≡ 0 → ⊥
 numbered ImageLength e = omega arith
 numbered BusAddress e = omega arith
 numbered OutOfRange e = omega arith

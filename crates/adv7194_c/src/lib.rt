@@ -1,4 +1,5 @@
-// What C and Rust link: planning, playing and reading with settings and answers as numbers, and a plan's transactions. A slice is a pointer and a length.
+// What C and Rust link: planning, playing, reading and comparing with settings and answers as numbers, and a plan's transactions. A slice is a pointer and
+// a length.
 ghost use mathlib.Core.Path.{_≡_};
 ghost use Prim.Native.Nat.{_<_};
 ghost use lib.ListN.{length, take};
@@ -11,7 +12,11 @@ ghost use Rattle.adv7194_least.specs.Demands.{Played, Counted, Least, Only, mos
 ghost use Rattle.adv7194_planning.specs.Rows.{listOf};
 ghost use Rattle.adv7194_planning.specs.Planning.{planningOf, planLeft};
 ghost use Rattle.adv7194_playing.specs.Playing.{playOf, playedImage};
-ghost use Rattle.adv7194_c.specs.Answers.{planAnswer, playAnswer, readAnswer, transactionAnswer};
+ghost use Rattle.adv7194_compare.specs.Differences.{Equal};
+ghost use Rattle.adv7194_compare.specs.Compare.{compareOf};
+ghost use Rattle.adv7194_c.specs.Answers.{planAnswer, playAnswer, readAnswer, transactionAnswer, compareAnswer, NothingDiffers};
+use crate::compare_numbers::CompareAnswer;
+use crate::compare_numbers::compare_answer;
 use crate::plan_numbers::PlanAnswer;
 use crate::plan_numbers::plan_answer;
 use crate::play_numbers::PlayAnswer;
@@ -20,10 +25,12 @@ use crate::read_numbers::ReadAnswer;
 use crate::read_numbers::read_answer;
 use crate::transaction_numbers::TransactionAnswer;
 use crate::transaction_numbers::transaction_answer;
+use adv7194_compare::compare;
 use adv7194_playing::play;
 use adv7194_reading::read;
 use unpacking::indexed::transaction;
 
+mod compare_numbers;
 mod plan_numbers;
 mod play_numbers;
 mod read_numbers;
@@ -74,4 +81,14 @@ pub extern "C" fn adv7194_transaction(plan: &[u8], index: u32, data: &mut [u8]) 
     ensures memory { λ r. ⌜ now («data» .exit) ≡ dataAfter (transactionOf (unpack (now (plan .entry))) index (length (now («data» .entry)))) (now («data» .entry)) ⌝ }
 {
     transaction_answer(transaction(plan, index, data))
+}
+
+// Two images side by side: the fields that differ, and the registers that differ in bits outside all fields. Register 0x34 is never compared.
+#[no_mangle]
+pub extern "C" fn adv7194_compare(a: &[u8], b: &[u8]) -> CompareAnswer
+    ensures answer { λ r. ⌜ r ≡ compareAnswer (compareOf (now (a .entry)) (now (b .entry))) ⌝ }
+    ensures empty { λ r. ⌜ (Equal (now (a .entry)) (now (b .entry)) → NothingDiffers r) ⌝ }
+    ensures only { λ r. ⌜ (NothingDiffers r → Equal (now (a .entry)) (now (b .entry))) ⌝ }
+{
+    compare_answer(compare(a, b))
 }

@@ -39,7 +39,7 @@ const WORD_FIELD: u8 = 28;
 const OUT_OF_RANGE: u8 = 3;
 
 // The row of a field of one number; one of no bits for any other.
-fn field_row(field: u8) -> Row
+pub fn field_row(field: u8) -> Row
     ensures answer { λ r. ⌜ r ≡ fieldRow field ⌝ }
 {
     let table = rows();
@@ -64,7 +64,7 @@ fn field_row(field: u8) -> Row
 }
 
 // A register of an image, 0 where it has none.
-fn byte_at(image: &[u8], register: usize) -> u8
+pub fn byte_at(image: &[u8], register: usize) -> u8
     ensures answer { λ r. ⌜ r ≡ getD (now (image .entry)) register 0 ⌝ }
 {
     if register < image.len() {

@@ -13,7 +13,7 @@ use Rattle.adv7194_bus.specs.Kind.{registerCount}
 use Rattle.adv7194_table.specs.Fields.{numberCount, timing, output, picture, dnr}
 use Rattle.adv7194_table.specs.Table.{singles, singleFields, table, orderOf, numberField}
 use Rattle.adv7194_table.specs.Masks.{maskWhere, each, ownMask}
-use Rattle.adv7194_table.specs.RawCodes.{ownBits, rawFrom, rawCode}
+use Rattle.adv7194_table.specs.RawCodes.{rawFrom, rawCode}
 
 -- the checking order is 1 to 28
 pub order-is : orderOf table ≡ each (λ k. k) 1 28
@@ -48,7 +48,7 @@ all-set = each (λ k. 0xFF) 0 registerCount
 
 pub raw-codes : _≡_ {A = List (List ℕ)} (rawCode all-set 8 ∷ rawCode all-set 11 ∷ rawCode all-set 16 ∷ rawCode all-set 28 ∷ [])
     ((0x70 ∷ []) ∷ (0xFF ∷ 0xFF ∷ 0xFF ∷ []) ∷ (0xFF ∷ []) ∷ (0xFF ∷ 0xFF ∷ 0xFF ∷ 0xFF ∷ []) ∷ [])
-unfolding rawFrom ownBits ownMask maskWhere table singles timing output picture dnr
+unfolding rawFrom ownMask maskWhere table singles timing output picture dnr
 raw-codes = refl
 
 -- ---- the round trip

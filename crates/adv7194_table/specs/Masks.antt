@@ -3,6 +3,7 @@ use mathlib.Core.Bool.{Bool, not, cond, _&&_}
 use mathlib.Core.List.{List, [], _∷_}
 use Prim.Native.Nat.{ℕ, zero, suc, _+_, _-_, _*_, _^_}
 use lib.Dec.{eqb, leb, ltb}
+use Rattle.field_table.specs.declared.row.Row.{Row}
 use Rattle.adv7194_bus.specs.Kind.{registerCount}
 use Rattle.adv7194_table.specs.declared.blocks.Block.{Block}
 use Rattle.adv7194_table.specs.Table.{Entry, single, whole, table, fieldOf, mustBeZero}
@@ -11,10 +12,18 @@ use Rattle.adv7194_table.specs.Table.{Entry, single, whole, table, field
 abbrev pub inBlock : Block → ℕ → Bool
 inBlock b r = leb (b .register) r && ltb r (b .register + b .registers)
 
+-- the bits of register r that a row has
+abbrev pub rowBits : Row → ℕ → ℕ
+rowBits row r = cond (eqb (row .register) r) ((2 ^ row .width - 1) * 2 ^ row .bit) 0
+
+-- the bits of register r that a block has
+abbrev pub blockBits : Block → ℕ → ℕ
+blockBits b r = cond (inBlock b r) 0xFF 0
+
 -- the bits of register r that an entry has
 abbrev pub bitsOf : Entry → ℕ → ℕ
-bitsOf (single f) r = cond (eqb (f .row .register) r) ((2 ^ f .row .width - 1) * 2 ^ f .row .bit) 0
-bitsOf (whole c b) r = cond (inBlock b r) 0xFF 0
+bitsOf (single f) r = rowBits (f .row) r
+bitsOf (whole c b) r = blockBits b r
 
 -- the bits of register r that the entries that pass a test have: no two entries have the same bit
 unfoldable pub maskWhere : (Entry → Bool) → List Entry → ℕ → ℕ
@@ -32,6 +41,19 @@ zeroMask r = maskWhere mustBeZero table r
 -- the bits of register r that count to field n, must-be-zero bits too
 unfoldable pub ownMask : ℕ → ℕ → ℕ
 ownMask n r = maskWhere (λ e. eqb (fieldOf e) n) table r
+
+-- those of them that rows have, and that blocks have
+unfoldable pub rowsMask : ℕ → ℕ → List Row → ℕ
+rowsMask n r [] = 0
+rowsMask n r (row ∷ rows) = cond (eqb (row .field) n) (rowBits row r) 0 + rowsMask n r rows
+
+unfoldable pub blocksMask : ℕ → ℕ → List Block → ℕ
+blocksMask n r [] = 0
+blocksMask n r (b ∷ bs) = cond (eqb (b .field) n) (blockBits b r) 0 + blocksMask n r bs
+
+-- the bits of register r outside all fields
+unfoldable pub outsideMask : ℕ → ℕ
+outsideMask r = 0xFF - (fieldMask r + zeroMask r)
 
 -- what a definition gives for each of n numbers from k on
 abbrev pub each : (ℕ → ℕ) → ℕ → ℕ → List ℕ

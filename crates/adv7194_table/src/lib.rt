@@ -2,7 +2,11 @@
 // registers, and the masks of every register.
 pub mod blocks;
 mod masks;
+mod own;
 pub mod rows;
 
 pub use masks::field_masks;
 pub use masks::must_be_zero;
+pub use own::outside_bits;
+pub use own::own_bits;
+pub use own::own_mask;

@@ -1,7 +1,9 @@
 // The bits of each register that belong to a field, and those that must be zero.
 ghost use mathlib.Core.Path.{_≡_};
+ghost use Prim.Native.Nat.{_<_};
 ghost use lib.ListN.{getD};
-ghost use Rattle.adv7194_table.specs.Masks.{fieldMasks, zeroMasks};
+ghost use Rattle.adv7194_bus.specs.Kind.{registerCount};
+ghost use Rattle.adv7194_table.specs.Masks.{fieldMasks, zeroMasks, outsideMask};
 use adv7194_bus::REGISTERS;
 
 // The bits that belong to a field. Field 11 has the whole of 19, 1A and 1B; under off it sets only bits 7-4 of 19.
@@ -143,4 +145,13 @@ pub fn must_be_zero(register: usize) -> u8
     }
     let masks = zero_masks();
     masks[register]
+}
+
+// The bits of a register that are outside all fields.
+pub(crate) fn outside(register: usize) -> u8
+    requires { ⌜ register < registerCount ⌝ }
+    ensures answer { λ r. ⌜ r ≡ outsideMask register ⌝ }
+{
+    let masks = field_masks();
+    0xFF - masks[register] - must_be_zero(register)
 }

@@ -57,6 +57,22 @@ pub struct TransactionAnswer {
     pub count: u32,
 }
 
+/// What comparing two images answers. After a refusal all but the first is 0.
+#[repr(C)]
+#[derive(Clone, Copy, Debug, PartialEq, Eq)]
+pub struct CompareAnswer {
+    /// The refusal, or 0.
+    pub refusal: u32,
+    /// The field at fault, or 0.
+    pub field: u32,
+    /// 1 if reading accepts both images, else 0.
+    pub readable: u32,
+    /// Bit f is set where field f differs.
+    pub fields: u32,
+    /// Bit r is set where register r differs outside all fields.
+    pub registers: u64,
+}
+
 extern "C" {
     fn adv7194_plan(
         image: *const u8,
@@ -91,6 +107,8 @@ extern "C" {
         settings: *mut i32,
         settings_len: usize,
     ) -> ReadAnswer;
+
+    fn adv7194_compare(a: *const u8, a_len: usize, b: *const u8, b_len: usize) -> CompareAnswer;
 }
 
 /// Plans, with the archive's own numbers.
@@ -154,4 +172,11 @@ pub fn read(image: &[u8], settings: &mut [i32]) -> ReadAnswer {
             settings.len(),
         )
     }
+}
+
+/// Compares, with the archive's own numbers.
+#[inline]
+pub fn compare(a: &[u8], b: &[u8]) -> CompareAnswer {
+    // Sound: as in `plan`; both are only read, so they may be the same.
+    unsafe { adv7194_compare(a.as_ptr(), a.len(), b.as_ptr(), b.len()) }
 }

@@ -1,4 +1,4 @@
-//! Plans, plays and reads back the settings of one ADV7194 video encoder.
+//! Plans, plays, reads back and compares the settings of ADV7194 video encoders.
 //!
 //! The work is done by a proved archive with a C interface; this crate gives it
 //! safe functions and types. All `unsafe` is in the module [`ffi`].
@@ -6,8 +6,9 @@
 //! An image is 54 bytes, one for each register of the chip. [`plan`] works out
 //! the least list of write transactions that brings a chip to given settings,
 //! and packs it into lent bytes. [`transactions`] takes a packed plan apart, to
-//! send it. [`play`] says what a chip holds after a packed plan. [`read`] gives the settings that an image holds. Nothing is kept
-//! between calls and nothing is allocated.
+//! send it. [`play`] says what a chip holds after a packed plan. [`read`] gives
+//! the settings that an image holds, [`compare`] says in what two images differ.
+//! Nothing is kept between calls and nothing is allocated.
 //!
 //! ```
 //! use adv7194::{plan, play, read, Settings, PLAN_ROOM, REGISTERS};
@@ -34,12 +35,14 @@
 #![deny(unsafe_code)]
 #![warn(missing_docs)]
 
+mod comparison;
 pub mod ffi;
 mod numbers;
 mod refusal;
 mod settings;
 mod transactions;
 
+pub use comparison::{compare, Comparison, Differing};
 pub use numbers::{index, Numbers, NUMBERS};
 pub use refusal::{Reason, Refusal};
 pub use settings::{Curve, Settings, Signalling, Standard, YLevel, CURVE_BYTES};

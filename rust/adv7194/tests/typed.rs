@@ -1,8 +1,8 @@
 //! The typed form: to numbers and back, and through the archive.
 
 use adv7194::{
-    index, plan, play, read, Curve, Reason, Refusal, Settings, Signalling, Standard, YLevel,
-    PLAN_ROOM, REGISTERS,
+    compare, index, plan, play, read, Curve, Reason, Refusal, Settings, Signalling, Standard,
+    YLevel, PLAN_ROOM, REGISTERS,
 };
 
 /// An even address.
@@ -32,8 +32,8 @@ fn pal() -> Settings {
     }
 }
 
-/// Plans, plays and reads.
-fn through(settings: &Settings) -> Result<Settings, Refusal> {
+/// Plans and plays, and gives the image.
+fn settled(settings: &Settings) -> Result<[u8; REGISTERS], Refusal> {
     let mut image = [0xFF; REGISTERS];
     let mut bytes = [0; PLAN_ROOM];
     let planned = plan(&image, settings, ADDRESS, &mut bytes)?;
@@ -43,7 +43,12 @@ fn through(settings: &Settings) -> Result<Settings, Refusal> {
         ADDRESS,
         &bytes[..planned.length]
     )?);
-    read(&image)
+    Ok(image)
+}
+
+/// Plans, plays and reads.
+fn through(settings: &Settings) -> Result<Settings, Refusal> {
+    read(&settled(settings)?)
 }
 
 #[test]
@@ -95,4 +100,41 @@ fn refused() {
         refusal.to_string(),
         "refusal 6: pedestal with PAL (field 4)"
     );
+}
+
+#[test]
+fn compared() {
+    let house = settled(&Settings::house()).unwrap();
+    let mut other = settled(&pal()).unwrap();
+    let comparison = compare(&house, &other).unwrap();
+    let fields = [
+        1, 2, 3, 4, 5, 8, 10, 11, 12, 13, 14, 15, 16, 17, 23, 26, 27, 28,
+    ];
+    assert!(comparison.readable());
+    assert_eq!(comparison.fields().len(), fields.len());
+    assert!(comparison.fields().eq(fields));
+    assert_eq!(comparison.registers().next(), None);
+    other[0x0F] ^= 1;
+    other[0x1C] ^= 1;
+    let comparison = compare(&other, &house).unwrap();
+    assert!(!comparison.readable());
+    assert!(comparison.fields().eq(fields));
+    assert!(comparison.registers().eq([0x1C]));
+}
+
+#[test]
+fn compared_equal() {
+    let house = settled(&Settings::house()).unwrap();
+    let mut other = house;
+    other[0x34] ^= 0xFF;
+    let comparison = compare(&house, &other).unwrap();
+    assert!(comparison.is_equal() && comparison.readable());
+    assert_eq!(
+        comparison.fields().count() + comparison.registers().count(),
+        0
+    );
+    other[0x35] ^= 0xFF;
+    assert!(!compare(&house, &other).unwrap().is_equal());
+    let refusal = compare(&house[1..], &other).unwrap_err();
+    assert_eq!((refusal.reason, refusal.field), (Reason::ImageLength, 0));
 }

@@ -1,12 +1,14 @@
-//! Records of the program `adv7194_run` and their answers, by the plain implementation.
+//! Records of the program `adv7194_run` and pairs of images for `board_compare`, and
+//! what they must give, by the plain implementation.
 //!
 //! A record is a line of text; crates/adv7194_run/src/main.rt says what each
-//! kind asks and how it is answered. Nothing here is the program's or the library's.
+//! kind asks and how it is answered. Nothing here is a program's or the library's.
 #![forbid(unsafe_code)]
 #![warn(missing_docs)]
 
 pub mod answer;
 pub mod make;
+pub mod pairs;
 
 mod codings;
 mod events;

@@ -1,7 +1,7 @@
-//! Writes the stored cases of `adv7194_run`.
+//! Writes the stored cases of `adv7194_run` and `board_compare`.
 //!
-//! `cases DIRECTORY` writes there the records that are made, and their answers; a file that stands
-//! there beside them is left as it is. `cases` alone answers the records of standard input.
+//! `cases DIRECTORY` writes into its folders of these names what is made, and what it must give; a
+//! file that stands there beside them is left as it is. `cases` alone answers the records of standard input.
 #![forbid(unsafe_code)]
 
 use std::io::{self, Read};
@@ -9,7 +9,9 @@ use std::path::Path;
 
 fn main() -> io::Result<()> {
     if let Some(directory) = std::env::args().nth(1) {
-        return write(Path::new(&directory));
+        let directory = Path::new(&directory);
+        records(&directory.join("adv7194_run"))?;
+        return pairs(&directory.join("board_compare"));
     }
     let mut text = String::new();
     io::stdin().read_to_string(&mut text)?;
@@ -17,12 +19,24 @@ fn main() -> io::Result<()> {
     Ok(())
 }
 
-/// Writes every file that is made, with its answers.
-fn write(directory: &Path) -> io::Result<()> {
+/// Writes every file of records that is made, with its answers.
+fn records(directory: &Path) -> io::Result<()> {
     for (name, records) in cases::make::files() {
         let answers = cases::answers(&records);
         std::fs::write(directory.join(name).with_extension("in"), records)?;
         std::fs::write(directory.join(name).with_extension("out"), answers)?;
+    }
+    Ok(())
+}
+
+/// Writes every pair of images, with its text.
+fn pairs(directory: &Path) -> io::Result<()> {
+    for pair in cases::pairs::pairs() {
+        let path = directory.join(&pair.name);
+        let text = plain::side_by_side(&pair.a, &pair.b);
+        std::fs::write(path.with_extension("a"), pair.a)?;
+        std::fs::write(path.with_extension("b"), pair.b)?;
+        std::fs::write(path.with_extension("out"), text)?;
     }
     Ok(())
 }

@@ -9,6 +9,7 @@ pub mod cases;
 pub mod comparer;
 pub mod damage;
 pub mod lent;
+pub mod pairs;
 pub mod random;
 pub mod seeded;
 pub mod sending;

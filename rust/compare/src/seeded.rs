@@ -3,6 +3,7 @@
 use crate::cases::{self, Image, Numbers, ADDRESS, BEFORE, ROOM};
 use crate::comparer::Comparer;
 use crate::damage;
+use crate::pairs;
 use crate::random::Random;
 use crate::sending;
 use plain::fields::SETTINGS;
@@ -40,11 +41,12 @@ impl Seeded {
         }
     }
 
-    /// One case: half of them plan, a quarter plays, a quarter reads.
+    /// One case: two fifths of them plan, a fifth each plays, reads and compares.
     pub fn case(&mut self, comparer: &mut Comparer) {
-        let accepted = match self.random.below(4) {
+        let accepted = match self.random.below(5) {
             0 => self.play(comparer),
             1 => self.read(comparer),
+            2 => self.compare(comparer),
             _ => self.plan(comparer),
         };
         self.accepted += accepted as u64;
@@ -179,6 +181,14 @@ impl Seeded {
         let given = resized(&image, self.length(REGISTERS), 0);
         let numbers = vec![NUMBER_BEFORE; self.length(SETTINGS)];
         comparer.read(&given, &numbers).0.refusal == 0
+    }
+
+    /// Compares two images: equal, near or far.
+    fn compare(&mut self, comparer: &mut Comparer) -> bool {
+        let (a, b) = pairs::pair(&mut self.random);
+        let a = resized(&a, self.length(REGISTERS), 0);
+        let b = resized(&b, self.length(REGISTERS), 0);
+        comparer.compare(&a, &b).refusal == 0
     }
 }
 

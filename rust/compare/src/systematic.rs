@@ -2,6 +2,7 @@
 
 use crate::cases::{self, Image, Numbers, ADDRESS, BEFORE, ROOM};
 use crate::comparer::Comparer;
+use crate::pairs;
 use crate::random::Random;
 use crate::seeded::resized;
 use crate::sending;
@@ -48,6 +49,7 @@ pub fn all(comparer: &mut Comparer, seed: u64) {
     }
     signalling_settings(comparer, &mut random);
     signalling_images(comparer, &mut random);
+    pairs::all(comparer, &mut random);
 }
 
 /// A sound case: an image, settings and the image they make.

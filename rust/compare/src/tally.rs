@@ -11,12 +11,22 @@ pub enum Entry {
     Read,
     /// A transaction by its index.
     Transaction,
+    /// Comparing two images.
+    Compare,
 }
 
 /// How many there are.
-const ENTRIES: usize = 4;
+const ENTRIES: usize = 5;
+/// All of them.
+const ALL: [Entry; ENTRIES] = [
+    Entry::Plan,
+    Entry::Play,
+    Entry::Read,
+    Entry::Transaction,
+    Entry::Compare,
+];
 /// Their names, in that order.
-const NAMES: [&str; ENTRIES] = ["plan", "play", "read", "transaction"];
+const NAMES: [&str; ENTRIES] = ["plan", "play", "read", "transaction", "compare"];
 /// Numbers of refusals, none among them.
 const REFUSALS: usize = 11;
 /// Numbers of fields, none among them.
@@ -69,6 +79,8 @@ const READ: [(u32, u32); 19] = [
 
 /// A transaction.
 const TRANSACTION: [(u32, u32); 3] = [(9, 0), (3, 0), (10, 0)];
+/// Comparing.
+const COMPARE: [(u32, u32); 1] = [(1, 0)];
 
 /// Counts by entry, refusal and field.
 pub struct Tally([[[u64; FIELDS]; REFUSALS]; ENTRIES]);
@@ -92,7 +104,7 @@ impl Tally {
     pub fn print(&self) -> u64 {
         println!("entry       refusal field      count");
         let mut missing = 0;
-        for entry in [Entry::Plan, Entry::Play, Entry::Read, Entry::Transaction] {
+        for entry in ALL {
             for refusal in 0..REFUSALS as u32 {
                 for field in 0..FIELDS as u32 {
                     let count = self.0[entry as usize][refusal as usize][field as usize];
@@ -124,6 +136,7 @@ fn can_be(entry: Entry, refusal: u32, field: u32) -> bool {
         Entry::Play => PLAY.contains(&pair),
         Entry::Read => READ.contains(&pair),
         Entry::Transaction => TRANSACTION.contains(&pair),
+        Entry::Compare => COMPARE.contains(&pair),
     };
     listed || pair == (0, 0)
 }

@@ -1,4 +1,5 @@
-//! Planning, playing and reading back settings of one ADV7194, in plain Rust.
+//! Planning, playing, reading back and comparing settings of one ADV7194, in
+//! plain Rust.
 //!
 //! Written from the papers alone. It shares no code and no table with the
 //! proved library: it is what that library is compared with, and timed against.
@@ -17,16 +18,20 @@ pub mod signal;
 pub mod subcarrier;
 
 mod check;
+mod compare;
 mod pack;
 mod plan;
 mod play;
 mod read;
+mod side_by_side;
 mod transaction;
 mod unpack;
 mod wanted;
 
 pub use check::check;
+pub use compare::{compare, outside, raw_code, CompareAnswer, LAST_FIELD};
 pub use plan::{plan, PlanAnswer};
 pub use play::{play, PlayAnswer};
 pub use read::{read, ReadAnswer};
+pub use side_by_side::side_by_side;
 pub use transaction::{transaction, TransactionAnswer, MOST_DATA};

@@ -1,0 +1,1 @@
+[RZZdZZZZZZàƒÞ¥ZZZZZZZZúZZZÿùÇfß¿Ÿ_?ß¿Ÿ_?ZZ

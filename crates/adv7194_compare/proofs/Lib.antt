@@ -1,0 +1,3 @@
+pub mod DifferenceLaws
+pub mod EqualLaws
+pub mod CompareLaws

@@ -1,0 +1,49 @@
+-- Document 02, P1: the text of two images side by side. First how many differences there are, then a line for each field that differs, in the table's order,
+-- with both settings, or both raw codes where reading refuses either image; then a line for each register that differs in bits outside all fields. Or the
+-- refusal.
+use mathlib.Core.Bool.{Bool, cond, _&&_}
+use mathlib.Core.List.{List, [], _∷_, _++_}
+use Prim.Native.Nat.{ℕ, _+_}
+use lib.IntN.{ℤ}
+use lib.ListN.{length}
+use Rattle.text.specs.Text.{space, lineEnd, decimal, hexByte}
+use Rattle.listing.specs.Lines.{refusedLine}
+use Rattle.adv7194_table.specs.RawCodes.{outsideBits}
+use Rattle.adv7194_settings.specs.Held.{settingsHeld}
+use Rattle.adv7194_names.specs.Ascii.{ascii}
+use Rattle.adv7194_lines.specs.Lines.{labelText}
+use Rattle.adv7194_compare.specs.Differences.{fieldsDiffering, registersDiffering}
+use Rattle.adv7194_compare.specs.Compare.{canBeRead, whole}
+use Rattle.compare_listing.specs.Values.{markOf, sideOf}
+
+-- `DIFFERENCES n`
+unfoldable pub countLine : ℕ → List ℕ
+countLine n = ascii "DIFFERENCES " ++ decimal n ++ lineEnd
+
+-- field n's line: `12 contrast 1000 thousandths | 1180 thousandths`, or `12 contrast raw 80 | 97`
+unfoldable pub fieldLine : Bool → List ℕ → List ℕ → List ℤ → List ℤ → ℕ → List ℕ
+fieldLine both a b za zb n = labelText n ++ markOf both ++ sideOf both a za n ++ ascii " |" ++ sideOf both b zb n ++ lineEnd
+
+-- `register 03 A0 | A5`
+unfoldable pub registerLine : List ℕ → List ℕ → ℕ → List ℕ
+registerLine a b r = ascii "register " ++ hexByte r ++ space ++ hexByte (outsideBits a r) ++ ascii " | " ++ hexByte (outsideBits b r) ++ lineEnd
+
+-- a line for each of some numbers
+unfoldable pub linesOf : (ℕ → List ℕ) → List ℕ → List ℕ
+linesOf f [] = []
+linesOf f (n ∷ ns) = f n ++ linesOf f ns
+
+-- the text of two images of the right length, whose settings are these numbers where both can be read
+unfoldable pub sideText : Bool → List ℕ → List ℕ → List ℤ → List ℤ → List ℕ
+sideText both a b za zb =
+    countLine (length (fieldsDiffering a b) + length (registersDiffering a b))
+    ++ linesOf (fieldLine both a b za zb) (fieldsDiffering a b)
+    ++ linesOf (registerLine a b) (registersDiffering a b)
+
+-- the text of two images of the right length
+abbrev pub sidesText : List ℕ → List ℕ → List ℕ
+sidesText a b = sideText (canBeRead a && canBeRead b) a b (settingsHeld a) (settingsHeld b)
+
+-- the text of two images
+unfoldable pub compareText : List ℕ → List ℕ → List ℕ
+compareText a b = cond (whole a && whole b) (sidesText a b) (refusedLine 1 0)
