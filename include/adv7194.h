@@ -65,7 +65,7 @@ enum {
     ADV7194_U_SCALE = 16,      /* field 13: 0 to 1996 thousandths */
     ADV7194_V_SCALE = 17,      /* field 14: 0 to 1996 thousandths */
     ADV7194_HUE = 18,          /* field 15: -225 to 224 tenths of a degree */
-    ADV7194_BRIGHTNESS = 19,   /* field 16: -75 to 150 tenths of an IRE */
+    ADV7194_BRIGHTNESS = 19,   /* field 16: -75 to 150 tenths of an IRE, to the nearest code */
     ADV7194_SHARPNESS = 20,    /* field 17: -6 to 6 steps */
     ADV7194_BORDER_GAIN = 21,  /* field 18: DNR border gain, 0 to 8 */
     ADV7194_DATA_GAIN = 22,    /* field 19: DNR data gain, 0 to 8 */

@@ -12,6 +12,8 @@ use Rattle.field_table.proofs.RoundTripLaws.{All, CodesFit}
 use Rattle.field_table.proofs.Judging.{fits-inside, in-range}
 use Rattle.adv7194_table.specs.Fields.{clampDelay, contrast, uScale, vScale, brightness, sharpness, timing, output, picture, dnr}
 use Rattle.adv7194_table.specs.Table.{singles, singleFields, table}
+use Rattle.rounding.specs.First.{firstFrom}
+use Rattle.rounding.specs.Nearest.{nearest}
 use Rattle.adv7194_codes.proofs.Rounded.{hue-fits, thousandths-fit}
 
 pub clamp-delay-fits : (z : ℤ) → codeIn (encode clampDelay z) < 2 ^ 3
@@ -19,7 +21,7 @@ unfolding codeBy
 clamp-delay-fits = fits-inside clampDelay (λ z o. ltb→lt (codeOf clampDelay z) 8 (in-range 3 3 (λ s. ltb (codeOf clampDelay s) 8) tt z o))
 
 pub brightness-fits : (z : ℤ) → codeIn (encode brightness z) < 2 ^ 7
-unfolding codeBy
+unfolding codeBy nearest firstFrom
 brightness-fits = fits-inside brightness (λ z o. ltb→lt (codeOf brightness z) 128 (in-range 75 150 (λ s. ltb (codeOf brightness s) 128) tt z o))
 
 pub sharpness-fits : (z : ℤ) → codeIn (encode sharpness z) < 2 ^ 4

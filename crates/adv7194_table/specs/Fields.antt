@@ -4,7 +4,7 @@ use mathlib.Core.List.{List, [], _∷_}
 use Prim.Native.Nat.{ℕ}
 use lib.IntN.{ℤ, pos, negℤ}
 use Rattle.field_table.specs.declared.row.Row.{Row}
-use Rattle.field_table.specs.Coding.{Coding, plain, offset, signMagnitude, rounded, truncated, Field}
+use Rattle.field_table.specs.Coding.{Coding, plain, offset, signMagnitude, rounded, roundedSigned, Field}
 
 -- how many numbers a set of settings is, in field order: signalling has five, a curve ten, every other field one
 abbrev pub numberCount : ℕ
@@ -60,9 +60,9 @@ vScale = thousandths 14 17 0x1F 1996
 abbrev pub hue : Field
 hue = row 15 18 0x20 0 8 (negℤ (pos 225)) (pos 224) 3 (rounded 128 256 450)
 
--- 16, brightness, in tenths of an IRE: cut toward zero, seven-bit two's complement
+-- 16, brightness, in tenths of an IRE: the whole number nearest to 2015631 t / 10000000, as seven-bit two's complement
 abbrev pub brightness : Field
-brightness = row 16 19 0x21 0 7 (negℤ (pos 75)) (pos 150) 3 (truncated 2015631 10000000)
+brightness = row 16 19 0x21 0 7 (negℤ (pos 75)) (pos 150) 3 (roundedSigned 2015631 10000000)
 
 -- 17, sharpness, in steps: the step plus 6
 abbrev pub sharpness : Field

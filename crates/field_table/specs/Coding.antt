@@ -3,8 +3,8 @@ use mathlib.Core.Bool.{Bool, false, cond, _&&_, _||_}
 use mathlib.Core.List.{List, [], _∷_}
 use Prim.Native.Nat.{ℕ, suc, _+_, _-_, _*_, _^_, max}
 use lib.Dec.{eqb, ltb}
-use lib.IntN.{ℤ, pos, negsuc, negℤ, natAbs, _+ℤ_, _*ℤ_}
-use lib.Signed.{ltZ, nonNeg, quotZ}
+use lib.IntN.{ℤ, pos, negsuc, negℤ, natAbs, _+ℤ_}
+use lib.Signed.{ltZ, nonNeg}
 use Rattle.refusals.specs.Refusal.{Judged, accepted, refused}
 use Rattle.rounding.specs.First.{first}
 use Rattle.rounding.specs.Nearest.{nearest}
@@ -21,8 +21,8 @@ pub data Coding : Type 0 where
   signMagnitude : Coding
   -- a number b plus the whole number nearest to the setting times n / d
   rounded : ℕ → ℕ → ℕ → Coding
-  -- the setting times n / d, cut toward zero, as two's complement
-  truncated : ℕ → ℕ → Coding
+  -- the whole number nearest to the setting times n / d, as two's complement
+  roundedSigned : ℕ → ℕ → Coding
 
 -- a field (document 01's term) that holds one number: its row of the table and how its settings are coded
 pub record Field : Type 0 where
@@ -45,7 +45,7 @@ codeBy plain w s = natAbs s
 codeBy (offset b) w s = natAbs (s +ℤ pos b)
 codeBy signMagnitude w s = cond (nonNeg s) (natAbs s) (2 ^ (w - 1) + natAbs s)
 codeBy (rounded b n d) w s = natAbs (pos b +ℤ nearestTimes n d s)
-codeBy (truncated n d) w s = twosComplement w (quotZ (s *ℤ pos n) (pos d))
+codeBy (roundedSigned n d) w s = twosComplement w (nearestTimes n d s)
 
 -- the code of a field's setting
 abbrev pub codeOf : Field → ℤ → ℕ
@@ -61,7 +61,7 @@ isCode plain w s = nonNeg s && ltb (natAbs s) (2 ^ w)
 isCode (offset b) w s = false
 isCode signMagnitude w s = false
 isCode (rounded b n d) w s = false
-isCode (truncated n d) w s = false
+isCode (roundedSigned n d) w s = false
 
 -- a setting's code: a reserved code in a setting is refusal 4, any other outside number 3
 unfoldable pub encode : Field → ℤ → Judged ℕ

@@ -92,7 +92,7 @@ pub struct Settings {
     pub v_scale: i32,
     /// Field 15: hue, -225 to 224 tenths of a degree.
     pub hue: i32,
-    /// Field 16: brightness, -75 to 150 tenths of an IRE.
+    /// Field 16: brightness, -75 to 150 tenths of an IRE, to the nearest code.
     pub brightness: i32,
     /// Field 17: sharpness, -6 to 6 steps.
     pub sharpness: i32,

@@ -23,7 +23,7 @@ fn pal() -> Settings {
         u_scale: 4,
         v_scale: 1989,
         hue: -225,
-        brightness: -75,
+        brightness: -72,
         sharpness: 6,
         dnr_input: 4,
         curve_a: Curve::Ratio { p: 1, q: 2 },

@@ -51,10 +51,11 @@ pub fn hue_of(code: u8) -> i32 {
     tenths * away.signum()
 }
 
-/// Brightness: cut toward zero, then seven-bit two's complement.
+/// Brightness: the nearest whole number, then seven-bit two's complement.
 #[inline(always)]
 pub fn brightness_code(tenths: i32) -> u8 {
-    (tenths * BRIGHTNESS_SLOPE / BRIGHTNESS_PARTS) as u8 & (SEVEN_BIT_CODES - 1) as u8
+    let half = BRIGHTNESS_PARTS / 2 * tenths.signum();
+    ((tenths * BRIGHTNESS_SLOPE + half) / BRIGHTNESS_PARTS) as u8 & (SEVEN_BIT_CODES - 1) as u8
 }
 
 /// The brightness nearest zero that has this seven-bit code.
@@ -66,7 +67,8 @@ pub fn brightness_of(code: u8) -> i32 {
     } else {
         code - SEVEN_BIT_CODES
     };
-    let tenths = (steps.unsigned_abs() * BRIGHTNESS_PARTS as u32).div_ceil(BRIGHTNESS_SLOPE as u32);
+    let doubled = (2 * steps.unsigned_abs()).saturating_sub(1);
+    let tenths = (doubled * BRIGHTNESS_PARTS as u32).div_ceil(2 * BRIGHTNESS_SLOPE as u32);
     tenths as i32 * steps.signum()
 }
 

@@ -64,7 +64,8 @@ fn brightness() {
     assert_eq!(codes::brightness_code(150), 0x1E);
     assert_eq!(codes::brightness_code(-75), 0x71);
     assert_eq!(codes::brightness_code(-70), 0x72);
-    assert_eq!(codes::brightness_of(0x01), 5);
+    assert_eq!(codes::brightness_code(4), 0x01);
+    assert_eq!(codes::brightness_of(0x01), 3);
 }
 
 #[test]

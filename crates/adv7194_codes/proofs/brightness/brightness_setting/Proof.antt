@@ -4,7 +4,7 @@ use mathlib.Core.Bool.{Bool, false, not, cond, _||_, _&&_}
 use mathlib.Core.Logic.{⊎-elim}
 use Prim.Native.Nat.{ℕ, _+_, _-_, _*_, _/_}
 use native.Mathlib.Omega.{arith}
-use lib.Dec.{T, leb, leb→le, T-not}
+use lib.Dec.{T, eqb, leb, leb→le, T-not}
 use Rattle.refusals.specs.Refusal.{refused}
 use lib.IntN.{ℤ, pos, _-ℤ_}
 use mir.Syntax.{w32}
@@ -12,6 +12,7 @@ use mir.Val.{toZ}
 use borrow.Author.Needs.{needs}
 use borrow.Author.Tests.{ltb-true, ltb-false}
 use Rattle.rounding.specs.First.{firstFrom}
+use Rattle.rounding.specs.Nearest.{nearest}
 use Rattle.rounding.proofs.Range.{below, below-at, from-at, back, sfitsb, fits→, imp, imp→, imp→not}
 use Rattle.field_table.specs.Coding.{outside, codeOf, codeBy, decode}
 use Rattle.adv7194_table.specs.Fields.{brightness}
@@ -25,7 +26,7 @@ abbrev used : ℕ → Bool
 used c = leb c 30 || (leb 113 c && leb c 127)
 
 codes-used : (z : ℤ) → outside (brightness .row) z ≡ false → T (used (codeOf brightness z))
-unfolding codeBy
+unfolding codeBy nearest firstFrom
 codes-used z o = in-range 75 150 (λ s. used (codeOf brightness s)) tt z o
 
 -- so no setting has another code
@@ -57,8 +58,11 @@ negative k = leb 113 k
 abbrev level : ℕ → ℕ
 level k = cond (negative k) (128 - k) k
 
+abbrev leastTenths : ℕ → ℕ
+leastTenths l = cond (eqb l 0) 0 ((l * 20000000 - 10000000 + 4031261) / 4031262)
+
 abbrev least : ℕ → ℕ
-least k = (level k * 10000000 + 2015630) / 2015631
+least k = leastTenths (level k)
 
 abbrev negated : ℕ → ℤ
 negated k = pos 0 -ℤ toZ w32 (least k)
@@ -72,20 +76,20 @@ least-tenths-requires c κs = rw (levelled (c .before)) (leb→le _ _ (at (λ k.
 
 -- the magnitude that was found
 found : (c : tie.After-least-tenths) → c .least-tenths .result ≡ least (c .before .before .before .before .before .args .code)
-found c = c .least-tenths .ensures ∙ ap (λ (l : ℕ). (l * 10000000 + 2015630) / 2015631) (levelled (c .before .before))
+found c = c .least-tenths .ensures .0 ∙ ap leastTenths (levelled (c .before .before))
 
 sub-t22 : tie.Need-sub-t22
 sub-t22 c = rw (found (c .before)) (fits→ w32 _ (at (λ k. sfitsb w32 (negated k)) tt tt (c .before .before .before .before)))
 
 returns-3 : tie.Need-returns-3
-unfolding decode codeBy firstFrom
+unfolding decode codeBy nearest firstFrom
 returns-3 c =
     rw (found (c .before))
     (isSetting→ _ _
     (imp→ _ _ (at (λ k. imp (negative k) (isSetting (back w32 (negated k)) (decode brightness k))) tt tt (c .before .before .before .before)) (c .if5 .taken)))
 
 returns-4 : tie.Need-returns-4
-unfolding decode codeBy firstFrom
+unfolding decode codeBy nearest firstFrom
 returns-4 c =
     rw (found (c .before))
     (isSetting→ _ _
