@@ -1,4 +1,5 @@
 pub mod Powers
+pub mod Budget
 pub mod Nearest
 pub mod Answers
 pub mod ByteLaws

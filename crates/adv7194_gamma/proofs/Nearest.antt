@@ -3,9 +3,8 @@ use mathlib.Core.Path.{_≡_, sym, _∙_, subst}
 use mathlib.Core.Bool.{Bool, true, false, true≢false}
 use mathlib.Core.Logic.{⊎-elim}
 use Prim.Native.Nat.{ℕ, suc, _+_, _-_, _*_, _^_, _≤_, _<_}
-use native.Mathlib.Nat.{mul-le-mul-left, mul-lt-mul-of-pos-right, pow-le-pow-left, pow-lt-pow-left, lt-of-le-of-lt, lt-of-not-le, le-antisymm, one-le-pow}
+use native.Mathlib.Nat.{mul-le-mul-left, mul-le-mul-right, mul-lt-mul-of-pos-right, pow-le-pow-left, pow-lt-pow-left, lt-of-le-of-lt, lt-of-lt-of-le, lt-of-not-le, one-le-pow}
 use native.Mathlib.Omega.{arith}
-use lib.Arith.{lt-of-le-ne}
 use lib.Dec.{lit<}
 use borrow.Author.Tests.{ltb-true, ltb-false, lt-ltb}
 use Rattle.rounding.proofs.First.{first-found}
@@ -19,6 +18,13 @@ clash t f = absurd (true≢false (sym t ∙ f))
 earlier : (x z p q j : ℕ) → x ≤ z → belowHalf z p q j ≡ true → belowHalf x p q j ≡ true
 unfolding belowHalf
 earlier x z p q j h t = lt-ltb _ _ (lt-of-le-of-lt (mul-le-mul-left (448 ^ q) (pow-le-pow-left h p)) (ltb-true _ _ t))
+
+-- a candidate that passes leaves each later one passing
+later : (x p q j k : ℕ) → j ≤ k → belowHalf x p q j ≡ true → belowHalf x p q k ≡ true
+unfolding belowHalf
+later x p q j k h t =
+    let odd : 2 * j + 1 ≤ 2 * k + 1 = omega arith in
+    lt-ltb _ _ (lt-of-lt-of-le (ltb-true _ _ t) (mul-le-mul-right (224 ^ p) (pow-le-pow-left odd q)))
 
 -- the last candidate passes
 last : (x p q : ℕ) → x ≤ 224 → 0 < q → belowHalf x p q 224 ≡ true
@@ -37,7 +43,8 @@ module _ (x p q : ℕ) (hx : x ≤ 224) (hq : 0 < q) where
   unfolding nearestPower
   passes = ⊎-elim (λ e. rw e (last x p q hx hq)) (λ t. t) (first-found (belowHalf x p q) 224 .passes)
 
-  at-most : (j : ℕ) → belowHalf x p q j ≡ true → nearestPower x p q ≤ j
+  -- and not above one that passes
+  pub at-most : (j : ℕ) → belowHalf x p q j ≡ true → nearestPower x p q ≤ j
   at-most j t =
       let below : nearestPower x p q < suc j = lt-of-not-le (λ (h : suc j ≤ nearestPower x p q). clash t (least x p q j h)) in
       omega arith
@@ -45,12 +52,9 @@ module _ (x p q : ℕ) (hx : x ≤ 224) (hq : 0 < q) where
   pub bounded : nearestPower x p q ≤ 224
   bounded = at-most 224 (last x p q hx hq)
 
-  -- the search ends where the test passes, and goes on where it fails
-  pub ends : (j : ℕ) → j ≤ nearestPower x p q → belowHalf x p q j ≡ true → j ≡ nearestPower x p q
-  ends j h t = le-antisymm h (at-most j t)
-
-  pub goes-on : (j : ℕ) → j ≤ nearestPower x p q → belowHalf x p q j ≡ false → j < nearestPower x p q
-  goes-on j h f = lt-of-le-ne h (λ e. clash (rw e passes) f)
+  -- the nearest number is above a candidate that fails
+  pub above : (j : ℕ) → belowHalf x p q j ≡ false → j < nearestPower x p q
+  above j f = lt-of-not-le (λ (h : nearestPower x p q ≤ j). clash (later x p q (nearestPower x p q) j h passes) f)
 
   pub nearest-power : NearestPower x p q (nearestPower x p q)
   unfolding belowHalf
