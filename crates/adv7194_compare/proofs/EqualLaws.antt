@@ -129,7 +129,8 @@ module _ (P : ℕ → Bool) where
   pub empty-map : (n k : ℕ) → ((i : ℕ) → n ≤ i → i < n + k → P i ≡ false) → mapFrom P n k ≡ 0
   empty-map n zero h = map-none P n
   empty-map n (suc k) h =
-      map-next P n k ∙ ap₂ (λ (t : Bool) (m : ℕ). cond t (2 ^ n) 0 + m) (h n (omega arith) (omega arith)) (empty-map (suc n) k (λ i p q. h i (omega arith) (omega arith)))
+      map-next P n k ∙ ap₂ (λ (t : Bool) (m : ℕ). cond t (2 ^ n) 0 + m) (h n (omega arith) (omega arith)) (empty-map (suc n) k
+      (λ i p q. h i (omega arith) (omega arith)))
 
 -- ---- the theorem, by maps
 

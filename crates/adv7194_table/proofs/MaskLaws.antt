@@ -169,7 +169,8 @@ block-count ps e = sym (blocks-length ps) ∙ ap length e
 
 module _ (n r : ℕ) (ps : List ℕ) (i : ℕ) where
   pub rows-next : i < length ps
-      → rowsMask n r (rowsOf (drop i ps)) ≡ cond (eqb (rowOf (getD ps i 0) .field) n) (rowBits (rowOf (getD ps i 0)) r) 0 + rowsMask n r (rowsOf (drop (i + 1) ps))
+      → rowsMask n r (rowsOf (drop i ps)) ≡ cond (eqb (rowOf (getD ps i 0) .field) n) (rowBits (rowOf
+      (getD ps i 0)) r) 0 + rowsMask n r (rowsOf (drop (i + 1) ps))
   unfolding rowsMask rowsOf
   rows-next h = rw (add-one i, drop-cons ps i 0 h)
 

@@ -79,14 +79,16 @@ unfolding someRow valueIn rowAt rowsIn singleFields
 row-value image zs n [] t = absurd t
 row-value image zs n (single f ∷ es) t = split (eqb n (f .row .field)) refl (row-value image zs n es)
   where
-    split : (s : Bool) → eqb n (f .row .field) ≡ s → (T (someRow n es) → valueIn image zs n es ≡ numberText (named n) (given zs (rowAt n (rowsIn (singleFields es)))))
+    split : (s : Bool) → eqb n (f .row .field) ≡ s → (T (someRow n es)
+        → valueIn image zs n es ≡ numberText (named n) (given zs (rowAt n (rowsIn (singleFields es)))))
         → cond s (numberText (named (f .row .field)) (given zs (f .row))) (valueIn image zs n es)
         ≡ numberText (named n) (given zs (cond s (f .row) (rowAt n (rowsIn (singleFields es)))))
     split true e rest = ap (λ (k : ℕ). numberText (named k) (given zs (f .row))) (sym (eqb-true _ _ e))
     split false e rest = rest (subst (λ (b : Bool). T (b || someRow n es)) e t)
 row-value image zs n (whole c b ∷ es) t = split (eqb n (b .field)) refl (row-value image zs n es)
   where
-    split : (s : Bool) → eqb n (b .field) ≡ s → (T (someRow n es) → valueIn image zs n es ≡ numberText (named n) (given zs (rowAt n (rowsIn (singleFields es)))))
+    split : (s : Bool) → eqb n (b .field) ≡ s → (T (someRow n es)
+        → valueIn image zs n es ≡ numberText (named n) (given zs (rowAt n (rowsIn (singleFields es)))))
         → cond s (blockValue image zs c b) (valueIn image zs n es) ≡ numberText (named n) (given zs (rowAt n (rowsIn (singleFields es))))
     split true e rest = absurd (subst (λ (b : Bool). T (not b && someRow n es)) e t)
     split false e rest = rest (subst (λ (b : Bool). T (not b && someRow n es)) e t)

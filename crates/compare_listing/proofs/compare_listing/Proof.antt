@@ -32,7 +32,8 @@ returns-2 c =
     let w = v .before .before in
     let s = w .before .before .before .before .args in
     handed (s .out .now) (p .list-refusal2 .ensures .0) (p .list-refusal2 .ensures .1)
-    (second-short (s .a .now) (s .b .now) (sym (w .whole .ensures) ∙ not-false _ (v .before .if1 .left)) (sym (v .whole2 .ensures) ∙ not-true _ (t .if2 .taken)))
+    (second-short (s .a .now) (s .b .now) (sym (w .whole .ensures) ∙ not-false _ (v .before .if1 .left)) (sym (v .whole2 .ensures)
+    ∙ not-true _ (t .if2 .taken)))
 
 returns-3 : tie.Need-returns-3
 returns-3 c =

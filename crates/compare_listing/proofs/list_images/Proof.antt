@@ -15,7 +15,8 @@ returns c =
     let u = v .before .before .before in
     let s = u .before .before .before .before .before .args in
     let out = s .out .now in
-    let e = by-reading (s .a .now) (s .b .now) noNumbers noNumbers (t .both .ensures) (u .taken .ensures .0) (v .taken2 .ensures .0) (u .taken .ensures .1) (v .taken2 .ensures .1) in
+    let e = by-reading (s .a .now) (s .b .now) noNumbers noNumbers (t .both .ensures) (u .taken .ensures .0) (v .taken2 .ensures .0)
+    (u .taken .ensures .1) (v .taken2 .ensures .1) in
     (p .list-sides .ensures .0 ∙ ap (placeAfter out 0) e, p .list-sides .ensures .1 ∙ ap (appended out 0) e)
 
 pub list-images-spec : {M : Type 1} → statement M

@@ -30,7 +30,8 @@ turn : (c : tie.In-loop Inv-loop μ-loop)
     → let n = c .before .loop .field in
     let P = fieldDiffers (start (c .before) .args .a .now) (start (c .before) .args .b .now) in
     mapFrom P n (29 - n) ≡ cond (P n) (2 ^ n) 0 + mapFrom P (n + 1) (29 - (n + 1))
-turn c = map-turn (fieldDiffers (start (c .before) .args .a .now) (start (c .before) .args .b .now)) (c .before .loop .field) 29 (omega (arith, c .loop-test .taken))
+turn c = map-turn (fieldDiffers (start (c .before) .args .a .now) (start (c .before) .args .b .now)) (c .before .loop .field) 29
+    (omega (arith, c .loop-test .taken))
 
 -- a set bit fits the map
 add-map : tie.Need-add-map Inv-loop μ-loop
@@ -38,7 +39,14 @@ add-map c =
     let i = c .before .before in
     let l = i .before .loop in
     let P = fieldDiffers (start (i .before) .args .a .now) (start (i .before) .args .b .now) in
-    omega (arith, turn i, l .inv .sum, map-small P 1 28, bit-in (l .field) 32 (c .before .field-differs .ensures) (c .if1 .taken) (omega (arith, i .loop-test .taken)))
+    omega (
+      arith,
+      turn i,
+      l .inv .sum,
+      map-small P 1 28,
+      bit-in (l .field) 32 (c .before .field-differs .ensures) (c .if1 .taken)
+          (omega (arith, i .loop-test .taken)),
+    )
 
 -- the map after a turn
 added : (c : tie.Joined1 Inv-loop μ-loop)

@@ -30,7 +30,8 @@ turn : (c : tie.In-loop Inv-loop μ-loop)
     → let n = c .before .loop .register in
     let P = registerDiffers (start (c .before) .args .a .now) (start (c .before) .args .b .now) in
     mapFrom P n (54 - n) ≡ cond (P n) (2 ^ n) 0 + mapFrom P (n + 1) (54 - (n + 1))
-turn c = map-turn (registerDiffers (start (c .before) .args .a .now) (start (c .before) .args .b .now)) (c .before .loop .register) 54 (omega (arith, c .loop-test .taken))
+turn c = map-turn (registerDiffers (start (c .before) .args .a .now) (start (c .before) .args .b .now))
+    (c .before .loop .register) 54 (omega (arith, c .loop-test .taken))
 
 -- a set bit fits the map
 add-map : tie.Need-add-map Inv-loop μ-loop
@@ -38,7 +39,14 @@ add-map c =
     let i = c .before .before in
     let l = i .before .loop in
     let P = registerDiffers (start (i .before) .args .a .now) (start (i .before) .args .b .now) in
-    omega (arith, turn i, l .inv .sum, map-small P 0 54, bit-in (l .register) 64 (c .before .register-differs .ensures) (c .if1 .taken) (omega (arith, i .loop-test .taken)))
+    omega (
+      arith,
+      turn i,
+      l .inv .sum,
+      map-small P 0 54,
+      bit-in (l .register) 64 (c .before .register-differs .ensures)
+          (c .if1 .taken) (omega (arith, i .loop-test .taken)),
+    )
 
 -- the map after a turn
 added : (c : tie.Joined1 Inv-loop μ-loop)

@@ -46,7 +46,8 @@ record Halved (low above byte range : ℕ) : Type 0 where
   most : range / 256 + range % 256 ≤ 240
   fewer : range % 256 ≤ above / 2
 
-lower-half : (low above byte : ℕ) → 16 ≤ low → low ≤ byte → above < 256 → low + above ≤ 240 → byte ≤ low + above / 2 → Halved low above byte (low * 256 + above / 2)
+lower-half : (low above byte : ℕ) → 16 ≤ low → low ≤ byte → above < 256 → low + above ≤ 240 → byte ≤ low + above / 2
+    → Halved low above byte (low * 256 + above / 2)
 lower-half low above byte a b c d e = record { least = omega arith; under = omega arith; over = omega arith; most = omega arith; fewer = omega arith }
 
 upper-half : (range byte : ℕ) → 16 ≤ range / 256 → 0 < range % 256 → range / 256 + range % 256 ≤ 240 → byte ≤ range / 256 + range % 256

@@ -12,7 +12,8 @@ mul-result c =
     rw (c .factor .ensures) (omega (arith, first-le (c .before .args .b) (c .before .args .e) (c .before .pre .0) (c .before .pre .1)))
 
 -- the product of all three
-product : (c : tie.After-factor2) → (c .before .before .args .b) * (c .before .factor .result) * (c .factor2 .result) ≡ both (c .before .before .args .b) (c .before .before .args .e)
+product : (c : tie.After-factor2) → (c .before .before .args .b) * (c .before .factor .result) * (c .factor2 .result)
+    ≡ both (c .before .before .args .b) (c .before .before .args .e)
 product c = ap₂ (λ (x y : ℕ). c .before .before .args .b * x * y) (c .before .factor .ensures) (c .factor2 .ensures)
 
 mul-result-2 : tie.Need-mul-result-2

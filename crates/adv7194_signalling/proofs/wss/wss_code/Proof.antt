@@ -51,4 +51,5 @@ returns-3 c =
 
 pub wss-code-spec : {M : Type 1} → statement M
 wss-code-spec =
-    tie.close (tie.spec (λ c κs. search needs) (λ c. within-castable (number c) (lit< tt)) (λ c κs. search needs) add-split split-requires returns returns-2 returns-3)
+    tie.close (tie.spec (λ c κs. search needs) (λ c. within-castable (number c) (lit< tt))
+    (λ c κs. search needs) add-split split-requires returns returns-2 returns-3)

@@ -32,8 +32,11 @@ returns-3 c =
 returns-4 : tie.Need-returns-4
 returns-4 c =
     let e = c .before .before in
-    let s = e .before .before .before .before in
-    (in-block _ _ (s .block-of .ensures) (e .before .before .if1 .left) (within-block (s .block-of .result) _ (e .if2 .left) (omega (arith, c .if3 .left))), omega arith)
+    let s = e .before .before .before .before in (
+      in-block _ _ (s .block-of .ensures) (e .before .before .if1 .left) (within-block (s .block-of .result) _ (e .if2 .left) (omega
+          (arith, c .if3 .left))),
+      omega arith,
+    )
 
 pub block-bits-spec : {M : Type 1} → statement M
 block-bits-spec = tie.close (tie.spec (λ c κs. search needs) returns returns-2 add-if3 returns-3 returns-4)

@@ -15,7 +15,8 @@ returns c =
     let w = d .before .before .before .before in
     let h = w .before .before .before .before .pre in
     wider countLineWidth (omega arith)
-    (more (more (put (w .put .ensures .0) (w .put .ensures .1)) (d .put-decimal .ensures) (omega arith)) (put (e .put2 .ensures .0) (e .put2 .ensures .1)) (omega arith))
+    (more (more (put (w .put .ensures .0) (w .put .ensures .1)) (d .put-decimal .ensures) (omega arith)) (put (e .put2 .ensures .0)
+    (e .put2 .ensures .1)) (omega arith))
 
 pub count-line-spec : {M : Type 1} → statement M
 count-line-spec =

@@ -15,7 +15,8 @@ returns c =
 returns-2 : tie.Need-returns-2
 returns-2 c =
     let start = c .before .before .before .before .before in
-    same-text (line-left-out _ (c .before .register-differs .ensures) (c .if1 .left)) (unwritten (start .args .line .now) (start .args .at) (omega (arith, start .pre .0)))
+    same-text (line-left-out _ (c .before .register-differs .ensures) (c .if1 .left)) (unwritten (start .args .line .now)
+    (start .args .at) (omega (arith, start .pre .0)))
 
 pub register-line-spec : {M : Type 1} → statement M
 register-line-spec =

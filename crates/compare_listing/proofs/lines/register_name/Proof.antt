@@ -11,7 +11,8 @@ returns c =
     let n = p .before .before .before .before .before in
     let w = n .before .before .before .before in
     let h = w .before .before .before .before .pre .0 in
-    more (more (put (w .put .ensures .0) (w .put .ensures .1)) (n .put-hex .ensures) (omega arith)) (put (p .put2 .ensures .0) (p .put2 .ensures .1)) (omega arith)
+    more (more (put (w .put .ensures .0) (w .put .ensures .1)) (n .put-hex .ensures) (omega arith)) (put (p .put2 .ensures .0)
+    (p .put2 .ensures .1)) (omega arith)
 
 pub register-name-spec : {M : Type 1} → statement M
 register-name-spec =

@@ -29,7 +29,8 @@ returns c =
     let t = p .before .before .before in
     let a = t .before .before .before .args in
     let zs = a .numbers .now in
-    let e = ap (λ (x : Block). signallingText zs (x .index)) (b .ensures) ∙ signalling-value (a .image .now) zs ∙ ap (fieldValue (a .image .now) zs) (sym (t .if1 .taken)) in
+    let e = ap (λ (x : Block). signallingText zs (x .index)) (b .ensures) ∙ signalling-value (a .image .now) zs
+    ∙ ap (fieldValue (a .image .now) zs) (sym (t .if1 .taken)) in
     same-text e (wider curveWidth (omega arith) (p .put-signalling .ensures))
 
 returns-2 : tie.Need-returns-2
@@ -39,7 +40,8 @@ returns-2 c =
     let t = p .before .before .before in
     let a = t .before .before .before .before .args in
     let zs = a .numbers .now in
-    let e = ap (λ (x : Block). curveText zs (x .index)) (b .ensures) ∙ curve-a-value (a .image .now) zs ∙ ap (fieldValue (a .image .now) zs) (sym (t .if2 .taken)) in
+    let e = ap (λ (x : Block). curveText zs (x .index)) (b .ensures) ∙ curve-a-value (a .image .now) zs
+    ∙ ap (fieldValue (a .image .now) zs) (sym (t .if2 .taken)) in
     same-text e (wider curveWidth (omega arith) (p .put-curve .ensures))
 
 returns-3 : tie.Need-returns-3
@@ -49,7 +51,8 @@ returns-3 c =
     let t = p .before .before .before in
     let a = t .before .before .before .before .before .args in
     let zs = a .numbers .now in
-    let e = ap (λ (x : Block). curveText zs (x .index)) (b .ensures) ∙ curve-b-value (a .image .now) zs ∙ ap (fieldValue (a .image .now) zs) (sym (t .if3 .taken)) in
+    let e = ap (λ (x : Block). curveText zs (x .index)) (b .ensures) ∙ curve-b-value (a .image .now) zs
+    ∙ ap (fieldValue (a .image .now) zs) (sym (t .if3 .taken)) in
     same-text e (wider curveWidth (omega arith) (p .put-curve2 .ensures))
 
 returns-4 : tie.Need-returns-4

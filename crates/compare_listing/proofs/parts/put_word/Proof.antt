@@ -33,7 +33,8 @@ returns c =
     let h = start .pre in
     let e = word-bytes (start .args .image .now) (first b) in
     same-text e
-    (more (more (more (t .put-register .ensures) (u .put-register2 .ensures) (omega arith)) (v .put-register3 .ensures) (omega arith)) (w .put-register4 .ensures) (omega arith))
+    (more (more (more (t .put-register .ensures) (u .put-register2 .ensures) (omega arith)) (v .put-register3 .ensures)
+    (omega arith)) (w .put-register4 .ensures) (omega arith))
 
 pub put-word-spec : {M : Type 1} → statement M
 put-word-spec =
