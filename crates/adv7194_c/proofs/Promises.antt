@@ -12,10 +12,11 @@ use Rattle.refusals.specs.Verdict.{refusedAt}
 use Rattle.adv7194_settings.specs.Wanted.{wantedBy}
 use Rattle.adv7194_settings.specs.Demand.{Demanded}
 use Rattle.adv7194_least.specs.Demands.{Played, Counted, Least, Only, mostBytes}
-use Rattle.adv7194_planning.specs.declared.Planned.{Planned}
-use Rattle.adv7194_planning.specs.declared.Planned.the-variants.{Done, Refused}
+use Rattle.planning.specs.declared.plan.Planned.{Planned}
+use Rattle.planning.specs.declared.plan.Planned.the-variants.{Done, Refused}
 use Rattle.adv7194_planning.specs.Rows.{listOf}
-use Rattle.adv7194_planning.specs.Planning.{planningOf, planLeft, answerOf}
+use Rattle.planning.specs.Plan.{answerOf}
+use Rattle.adv7194_planning.specs.Planning.{planningOf, planLeft}
 use Rattle.adv7194_planning.proofs.Clauses.{Clauses}
 use Rattle.adv7194_c.specs.declared.plan_numbers.PlanAnswer.{PlanAnswer}
 use Rattle.adv7194_c.specs.Answers.{planAnswer}

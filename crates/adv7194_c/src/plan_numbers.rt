@@ -2,9 +2,9 @@
 ghost use mathlib.Core.Path.{_≡_};
 ghost use Rattle.refusals.specs.Refusal.{numberOf};
 ghost use Rattle.refusals.specs.Verdict.{refusedAt};
-ghost use Rattle.adv7194_planning.specs.Planning.{answerOf, done};
+ghost use Rattle.planning.specs.Plan.{answerOf, done};
 ghost use Rattle.adv7194_c.specs.Answers.{planAnswer};
-use adv7194_planning::Planned;
+use planning::plan::Planned;
 use refusals::Refusal;
 
 // The refusal and the field where there is none, and every other number after a refusal.

@@ -13,7 +13,7 @@ use Rattle.refusals.specs.Order.{Place, firstOf, placesAt}
 use Rattle.refusals.proofs.OrderLaws.{first-append}
 use Rattle.bus.specs.Transactions.{Transaction}
 use Rattle.packing.specs.Packing.{packed}
-use Rattle.planning.specs.Plan.{Counts, countsOf, packingOf, planAfter}
+use Rattle.planning.specs.Plan.{Counts, countsOf, packingOf, leftBy, planAfter}
 use Rattle.adv7194_bus.specs.Kind.{registerCount}
 use Rattle.adv7194_bus.specs.Address.{addressRight}
 use Rattle.adv7194_table.specs.Fields.{numberCount, timing, output, picture, dnr}
@@ -21,7 +21,7 @@ use Rattle.adv7194_table.specs.Table.{singles, table, orderOf}
 use Rattle.adv7194_settings.specs.Order.{placesOf, order}
 use Rattle.adv7194_settings.specs.Rows.{rowHolds, checkOf}
 use Rattle.adv7194_planning.specs.Rows.{listOf, rowPlanned, planOrder}
-use Rattle.adv7194_planning.specs.Planning.{planningOf, leftBy, planLeft, withoutField}
+use Rattle.adv7194_planning.specs.Planning.{planningOf, planLeft}
 
 -- ---- the settings' rows
 
@@ -118,21 +118,21 @@ module _ (image : List ℕ) (zs : List ℤ) (address : ℕ) (plan : List ℕ) wh
   -- a refusal leaves the lent plan
   pub refuse : (n f : ℕ) → planningOf image zs address (length plan) ≡ refusedAt n f
       → (refusedAt n f ≡ planningOf image zs address (length plan)) × (plan ≡ planLeft image zs address plan)
-  refuse n f e = (sym e, sym (ap (leftBy image zs plan) e))
+  refuse n f e = (sym e, sym (ap (leftBy (listOf image zs) plan) e))
 
   -- a plan leaves its packed bytes and what was past them
   pub accept : planningOf image zs address (length plan) ≡ good (countsOf (listOf image zs))
       → planLeft image zs address plan ≡ packed (listOf image zs) ++ drop (length (packed (listOf image zs))) plan
-  accept e = ap (leftBy image zs plan) e
+  accept e = ap (leftBy (listOf image zs) plan) e
 
   -- what packing the list answers and leaves is what planning does, where the room is left to judge
   pub packing : length image ≡ registerCount → addressRight address ≡ true → length zs ≡ numberCount → checkOf zs ≡ good tt
-      → (withoutField (packingOf (listOf image zs) (length plan)) ≡ planningOf image zs address (length plan))
+      → (packingOf (listOf image zs) (length plan) ≡ planningOf image zs address (length plan))
       × (planAfter (listOf image zs) plan ≡ planLeft image zs address plan)
   packing h e c k = by (leb (length (packed (listOf image zs))) (length plan)) refl
     where
       by : (b : Bool) → leb (length (packed (listOf image zs))) (length plan) ≡ b
-          → (withoutField (packingOf (listOf image zs) (length plan)) ≡ planningOf image zs address (length plan))
+          → (packingOf (listOf image zs) (length plan) ≡ planningOf image zs address (length plan))
           × (planAfter (listOf image zs) plan ≡ planLeft image zs address plan)
       by true p =
           let v = no-row image zs address (length plan) h e c k (leb-true (length (packed (listOf image zs))) (length plan) p) in

@@ -10,7 +10,7 @@ use lib.Dec.{T}
 use Rattle.refusals.specs.Verdict.{Verdict, good, refusedAt}
 use Rattle.bus.specs.Transactions.{busBytes}
 use Rattle.packing.specs.Packing.{packed}
-use Rattle.planning.specs.Plan.{Counts, countsOf}
+use Rattle.planning.specs.Plan.{Counts, countsOf, done}
 use Rattle.adv7194_bus.specs.Kind.{registerCount}
 use Rattle.adv7194_settings.specs.Wanted.{wantedBy}
 use Rattle.adv7194_settings.specs.Demand.{Demanded}
@@ -22,7 +22,7 @@ use Rattle.adv7194_least.proofs.PlayedPlan.{plan-played, plan-counted}
 use Rattle.adv7194_least.proofs.Costs.{plan-least, plan-only}
 use Rattle.adv7194_least.proofs.Room.{plan-room}
 use Rattle.adv7194_planning.specs.Rows.{listOf}
-use Rattle.adv7194_planning.specs.Planning.{planningOf, planLeft, done}
+use Rattle.adv7194_planning.specs.Planning.{planningOf, planLeft}
 use Rattle.adv7194_planning.specs.Judges.{Judges, image-fault, address-fault, count-fault, settings-fault, room-fault, no-fault}
 use Rattle.adv7194_planning.proofs.CaseLaws.{bySettings, accept}
 use Rattle.adv7194_planning.proofs.ExactLaws.{settings-row, exactly}

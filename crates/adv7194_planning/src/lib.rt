@@ -3,7 +3,7 @@ ghost use mathlib.Core.Path.{_≡_};
 ghost use Prim.Native.Nat.{ℕ, _<_};
 ghost use lib.ListN.{length, take};
 ghost use Rattle.refusals.specs.Verdict.{refusedAt};
-ghost use Rattle.planning.specs.Plan.{packingOf, planAfter};
+ghost use Rattle.planning.specs.Plan.{packingOf, planAfter, done, answerOf};
 ghost use Rattle.adv7194_settings.specs.Wanted.{wantedBy};
 ghost use Rattle.adv7194_settings.specs.Demand.{Demanded};
 ghost use Rattle.adv7194_least.specs.Change.{Change};
@@ -11,7 +11,7 @@ ghost use Rattle.adv7194_least.specs.Plan.{planOf};
 ghost use Rattle.adv7194_least.specs.Demands.{Played, Counted, Least, Only, mostBytes};
 ghost use Rattle.adv7194_planning.specs.Rows.{listOf};
 ghost use Rattle.adv7194_planning.specs.Judges.{Judges};
-ghost use Rattle.adv7194_planning.specs.Planning.{planningOf, planLeft, withoutField, done, answerOf};
+ghost use Rattle.adv7194_planning.specs.Planning.{planningOf, planLeft};
 use crate::registers::changed_registers;
 use crate::registers::needed_registers;
 use crate::registers::writable_registers;
@@ -21,51 +21,22 @@ use adv7194_bus::image::copied;
 use adv7194_settings::NUMBERS;
 use adv7194_wanted::want;
 use field_table::Checked;
-use planning::plan::Packed;
+use planning::plan::NO_FIELD;
+use planning::plan::Planned;
 use planning::plan::pack;
 use refusals::Refusal;
 
 mod registers;
 
-// The field number of a refusal that belongs to no field.
-const NO_FIELD: u8 = 0;
-
-// What planning answers: how many bytes and transactions the packed plan has and what it costs on the bus, or a refusal with its field.
-pub enum Planned {
-    Done {
-        length: u32,
-        transactions: u32,
-        bus_bytes: u32,
-    },
-    Refused {
-        refusal: Refusal,
-        field: u8,
-    },
-}
-
 // Plans the change from an image to a wanted one, into the lent plan.
 fn plan_change(image: &[u8], wanted: &[u8], plan: &mut [u8]) -> Planned
     requires { ⌜ Change (now image) (now wanted) ⌝ }
-    ensures answer { λ r. ⌜ answerOf r ≡ withoutField (packingOf (planOf (now (image .entry)) (now (wanted .entry))) (length (now (plan .entry)))) ⌝ }
+    ensures answer { λ r. ⌜ answerOf r ≡ packingOf (planOf (now (image .entry)) (now (wanted .entry))) (length (now (plan .entry))) ⌝ }
     ensures memory { λ r. ⌜ now (plan .exit) ≡ planAfter (planOf (now (image .entry)) (now (wanted .entry))) (now (plan .entry)) ⌝ }
 {
     let needed = needed_registers(changed_registers(image, wanted));
     let writable = writable_registers();
-    match pack(plan, needed, writable, wanted) {
-        Packed::TooShort => Planned::Refused {
-            refusal: Refusal::PlanRoom,
-            field: NO_FIELD,
-        },
-        Packed::Done {
-            length,
-            transactions,
-            bus_bytes,
-        } => Planned::Done {
-            length,
-            transactions,
-            bus_bytes,
-        },
-    }
+    pack(plan, needed, writable, wanted)
 }
 
 // Plans the settings over an image, for the chip at a bus address, into the lent plan.

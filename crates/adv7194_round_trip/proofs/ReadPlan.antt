@@ -15,7 +15,7 @@ use Rattle.refusals.proofs.OrderLaws.{none-good, good-none}
 use Rattle.field_table.specs.Blocks.{numbersFrom, storeFrom}
 use Rattle.bus.specs.Transactions.{Transaction, busBytes}
 use Rattle.packing.specs.Packing.{packed}
-use Rattle.planning.specs.Plan.{countsOf}
+use Rattle.planning.specs.Plan.{countsOf, done}
 use Rattle.adv7194_bus.specs.Kind.{registerCount}
 use Rattle.adv7194_bus.specs.Address.{addressRight}
 use Rattle.adv7194_table.specs.Fields.{numberCount, timing, output, picture, dnr}
@@ -27,7 +27,6 @@ use Rattle.adv7194_settings.specs.Rows.{rowHeld, judgeOf}
 use Rattle.adv7194_settings.specs.Reading.{rowRead, readOrder, readOf, leftBy, readLeft}
 use Rattle.adv7194_least.proofs.Nothing.{plan-empty, packed-empty}
 use Rattle.adv7194_planning.specs.Rows.{listOf}
-use Rattle.adv7194_planning.specs.Planning.{done}
 use Rattle.adv7194_planning.proofs.CaseLaws.{no-row, accept}
 use Rattle.adv7194_round_trip.specs.RoundTrip.{Bytes, MeansItself}
 use Rattle.adv7194_round_trip.specs.EmptyPlan.{EmptyPlan}

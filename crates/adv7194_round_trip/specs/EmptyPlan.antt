@@ -4,7 +4,8 @@ use mathlib.Core.List.{List, _∷_}
 use Prim.Native.Nat.{ℕ}
 use lib.IntN.{ℤ}
 use lib.ListN.{length, drop}
-use Rattle.adv7194_planning.specs.Planning.{planningOf, planLeft, done}
+use Rattle.planning.specs.Plan.{done}
+use Rattle.adv7194_planning.specs.Planning.{planningOf, planLeft}
 
 -- planning answers one byte, no transaction and no bus byte; it leaves the byte 00, and the rest as it was
 pub record EmptyPlan (image : List ℕ) (zs : List ℤ) (address : ℕ) (plan : List ℕ) : Type 0 where

@@ -17,13 +17,13 @@ use Rattle.listing.specs.Lines.{planLine, refusedLine}
 use Rattle.listing.specs.Written.{wordOf}
 use Rattle.listing.proofs.Beginning.{plan-word, refused-word}
 use Rattle.plan_listing.specs.PlanText.{transactionLines, planText}
-use Rattle.planning.specs.Plan.{Counts, countsOf}
+use Rattle.planning.specs.Plan.{Counts, countsOf, leftBy}
 use Rattle.adv7194_bus.specs.Kind.{registerCount}
 use Rattle.adv7194_settings.specs.House.{house}
 use Rattle.adv7194_settings.specs.Wanted.{wantedBy}
 use Rattle.adv7194_least.proofs.PlayedPlan.{plan-unpacks}
 use Rattle.adv7194_planning.specs.Rows.{listOf}
-use Rattle.adv7194_planning.specs.Planning.{planningOf, leftBy, planLeft}
+use Rattle.adv7194_planning.specs.Planning.{planningOf, planLeft}
 use Rattle.adv7194_planning.specs.Judges.{Judges, image-fault, address-fault, count-fault, settings-fault, room-fault, no-fault}
 use Rattle.adv7194_planning.proofs.ExactLaws.{exactly}
 use Rattle.adv7194_planning.proofs.Clauses.{change}
@@ -50,7 +50,7 @@ module _ (image plan : List ℕ) where
 
       -- the packed list, and what was past it
       left : after ≡ packed (listOf image house) ++ drop (n .length) plan
-      left = memory ∙ ap (leftBy image house plan) (sym answer)
+      left = memory ∙ ap (leftBy (listOf image house) plan) (sym answer)
 
       -- the length answered is within the lent plan
       inside : n .length ≤ length after

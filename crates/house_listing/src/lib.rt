@@ -6,9 +6,9 @@ ghost use Rattle.unpacking.specs.Listed.{listed, Accepted};
 ghost use Rattle.text.specs.Line.{placeAfter, appended};
 ghost use Rattle.listing.specs.Written.{lineOf, wordOf};
 ghost use Rattle.adv7194_settings.specs.House.{house as houseSetting};
-ghost use Rattle.adv7194_planning.specs.Planning.{planLeft, answerOf};
+ghost use Rattle.planning.specs.Plan.{answerOf};
+ghost use Rattle.adv7194_planning.specs.Planning.{planLeft};
 ghost use Rattle.house_listing.specs.HouseText.{boardAddress, firstLine, packedBytes, textBelow, houseTextIn, houseText};
-use adv7194_planning::Planned;
 use adv7194_settings::house;
 use listing::Line;
 use listing::Word;
@@ -17,6 +17,7 @@ use listing::plan_line;
 use listing::refused_line;
 use plan_listing::Listed;
 use plan_listing::list_plan;
+use planning::plan::Planned;
 use text::Place;
 
 // The bus address of the encoder on the boards.

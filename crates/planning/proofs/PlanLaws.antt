@@ -8,13 +8,13 @@ use lib.Count.{ones}
 use lib.ListN.{length, getD, drop}
 use borrow.Author.Tests.{le-leb, lt-leb}
 use Rattle.bits.specs.Maps.{has}
-use Rattle.refusals.specs.Refusal.{Judged, accepted, refused}
+use Rattle.refusals.specs.Verdict.{Verdict, refusedAt}
 use Rattle.bus.specs.Transactions.{Transaction, busBytes}
 use Rattle.bus.specs.Cost.{dataCount}
 use Rattle.packing.specs.Packing.{packed}
 use Rattle.least_cost.specs.Plan.{joins}
 use Rattle.planning.specs.Registers.{covers, begins}
-use Rattle.planning.specs.Plan.{largestCount, Plannable, Counts, planBy, packingOf, planAfter}
+use Rattle.planning.specs.Plan.{largestCount, Plannable, Counts, planBy, packingOf, planAfter, done}
 use Rattle.planning.proofs.RunLaws.{plan-covered}
 use Rattle.planning.proofs.CountLaws.{runs-counted, count-le, none-begins}
 use Rattle.planning.proofs.RoundLaws.{none}
@@ -71,20 +71,20 @@ mapped needed allowed wanted taken starts p ht hs t s =
 -- ---- answers
 
 -- what packing a list answers, and what it leaves in the lent plan
-abbrev Answers : List Transaction → List ℕ → Judged Counts → List ℕ → Type 0
+abbrev Answers : List Transaction → List ℕ → Verdict Counts → List ℕ → Type 0
 Answers ts plan answer after = (answer ≡ packingOf ts (length plan)) × (after ≡ planAfter ts plan)
 
 -- the lent plan is shorter than the packed one
-pub too-short : (us ts : List Transaction) (plan : List ℕ) → us ≡ ts → length plan < length (packed us) → Answers ts plan (refused 10) plan
+pub too-short : (us ts : List Transaction) (plan : List ℕ) → us ≡ ts → length plan < length (packed us) → Answers ts plan (refusedAt 10 0) plan
 too-short us ts plan same h =
     let no = lt-leb (length (packed us)) (length plan) h in
-    subst (λ (l : List Transaction). Answers l plan (refused 10) plan) same (rw no, rw no)
+    subst (λ (l : List Transaction). Answers l plan (refusedAt 10 0) plan) same (rw no, rw no)
 
 -- it has room
 pub has-room : (us ts : List Transaction) (plan after : List ℕ) (l t b : ℕ) → us ≡ ts → length (packed us) ≤ length plan
     → l ≡ length (packed us) → t ≡ length us → b ≡ busBytes us → after ≡ packed us ++ drop (length (packed us)) plan
-    → Answers ts plan (accepted (record { length = l; transactions = t; busBytes = b })) after
+    → Answers ts plan (done l t b) after
 has-room us ts plan after l t b same h el et eb e =
     let yes = le-leb (length (packed us)) (length plan) h in
-    let answer : Judged Counts = accepted (record { length = l; transactions = t; busBytes = b }) in
+    let answer = done l t b in
     subst (λ (x : List Transaction). Answers x plan answer after) same (rw (yes, el, et, eb), rw yes e)

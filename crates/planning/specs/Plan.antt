@@ -7,13 +7,14 @@ use Prim.Native.Nat.{ℕ, _≤_, _<_}
 use lib.Dec.{leb}
 use lib.ListN.{length, getD, drop}
 use Rattle.bits.specs.Maps.{has}
-use Rattle.refusals.specs.Refusal.{Judged, accepted, refused}
+use Rattle.refusals.specs.Refusal.{numberOf}
+use Rattle.refusals.specs.Verdict.{Verdict, good, refusedAt}
 use Rattle.bus.specs.Transactions.{Transaction, busBytes}
 use Rattle.packing.specs.Packing.{packed}
 use Rattle.least_cost.specs.Task.{Task}
 use Rattle.least_cost.specs.Plan.{greedyPlan}
-use Rattle.planning.specs.declared.plan.Packed.{Packed}
-use Rattle.planning.specs.declared.plan.Packed.the-variants.{Done, TooShort}
+use Rattle.planning.specs.declared.plan.Planned.{Planned}
+use Rattle.planning.specs.declared.plan.Planned.the-variants.{Done, Refused}
 
 -- the largest number that a 6-bit count of a packed plan can hold
 abbrev pub largestCount : ℕ
@@ -51,14 +52,23 @@ abbrev pub countsOf : List Transaction → Counts
 countsOf ts = record { length = length (packed ts); transactions = length ts; busBytes = busBytes ts }
 
 -- what packing a list into a lent plan of that many bytes answers
-abbrev pub packingOf : List Transaction → ℕ → Judged Counts
-packingOf ts room = cond (leb (length (packed ts)) room) (accepted (countsOf ts)) (refused 10)
+abbrev pub packingOf : List Transaction → ℕ → Verdict Counts
+packingOf ts room = cond (leb (length (packed ts)) room) (good (countsOf ts)) (refusedAt 10 0)
 
--- the lent plan afterwards
+-- the lent plan after an answer: the packed list, and what was past it; as it was after a refusal
+abbrev pub leftBy : List Transaction → List ℕ → Verdict Counts → List ℕ
+leftBy ts plan (good n) = packed ts ++ drop (n .length) plan
+leftBy ts plan (refusedAt n f) = plan
+
+-- the lent plan after packing a list into it
 abbrev pub planAfter : List Transaction → List ℕ → List ℕ
-planAfter ts plan = cond (leb (length (packed ts)) (length plan)) (packed ts ++ drop (length (packed ts)) plan) plan
+planAfter ts plan = leftBy ts plan (packingOf ts (length plan))
+
+-- a plan of that many bytes, transactions and bus bytes
+abbrev pub done : ℕ → ℕ → ℕ → Verdict Counts
+done bytes transactions cost = good (record { length = bytes; transactions = transactions; busBytes = cost })
 
 -- the answer as document 01 has it
-abbrev pub answerOf : Packed → Judged Counts
-answerOf (Done l t b) = accepted (record { length = l; transactions = t; busBytes = b })
-answerOf TooShort = refused 10
+abbrev pub answerOf : Planned → Verdict Counts
+answerOf (Done l t b) = done l t b
+answerOf (Refused r f) = refusedAt (numberOf r) f

@@ -6,6 +6,7 @@ ghost use Rattle.planning.specs.Plan.{Plannable, Packable, planBy, answe
 use crate::maps;
 use packing::BYTE_BITS;
 use packing::FIELD_BITS;
+use refusals::Refusal;
 
 // The width of a transaction's header in a packed plan: subaddress and data count.
 const HEADER_BITS: u64 = 12;
@@ -13,14 +14,20 @@ const HEADER_BITS: u64 = 12;
 // The most zero bits that fill the last byte.
 const MOST_FILL: u64 = 7;
 
-// What packing a plan answers: how many bytes and transactions it has and what it costs, or that the lent plan is too short.
-pub enum Packed {
+// The field number of a refusal that belongs to no field.
+pub const NO_FIELD: u8 = 0;
+
+// What planning answers: how many bytes and transactions the packed plan has and what it costs on the bus, or a refusal with its field.
+pub enum Planned {
     Done {
         length: u32,
         transactions: u32,
         bus_bytes: u32,
     },
-    TooShort,
+    Refused {
+        refusal: Refusal,
+        field: u8,
+    },
 }
 
 // The bytes of a packed plan with that many transactions and that many data bytes in all.
@@ -53,7 +60,7 @@ fn pack_runs(plan: &mut [u8], map: u64, transactions: u8, wanted: &[u8])
 }
 
 // Packs the plan that writes the needed registers, where it fits the lent plan.
-pub fn pack(plan: &mut [u8], needed: u64, allowed: u64, wanted: &[u8]) -> Packed
+pub fn pack(plan: &mut [u8], needed: u64, allowed: u64, wanted: &[u8]) -> Planned
     requires { ⌜ Plannable needed allowed (now wanted) ⌝ }
     ensures answer { λ r. ⌜ answerOf r ≡ packingOf (planBy needed allowed (now (wanted .entry))) (length (now (plan .entry))) ⌝ }
     ensures memory { λ r. ⌜ now (plan .exit) ≡ planAfter (planBy needed allowed (now (wanted .entry))) (now (plan .entry)) ⌝ }
@@ -63,10 +70,13 @@ pub fn pack(plan: &mut [u8], needed: u64, allowed: u64, wanted: &[u8]) -> Packed
     let data_bytes = bits::maps::count(taken);
     let length = packed_length(transactions, data_bytes);
     if (plan.len() as u64) < length {
-        return Packed::TooShort;
+        return Planned::Refused {
+            refusal: Refusal::PlanRoom,
+            field: NO_FIELD,
+        };
     }
     pack_runs(plan, taken, transactions as u8, wanted);
-    Packed::Done {
+    Planned::Done {
         length: length as u32,
         transactions: transactions,
         bus_bytes: bus::cost::bus_bytes(transactions, data_bytes) as u32,

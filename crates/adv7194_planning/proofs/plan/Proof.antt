@@ -21,7 +21,7 @@ use Rattle.adv7194_settings.specs.Rows.{checkOf}
 use Rattle.adv7194_least.specs.Change.{Change}
 use Rattle.adv7194_least.specs.Plan.{planOf}
 use Rattle.adv7194_planning.specs.Rows.{listOf}
-use Rattle.adv7194_planning.specs.Planning.{planningOf, withoutField}
+use Rattle.adv7194_planning.specs.Planning.{planningOf}
 use Rattle.adv7194_planning.proofs.CaseLaws.{wrong-length, wrong-address, wrong-count, wrong-settings, refuse, packing}
 use Rattle.adv7194_planning.proofs.Clauses.{Clauses, change, clauses}
 use Rattle.adv7194_planning.proofs.plan.Statement.{statement}
@@ -132,7 +132,7 @@ returns-5 c =
     let list = ap (planOf (now (a .image))) (wanted-is w) in
     let q = packing (now (a .image)) (now (a .numbers)) (a .address) (now (a .plan)) (long (e .before .before)) (right e) (counted d) (accepted k) in
     clauses (now (a .image)) (now (a .numbers)) (bytes (e .before .before .before)) (a .address) (now (a .plan)) _ _
-    (p .plan-change .ensures .0 ∙ ap (λ (ts : List Transaction). withoutField (packingOf ts (length (now (a .plan))))) list ∙ q .0)
+    (p .plan-change .ensures .0 ∙ ap (λ (ts : List Transaction). packingOf ts (length (now (a .plan)))) list ∙ q .0)
     (p .plan-change .ensures .1 ∙ ap (λ (ts : List Transaction). planAfter ts (now (a .plan))) list ∙ q .1)
 
 pub plan-spec : {M : Type 1} → statement M

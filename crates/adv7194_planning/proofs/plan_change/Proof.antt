@@ -1,15 +1,12 @@
 -- `plan_change` meets its contract: the plan of the maps is the plan of the images. Assumes nothing.
-use mathlib.Core.Path.{_≡_, sym, ap, _∙_}
+use mathlib.Core.Path.{_≡_, ap, _∙_}
 use mathlib.Core.List.{List}
 use borrow.Author.Needs.{needs}
 use lib.ListN.{length}
 use denote.Ref.{now}
 use Rattle.bus.specs.Transactions.{Transaction}
-use Rattle.planning.specs.declared.plan.Packed.{Packed}
-use Rattle.planning.specs.declared.plan.Packed.the-variants.{Done, TooShort}
-use Rattle.planning.specs.Plan.{planBy, packingOf, planAfter, answerOf}
+use Rattle.planning.specs.Plan.{planBy, packingOf, planAfter}
 use Rattle.adv7194_least.specs.Plan.{planOf}
-use Rattle.adv7194_planning.specs.Planning.{withoutField}
 use Rattle.adv7194_planning.proofs.MapPlan.{plannable, plan-is}
 use Rattle.adv7194_planning.proofs.plan_change.Statement.{statement}
 use Rattle.adv7194_planning.proofs.plan_change.Tie as tie
@@ -27,23 +24,14 @@ same c =
     (c .writable-registers .ensures) (start c .pre)
 
 -- what packing answers and leaves is what it does of that plan
-packs : (c : tie.After-pack) (v : Packed) → c .pack .result ≡ v → (let a = start (c .before .before) .args in
-    let list = planOf (now (a .image)) (now (a .wanted)) in
-    (withoutField (answerOf v) ≡ withoutField (packingOf list (length (now (a .plan))))) × (c .pack .last .0 ≡ planAfter list (now (a .plan))))
-packs c v e =
-    let m = c .before .before in
-    let plan = now (start m .args .plan) in (
-      ap withoutField (sym (ap answerOf e) ∙ c .pack .ensures .0 ∙ ap (λ (ts : List Transaction). packingOf ts (length plan)) (same m)),
-      c .pack .ensures .1 ∙ ap (λ (ts : List Transaction). planAfter ts plan) (same m),
-    )
-
 returns : tie.Need-returns
-returns c = packs (c .before .before .before .before) TooShort (c .enum-told .given .1)
-
-returns-2 : tie.Need-returns-2
-returns-2 c =
-    let g = c .before .length .given in
-    packs (c .before .before .before .before .before) (Done (g .0 .0) (g .0 .1 .0) (g .0 .1 .1 .0)) (g .1)
+returns c =
+    let k = c .before .before in
+    let m = k .before .before in
+    let plan = now (start m .args .plan) in (
+      k .pack .ensures .0 ∙ ap (λ (ts : List Transaction). packingOf ts (length plan)) (same m),
+      k .pack .ensures .1 ∙ ap (λ (ts : List Transaction). planAfter ts plan) (same m),
+    )
 
 pack-requires : tie.Need-pack-requires
 pack-requires c κs =
@@ -61,8 +49,4 @@ plan-change-spec =
     (λ c κs. search needs)
     pack-requires
     (λ c. search needs)
-    (λ c. search needs)
-    (λ c. search needs)
-    returns
-    (λ c. search needs)
-    returns-2)
+    returns)

@@ -4,8 +4,8 @@ use Prim.Native.Nat.{ℕ}
 use borrow.Author.Needs.{needs}
 use Rattle.listing.specs.Lines.{refusedLine}
 use Rattle.listing.specs.Written.{lineOf}
-use Rattle.adv7194_planning.specs.declared.Planned.{Planned}
-use Rattle.adv7194_planning.specs.Planning.{answerOf}
+use Rattle.planning.specs.declared.plan.Planned.{Planned}
+use Rattle.planning.specs.Plan.{answerOf}
 use Rattle.house_listing.specs.HouseText.{firstLine}
 use Rattle.house_listing.proofs.first_line.Statement.{statement}
 use Rattle.house_listing.proofs.first_line.Tie as tie

@@ -11,10 +11,10 @@ use Rattle.unpacking.specs.Unpacking.{unpack}
 use Rattle.unpacking.specs.Listed.{listed, Accepted}
 use Rattle.listing.specs.Written.{wordOf}
 use Rattle.listing.proofs.LineLaws.{line-long, line-part}
-use Rattle.planning.specs.Plan.{Counts}
+use Rattle.planning.specs.Plan.{Counts, answerOf}
 use Rattle.refusals.specs.Verdict.{Verdict}
 use Rattle.adv7194_settings.specs.House.{house}
-use Rattle.adv7194_planning.specs.Planning.{planningOf, planLeft, answerOf}
+use Rattle.adv7194_planning.specs.Planning.{planningOf, planLeft}
 use Rattle.house_listing.specs.HouseText.{boardAddress, firstLine, packedBytes, textBelow}
 use Rattle.house_listing.proofs.AnswerLaws.{within, well-formed, text}
 use Rattle.house_listing.proofs.list_house.Statement.{statement}

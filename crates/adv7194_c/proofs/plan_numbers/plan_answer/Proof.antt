@@ -1,7 +1,7 @@
 -- `plan_answer` meets its contract, by the answer's cases. Assumes nothing.
 use mathlib.Core.Path.{sym, ap, _∙_}
 use borrow.Author.Needs.{needs}
-use Rattle.adv7194_planning.specs.Planning.{answerOf}
+use Rattle.planning.specs.Plan.{answerOf}
 use Rattle.adv7194_c.specs.Answers.{planAnswer}
 use Rattle.adv7194_c.proofs.plan_numbers.plan_answer.Statement.{statement}
 use Rattle.adv7194_c.proofs.plan_numbers.plan_answer.Tie as tie

@@ -73,13 +73,13 @@ pack-runs-requires c κs =
       fits = omega (arith, c .before .if1 .left, long p);
     }
 
-cast-t16 : tie.Need-cast-t16
-cast-t16 c =
+cast-t17 : tie.Need-cast-t17
+cast-t17 c =
     let p = c .before .before .before .before .before in
     omega (arith, p .packed-length .ensures, few p .0, few p .1)
 
-cast-t17 : tie.Need-cast-t17
-cast-t17 c =
+cast-t18 : tie.Need-cast-t18
+cast-t18 c =
     let p = c .before .before .before .before .before .before in
     omega (arith, c .bus-bytes .ensures, few p .0, few p .1)
 
@@ -104,8 +104,8 @@ pack-spec =
     returns
     (λ c. omega (arith, few (c .before .before) .0))
     pack-runs-requires
-    cast-t16
-    (λ c κs. tt)
     cast-t17
+    (λ c κs. tt)
+    cast-t18
     (λ c. search needs)
     returns-2)
