@@ -9,10 +9,9 @@ use lib.Bits.{bitXor, xor-mod}
 use lib.Dec.{T, eqb, eqb→eq, ltb, ltb→lt, lit<}
 use lib.Pow.{pow-pos, shr-shr}
 use Rattle.bits.specs.Strings.{lsbFirst, msbFirst, lsbValue}
-use Rattle.bits.proofs.StringLaws.{lsb-cat, msb-length, lsbValue-lt}
+use Rattle.bits.proofs.StringLaws.{lsb-cat, msb-length, lsbValue-lt, lsb-low}
 use Rattle.rounding.proofs.Range.{below, below-at}
 use Rattle.adv7194_signalling.specs.Check.{afterBit, afterBits, feedback, checkOf, sixOnes, reversed}
-use Rattle.adv7194_signalling.proofs.WordLaws.{lsb-low}
 
 -- a test at each register and each number below n
 abbrev each : ℕ → (ℕ → ℕ → Bool) → Bool

@@ -8,13 +8,13 @@ use native.Mathlib.Omega.{arith}
 use lib.IntN.{ℤ, natAbs}
 use lib.ListN.{getD}
 use Rattle.bits.specs.Maps.{has}
-use Rattle.bits.specs.Strings.{lsbFirst}
+use Rattle.bits.specs.Parity.{oddIn}
 use Rattle.refusals.specs.Refusal.{Judged, accepted, refused}
 use Rattle.rounding.proofs.First.{flag}
 use Rattle.field_table.specs.Blocks.{is}
 use Rattle.adv7194_signalling.specs.Numbers.{within, numberTop}
 use Rattle.adv7194_signalling.specs.Cgms.{CgmsHeld, cgmsOf, cgmsHeld}
-use Rattle.adv7194_signalling.specs.Wss.{WssHeld, oddOnes, wssOf, wssHeld}
+use Rattle.adv7194_signalling.specs.Wss.{WssHeld, wssOf, wssHeld}
 use Rattle.adv7194_signalling.specs.Kind.{Signalling, off, cgms, wss, kindOf, kindBy}
 use Rattle.adv7194_signalling.specs.Signalling.{numberOf, signallingCodes, cgmsNumbers, wssNumbers, heldAs, signallingHeld}
 use Rattle.adv7194_signalling.specs.declared.cgms.CgmsSetting.{CgmsSetting}
@@ -37,10 +37,10 @@ cgms-refused payload odd even chip n e = go (flag (inside payload odd even chip)
 
 wss-refused : (z : ℤ) (n : ℕ) → wssOf z ≡ refused n → (n ≡ 3) ⊎ (n ≡ 4)
 unfolding wssOf
-wss-refused z n h = go (flag (within numberTop z)) (flag (oddOnes (lsbFirst 4 (natAbs z))))
+wss-refused z n h = go (flag (within numberTop z)) (flag (oddIn 4 (natAbs z)))
   where
     go : (within numberTop z ≡ true) ⊎ (within numberTop z ≡ false)
-        → (oddOnes (lsbFirst 4 (natAbs z)) ≡ true) ⊎ (oddOnes (lsbFirst 4 (natAbs z)) ≡ false) → (n ≡ 3) ⊎ (n ≡ 4)
+        → (oddIn 4 (natAbs z) ≡ true) ⊎ (oddIn 4 (natAbs z) ≡ false) → (n ≡ 3) ⊎ (n ≡ 4)
     go (inl t) (inl o) =
         let c = wss-coded z t o in
         let z : _≡_ {A = ℕ} 0 1 = cc in

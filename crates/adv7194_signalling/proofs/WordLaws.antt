@@ -1,4 +1,4 @@
--- The number of a word's bits, lowest first: of two parts, of its first bits, and of the rest; its lowest bits; and its three bytes. Assumes nothing.
+-- The number of a word's bits, lowest first: of two parts, of its first bits, and of the rest; and its three bytes. Assumes nothing.
 use mathlib.Core.Path.{_≡_, refl, sym, ap, _∙_}
 use mathlib.Core.Bool.{Bool, true, false}
 use mathlib.Core.List.{List, [], _∷_, _++_}
@@ -10,8 +10,7 @@ use lib.Dec.{eqb}
 use lib.ListN.{length, take, drop}
 use lib.Pow.{pow-pos, mod-pow-add}
 use Rattle.bits.proofs.DigitLaws.{half-shr}
-use Rattle.bits.specs.Strings.{lsbFirst, lsbValue, bitValue}
-use Rattle.bits.proofs.StringLaws.{lsb-length, lsb-mod, lsb-bits}
+use Rattle.bits.specs.Strings.{lsbValue, bitValue}
 use Rattle.adv7194_signalling.specs.Word.{registerBytes}
 
 -- a bit's number
@@ -49,10 +48,6 @@ value-drop (suc n) (b ∷ bs) =
     let v = bitValue b + 2 * lsbValue bs in
     let half : v / 2 ≡ lsbValue bs = omega (arith, bit-lt b) in
     value-drop n bs ∙ ap (λ (x : ℕ). x / 2 ^ n) (sym half) ∙ half-shr v n
-
--- a number's w lowest bits are those of its remainder by 2 ^ w
-pub lsb-low : (w n : ℕ) → lsbFirst w (n % 2 ^ w) ≡ lsbFirst w n
-lsb-low w n = rw (lsb-length w n, lsb-mod w n) at (lsb-bits (lsbFirst w n))
 
 -- the three bytes of a word's number, of 19, 1A and 1B
 abbrev pub wordBytes : ℕ → List ℕ

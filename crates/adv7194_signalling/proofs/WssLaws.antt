@@ -1,25 +1,21 @@
--- The number of a WSS word, and the odd count of its four lowest bits. Assumes nothing.
+-- The number of a WSS word, and the coding of a number whose four lowest bits hold an odd number of ones. Assumes nothing.
 use mathlib.Core.Path.{_≡_, sym, ap, _∙_}
-use mathlib.Core.Bool.{true, false, xor, Bool·beq}
+use mathlib.Core.Bool.{true, false}
 use mathlib.Core.List.{List, [], _∷_, _++_}
 use mathlib.Core.Logic.{_⊎_, inl, inr}
-use Prim.Native.Nat.{ℕ, _+_, _*_, _%_, _^_, _<_}
-use native.Mathlib.Nat.{mod-lt}
+use Prim.Native.Nat.{ℕ, _+_, _*_, _^_, _<_}
 use native.Mathlib.Omega.{arith}
-use lib.Count.{ones}
-use lib.Dec.{eqb, lit<}
 use lib.IntN.{ℤ, natAbs}
 use lib.ListN.{replicate}
 use Rattle.bits.specs.Strings.{lsbFirst, lsbValue}
+use Rattle.bits.specs.Parity.{oddIn}
 use Rattle.bits.proofs.StringLaws.{lsb-length, lsb-value}
 use Rattle.rounding.proofs.First.{flag}
-use Rattle.rounding.proofs.Range.{below-at}
 use Rattle.refusals.specs.Refusal.{accepted, refused}
 use Rattle.adv7194_signalling.specs.Numbers.{within, numberTop}
-use Rattle.adv7194_signalling.specs.Wss.{oddOnes, wssBits, wssOf}
-use Rattle.adv7194_signalling.proofs.FlagLaws.{same}
+use Rattle.adv7194_signalling.specs.Wss.{wssBits, wssOf}
 use Rattle.adv7194_signalling.proofs.NumberLaws.{Within, is-within, within-only}
-use Rattle.adv7194_signalling.proofs.WordLaws.{value-append, lsb-low, wordBytes, bytes-of-value, bytes-only}
+use Rattle.adv7194_signalling.proofs.WordLaws.{value-append, wordBytes, bytes-of-value, bytes-only}
 
 -- the number of a WSS word
 pub wss-value : (number : ℕ) → number < 2 ^ 14 → lsbValue (wssBits number) ≡ number + 0x800000
@@ -30,14 +26,8 @@ wss-value number h =
     rw (lsb-length 14 number) at (value-append (lsbFirst 14 number) upper) in
     omega (arith, whole, lsb-value 14 number h)
 
--- the count of ones is the definition's
-pub odd-count : (n : ℕ) → eqb (ones (n % 16) % 2) 1 ≡ oddOnes (lsbFirst 4 n)
-unfolding ones oddOnes lsbFirst xor
-odd-count n =
-    same _ _ (below-at (λ m. Bool·beq (eqb (ones m % 2) 1) (oddOnes (lsbFirst 4 m))) 16 tt (n % 16) (mod-lt n (lit< tt))) ∙ ap oddOnes (lsb-low 4 n)
-
 -- the coding of a number in its range whose four lowest bits hold an odd number of ones
-pub wss-coded : (z : ℤ) → within numberTop z ≡ true → oddOnes (lsbFirst 4 (natAbs z)) ≡ true → wssOf z ≡ accepted (wordBytes (natAbs z + 0x800000))
+pub wss-coded : (z : ℤ) → within numberTop z ≡ true → oddIn 4 (natAbs z) ≡ true → wssOf z ≡ accepted (wordBytes (natAbs z + 0x800000))
 unfolding wssOf
 wss-coded z inside odd =
     rw (inside, odd)
@@ -46,15 +36,15 @@ wss-coded z inside odd =
 -- a number that bytes code is in its range, has the odd count, and its word is theirs
 pub record Coded (z : ℤ) (bytes : List ℕ) : Type 0 where
   pub in-range : Within numberTop z
-  pub odd : oddOnes (lsbFirst 4 (natAbs z)) ≡ true
+  pub odd : oddIn 4 (natAbs z) ≡ true
   pub bytes-are : wordBytes (natAbs z + 0x800000) ≡ bytes
 
 pub is-coded : (z : ℤ) (bytes : List ℕ) → wssOf z ≡ accepted bytes → Coded z bytes
 unfolding wssOf
-is-coded z bytes h = go (flag (within numberTop z)) (flag (oddOnes (lsbFirst 4 (natAbs z))))
+is-coded z bytes h = go (flag (within numberTop z)) (flag (oddIn 4 (natAbs z)))
   where
     go : (within numberTop z ≡ true) ⊎ (within numberTop z ≡ false)
-        → (oddOnes (lsbFirst 4 (natAbs z)) ≡ true) ⊎ (oddOnes (lsbFirst 4 (natAbs z)) ≡ false) → Coded z bytes
+        → (oddIn 4 (natAbs z) ≡ true) ⊎ (oddIn 4 (natAbs z) ≡ false) → Coded z bytes
     go (inl t) (inl o) = let c = wss-coded z t o in record { in-range = is-within numberTop z t; odd = o; bytes-are = cc }
     go (inl t) (inr e) =
         let c : wssOf z ≡ refused 4 = rw (t, e) in

@@ -1,22 +1,18 @@
 -- Document 01, "WSS": the setting is a number of 0 to 16383, W0 its lowest bit. W0-W7 in bits 0-7 of 1B, W8-W13 in bits 0-5 of 1A, bit 7
 -- of 19 set; the other bits of 19 and 1A are zero. W0 to W3 hold an odd number of ones.
-use mathlib.Core.Bool.{Bool, true, false, cond, xor}
+use mathlib.Core.Bool.{Bool, true, false, cond}
 use mathlib.Core.List.{List, [], _∷_, _++_}
 use Prim.Native.Nat.{ℕ}
 use lib.IntN.{ℤ, pos, natAbs}
 use lib.ListN.{replicate}
 use Rattle.bits.specs.Strings.{lsbFirst}
+use Rattle.bits.specs.Parity.{oddIn}
 use Rattle.refusals.specs.Refusal.{Judged, accepted, refused, numberOf}
 use Rattle.adv7194_signalling.specs.Numbers.{within, numberTop}
 use Rattle.adv7194_signalling.specs.Held.{Held, heldBy, numberIn}
 use Rattle.adv7194_signalling.specs.declared.wss.WssRead.{WssRead}
 use Rattle.adv7194_signalling.specs.declared.wss.WssRead.the-variants as read
 use Rattle.adv7194_signalling.specs.Word.{registerBytes}
-
--- whether an odd number of the bits are ones
-unfoldable pub oddOnes : List Bool → Bool
-oddOnes [] = false
-oddOnes (b ∷ bs) = xor b (oddOnes bs)
 
 -- the word's 24 bits: W0 to W13, zeros, and bit 7 of 19
 unfoldable pub wssBits : ℕ → List Bool
@@ -26,7 +22,7 @@ wssBits number = lsbFirst 14 number ++ (replicate 9 false ++ (true ∷ []))
 unfoldable pub wssOf : ℤ → Judged (List ℕ)
 wssOf number =
     cond (within numberTop number)
-    (cond (oddOnes (lsbFirst 4 (natAbs number))) (accepted (registerBytes (wssBits (natAbs number)))) (refused 4))
+    (cond (oddIn 4 (natAbs number)) (accepted (registerBytes (wssBits (natAbs number)))) (refused 4))
     (refused 3)
 
 -- what the reader of a number answers

@@ -1,14 +1,14 @@
 // WSS: a number of 14 bits, of which the four lowest hold an odd number of ones.
 ghost use mathlib.Core.Path.{_≡_};
-ghost use Rattle.bits.specs.Strings.{lsbFirst};
 ghost use Rattle.adv7194_signalling.specs.Word.{threeBytes, codedAs};
-ghost use Rattle.adv7194_signalling.specs.Wss.{oddOnes, wssOf, wssHeld, WssHeld, wssReadAs};
+ghost use Rattle.adv7194_signalling.specs.Wss.{wssOf, wssHeld, WssHeld, wssReadAs};
 use crate::numbers::NUMBER_TOP;
 use crate::numbers::within;
 use crate::registers::Coded;
 use crate::registers::Registers;
 use crate::word::joined;
 use crate::word::split;
+use bits::parity::odd_ones;
 use refusals::Refusal;
 
 // The setting that registers hold, a number, or the refusal.
@@ -23,12 +23,8 @@ const PAST_NUMBER: u32 = 0x4000;
 // Bit 7 of register 19 in the word.
 const WSS: u32 = 0x80_0000;
 
-// Whether W0 to W3 hold an odd number of ones.
-fn odd_ones(number: u32) -> bool
-    ensures answer { λ r. ⌜ r ≡ oddOnes (lsbFirst 4 number) ⌝ }
-{
-    u32::count_ones(number % 16) % 2 == 1
-}
+// How many bits hold an odd number of ones: W0 to W3.
+const ODD_WIDTH: u32 = 4;
 
 // The registers of a WSS number, or refusal 3 or 4.
 pub fn wss_code(number: i32) -> Coded
@@ -36,7 +32,7 @@ pub fn wss_code(number: i32) -> Coded
 {
     if within(number, NUMBER_TOP) {
         let w = number as u32;
-        if odd_ones(w) {
+        if odd_ones(w, ODD_WIDTH) {
             return Coded::Registers(split(w + WSS));
         }
         return Coded::Refused(Refusal::Reserved);
@@ -51,7 +47,7 @@ pub fn wss_setting(registers: Registers) -> WssRead
 {
     let word = joined(registers);
     let number = word % PAST_NUMBER;
-    if (number + WSS == word) & odd_ones(number) {
+    if (number + WSS == word) & odd_ones(number, ODD_WIDTH) {
         return WssRead::Setting(number as i32);
     }
     WssRead::Refused(Refusal::Reserved)

@@ -1,7 +1,7 @@
 -- `wss::wss_setting` meets its contract: the word is the one that codes its number, and no other number is coded so. Assumes nothing.
 use mathlib.Core.Path.{_≡_, refl, sym, ap, _∙_}
 use mathlib.Core.Bool.{true, true≢false}
-use Prim.Native.Nat.{ℕ, _+_, _%_}
+use Prim.Native.Nat.{_+_, _%_}
 use native.Mathlib.Omega.{arith}
 use lib.Dec.{eqb}
 use lib.IntN.{pos, natAbs}
@@ -9,10 +9,9 @@ use mir.Syntax.{w32}
 use mir.ValLaws.{toZ-pos}
 use borrow.Author.Tests.{eqb-true, eq-eqb}
 use borrow.Author.Needs.{needs}
-use Rattle.bits.specs.Strings.{lsbFirst}
+use Rattle.bits.specs.Parity.{oddIn}
 use Rattle.refusals.specs.Refusal.{accepted}
 use Rattle.adv7194_signalling.specs.Word.{threeBytes}
-use Rattle.adv7194_signalling.specs.Wss.{oddOnes}
 use Rattle.adv7194_signalling.specs.Numbers.{numberTop}
 use Rattle.adv7194_signalling.proofs.FlagLaws.{both}
 use Rattle.adv7194_signalling.proofs.NumberLaws.{rest-within}
@@ -44,7 +43,7 @@ returns-2 c = wss-both _ _ (
       let e : natAbs s + 0x800000 ≡ w = joined-only _ (r .r19) (r .r1a) (r .r1b) (held .bytes-are) ∙ sym (j .joined .ensures) in
       let n : w % 0x4000 ≡ natAbs s = omega (arith, held .in-range .most) in
       let t : eqb (w % 0x4000 + 0x800000) w ≡ true = eq-eqb (w % 0x4000 + 0x800000) w (omega arith) in
-      let o : c .before .odd-ones .result ≡ true = c .before .odd-ones .ensures ∙ ap (λ (x : ℕ). oddOnes (lsbFirst 4 x)) n ∙ held .odd in
+      let o : c .before .odd-ones .result ≡ true = c .before .odd-ones .ensures ∙ ap (oddIn 4) n ∙ held .odd in
       true≢false (rw (t, o) at (c .if1 .left)),
 )
 
