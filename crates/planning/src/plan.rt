@@ -31,7 +31,7 @@ pub enum Planned {
 }
 
 // The bytes of a packed plan with that many transactions and that many data bytes in all.
-fn packed_length(transactions: u32, data_bytes: u32) -> u64
+pub fn packed_length(transactions: u32, data_bytes: u32) -> u64
     ensures answer { λ r. ⌜ r ≡ packedLength transactions «data_bytes» ⌝ }
 {
     let bits = FIELD_BITS + HEADER_BITS * transactions as u64 + BYTE_BITS * data_bytes as u64;
