@@ -12,3 +12,7 @@ AddressFault a = (a % 2 ≡ 1) ⊎ (254 < a)
 -- a bus address is right where it is even and not above 254
 abbrev pub addressRight : ℕ → Bool
 addressRight a = leb a 254 && eqb (a % 2) 0
+
+-- the bus address of the chip on the boards
+abbrev pub boardAddress : ℕ
+boardAddress = 0x54

@@ -24,6 +24,9 @@ pub const BARRED: u64 = 0x10_0000_001E_0000;
 // The map of the subcarrier word's registers, 0C to 0F.
 pub const WORD: u64 = 0xF000;
 
+// The bus address of the chip on the boards.
+pub const BOARD_ADDRESS: u32 = 0x54;
+
 // The highest bus address that a chip writes at.
 const HIGHEST_ADDRESS: u32 = 254;
 

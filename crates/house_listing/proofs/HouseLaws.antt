@@ -17,7 +17,9 @@ use Rattle.text.specs.Text.{leading, decimal}
 use Rattle.listing.specs.Lines.{countsLine, refusedLine}
 use Rattle.plan_listing.specs.PlanText.{planText}
 use Rattle.plan_listing.proofs.TextLaws.{first-length, text-length}
+use Rattle.answer_listing.specs.AnswerText.{answerText}
 use Rattle.adv7194_bus.specs.Kind.{registerCount}
+use Rattle.adv7194_bus.specs.Address.{boardAddress}
 use Rattle.field_table.specs.Coding.{encode}
 use Rattle.field_table.specs.Blocks.{numbersFrom}
 use Rattle.adv7194_table.specs.Fields.{numberCount, timing, output, picture, dnr}
@@ -33,7 +35,7 @@ use Rattle.adv7194_least.proofs.Room.{plan-bits, plan-room}
 use Rattle.adv7194_planning.specs.Rows.{listOf}
 use Rattle.adv7194_planning.proofs.CaseLaws.{wrong-length, no-row}
 use Rattle.adv7194_planning.proofs.Clauses.{change}
-use Rattle.house_listing.specs.HouseText.{boardAddress, answerText, houseTextIn, houseText}
+use Rattle.house_listing.specs.HouseText.{houseTextIn, houseText}
 
 -- the most bytes of a text
 abbrev pub mostText : ℕ

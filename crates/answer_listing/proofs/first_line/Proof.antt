@@ -1,4 +1,4 @@
--- `first_line` meets its contract: what planning answered decides the line. Assumes nothing.
+-- `first_line` meets its contract: what the planner answered decides the line. Assumes nothing.
 use mathlib.Core.Path.{sym, ap, _∙_}
 use Prim.Native.Nat.{ℕ}
 use borrow.Author.Needs.{needs}
@@ -6,9 +6,9 @@ use Rattle.listing.specs.Lines.{refusedLine}
 use Rattle.listing.specs.Written.{lineOf}
 use Rattle.planning.specs.declared.plan.Planned.{Planned}
 use Rattle.planning.specs.Plan.{answerOf}
-use Rattle.house_listing.specs.HouseText.{firstLine}
-use Rattle.house_listing.proofs.first_line.Statement.{statement}
-use Rattle.house_listing.proofs.first_line.Tie as tie
+use Rattle.answer_listing.specs.AnswerText.{firstLine}
+use Rattle.answer_listing.proofs.first_line.Statement.{statement}
+use Rattle.answer_listing.proofs.first_line.Tie as tie
 
 returns : tie.Need-returns
 returns c =

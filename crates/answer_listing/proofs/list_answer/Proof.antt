@@ -22,9 +22,9 @@ use Rattle.plan_listing.proofs.Listed as list
 use Rattle.plan_listing.specs.declared.Listed.the-variants.{After as ListedAfter, TooShort as ListedTooShort, Refused as ListedRefused}
 use Rattle.plan_listing.specs.PlanText.{transactionLines}
 use Rattle.plan_listing.specs.Listing.{listingOf, listingIn, listedAs}
-use Rattle.house_listing.specs.HouseText.{linesBelow, textBelow}
-use Rattle.house_listing.proofs.list_answer.Statement.{statement}
-use Rattle.house_listing.proofs.list_answer.Tie as tie
+use Rattle.answer_listing.specs.AnswerText.{linesBelow, textBelow}
+use Rattle.answer_listing.proofs.list_answer.Statement.{statement}
+use Rattle.answer_listing.proofs.list_answer.Tie as tie
 
 -- no line follows another word
 alone : (w : Word) (ts : List Transaction) → OneOf (1 ∷ 2 ∷ []) (tagOf word.the-type w) → linesBelow w ts ≡ []
