@@ -4,8 +4,10 @@
  * them.
  */
 #include "adv7194.h"
+#include "captions.h"
 #include "compare.h"
 #include "lent.h"
+#include "players.h"
 #include "transactions.h"
 
 /* An even address, and another. */
@@ -64,23 +66,11 @@ static adv7194_plan_answer plan(const char *what, bytes *image, size_t image_len
     return answer;
 }
 
-/* Plays and checks the answer, that inputs are kept, and that after a refusal all is. */
+/* Plays settings. */
 static void play(const char *what, bytes *image, size_t image_len, uint32_t used, uint32_t own,
                  const uint8_t *packed, size_t packed_len, uint32_t refusal, uint32_t acknowledged)
 {
-    bytes lent, lent_before, image_before = *image;
-    fill_bytes(&lent, BEFORE_BYTE);
-    if (packed_len > 0)
-        memcpy(lent.at, packed, packed_len);
-    lent_before = lent;
-    adv7194_play_answer answer = adv7194_play(image->at, image_len, used, own, lent.at, packed_len);
-    bool right = answer.refusal == refusal && answer.field == 0 && answer.acknowledged == acknowledged;
-    bool kept = memcmp(&lent, &lent_before, sizeof lent) == 0;
-    if (acknowledged == 0)
-        kept = kept && memcmp(image, &image_before, sizeof *image) == 0;
-    memcpy(image_before.at, image->at, ADV7194_REGISTERS);
-    kept = kept && memcmp(image, &image_before, sizeof *image) == 0;
-    check(what, right && kept);
+    play_by(adv7194_play, what, image, image_len, used, own, packed, packed_len, refusal, acknowledged);
 }
 
 /* Reads and checks the answer, that the image is kept, and that after a refusal all is. */
@@ -315,6 +305,7 @@ int main(void)
     test_transaction();
     test_read(&image);
     test_compare(&image);
+    test_captions();
     test_null(&image);
     printf("%d passed, %d failed\n", passed, failed);
     return failed == 0 ? 0 : 1;

@@ -1,9 +1,10 @@
 /*
- * Plans, plays, reads back and compares the settings of ADV7194 video encoders.
+ * Plans, plays, reads back and compares the settings of ADV7194 video encoders,
+ * and plans, plays and reads back their captions.
  *
  * An image is the chip's 54 registers, one byte each. Settings are 49 numbers.
- * A packed plan is a list of write transactions, as adv7194_plan makes it and
- * adv7194_transaction takes it apart.
+ * A packed plan is a list of write transactions, as adv7194_plan and
+ * adv7194_plan_captions make it and adv7194_transaction takes it apart.
  *
  * Each lent memory is a pointer followed by its length, in elements. A null
  * pointer is allowed with length 0. Lent memories of one call must not overlap.
@@ -40,6 +41,8 @@ extern "C" {
 #define ADV7194_DATA_ROOM 63
 /* Bytes of a gamma curve. */
 #define ADV7194_CURVE_BYTES 7
+/* Room for the longest packed plan of captions. */
+#define ADV7194_CAPTION_ROOM 8
 
 /*
  * The settings' numbers, in field order. A yes is 1, a no is 0. Numbers that a
@@ -95,13 +98,17 @@ enum { ADV7194_OFF = 0, ADV7194_CGMS = 1, ADV7194_WSS = 2 };
 /* Kinds of gamma curves. Reading always gives bytes. */
 enum { ADV7194_RATIO = 0, ADV7194_BYTES = 1 };
 
+/* Pairs of captions, as they are read back. */
+enum { ADV7194_EXTENDED = 0, ADV7194_ORDINARY = 1 };
+
 /* Refusals. Each comes with the number of the field at fault, or 0. */
 enum {
     ADV7194_ACCEPTED = 0,
     ADV7194_IMAGE_LENGTH = 1,        /* an image isn't 54 bytes */
     ADV7194_ADDRESS = 2,             /* a bus address is odd or above 254 */
-    ADV7194_OUT_OF_RANGE = 3,        /* a number is outside its range, or (field 0) the settings aren't 49, or no such transaction */
-    ADV7194_RESERVED = 4,            /* a code is reserved, a must-be-zero bit is set, or WSS breaks its odd count */
+    ADV7194_OUT_OF_RANGE = 3,        /* a number is outside its range, or (field 0) the settings aren't 49, or no such transaction,
+                                      * or (field 29) no pair of captions, or not two characters in one */
+    ADV7194_RESERVED = 4,            /* a code is reserved, a must-be-zero bit is set, or WSS or a caption byte breaks its odd count */
     ADV7194_SQUARE_FOUR_TIMES = 5,   /* square pixel with 4x oversampling */
     ADV7194_PEDESTAL_PAL = 6,        /* pedestal with PAL */
     ADV7194_WRONG_SIGNALLING = 7,    /* CGMS with PAL, WSS with NTSC, CGMS for neither field, or both at once */
@@ -110,8 +117,9 @@ enum {
     ADV7194_PLAN_TOO_SHORT = 10      /* the lent plan is shorter than the packed plan, or the lent data than the transaction's */
 };
 
-/* The field number of the subcarrier word, which is worked out and not set. */
-enum { ADV7194_FIELD_WORD = 28 };
+/* The field numbers of the subcarrier word, which is worked out and not set, and
+ * of captions, which are no setting: 29 only ever comes with a refusal. */
+enum { ADV7194_FIELD_WORD = 28, ADV7194_FIELD_CAPTIONS = 29 };
 
 /*
  * A packed plan, bit by bit, each number with its most significant bit first
@@ -180,6 +188,14 @@ typedef struct {
     uint64_t registers; /* bit r is set where register r differs in bits outside all fields */
 } adv7194_compare_answer;
 
+/* What reading a pair of captions answers. */
+typedef struct {
+    uint32_t refusal; /* a refusal, or 0 */
+    uint32_t field;   /* the field at fault, or 0 */
+    uint32_t first;   /* the first character, 0 to 127 */
+    uint32_t second;  /* the second one */
+} adv7194_captions_answer;
+
 /*
  * Packs into `plan` the least list of write transactions that brings a chip
  * holding `image` to the settings: the fewest bus bytes, then the fewest
@@ -238,6 +254,44 @@ adv7194_read_answer adv7194_read(const uint8_t *image, size_t image_len,
  */
 adv7194_compare_answer adv7194_compare(const uint8_t *a, size_t a_len,
                                        const uint8_t *b, size_t b_len);
+
+/*
+ * Packs into `plan` the transactions that write captions: two characters, 0 to
+ * 127, of the extended pair (registers 11 and 12), of the ordinary pair (13 and
+ * 14), or of both, the extended one first. A pair of length 0 isn't written.
+ * Each character leaves with bit 7 making its ones odd in number (EIA-608), the
+ * first one to the lower register. Bytes of `plan` past the packed plan stay as
+ * they were.
+ *
+ * `extended` and `ordinary` may be the same memory. Refuses, in this order: 2; 3
+ * with field 29 for a pair of another length than 2 or 0, a character outside 0
+ * to 127, or no pair at all; 10.
+ */
+adv7194_plan_answer adv7194_plan_captions(const int32_t *extended, size_t extended_len,
+                                          const int32_t *ordinary, size_t ordinary_len,
+                                          uint32_t address,
+                                          uint8_t *plan, size_t plan_len);
+
+/*
+ * Plays a packed `plan` of captions, sent to the address `used`, on a chip that
+ * holds `image` and has the address `own`. `image` becomes what the chip then
+ * holds. Where the addresses differ nothing is stored and nothing acknowledged.
+ *
+ * Refuses, in this order: 1; 2 for either address; 9 for every plan that
+ * adv7194_plan_captions doesn't make. adv7194_play refuses those it makes, by 9.
+ */
+adv7194_play_answer adv7194_play_captions(uint8_t *image, size_t image_len,
+                                          uint32_t used, uint32_t own,
+                                          const uint8_t *plan, size_t plan_len);
+
+/*
+ * Reads a pair of captions back: the two characters that `image` holds in it.
+ *
+ * Refuses, in this order: 1; 3 with field 29 where `pair` is neither 0 nor 1; 4
+ * with field 29 where a byte of the pair has an even number of ones.
+ */
+adv7194_captions_answer adv7194_read_captions(const uint8_t *image, size_t image_len,
+                                              uint32_t pair);
 
 #ifdef __cplusplus
 }

@@ -6,8 +6,8 @@ use Rattle.adv7194_compare.specs.declared.Compared.{Compared}
 use Rattle.adv7194_compare.specs.declared.Compared.the-variants.{Done, Refused}
 use Rattle.adv7194_compare.specs.Differences.{Equal}
 use Rattle.adv7194_compare.specs.Compare.{comparedAs, compareOf, OnlyEqual}
-use Rattle.adv7194_c.specs.declared.compare_numbers.CompareAnswer.{CompareAnswer}
-use Rattle.adv7194_c.specs.Answers.{compareAnswer, NothingDiffers}
+use Rattle.adv7194_answers.specs.declared.compare_numbers.CompareAnswer.{CompareAnswer}
+use Rattle.adv7194_answers.specs.Answers.{compareAnswer, NothingDiffers}
 use Rattle.adv7194_c.proofs.Promises.{numbered}
 
 -- all that comparing promises of the numbers answered

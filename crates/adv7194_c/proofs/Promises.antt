@@ -18,8 +18,8 @@ use Rattle.adv7194_planning.specs.Rows.{listOf}
 use Rattle.planning.specs.Plan.{answerOf}
 use Rattle.adv7194_planning.specs.Planning.{planningOf, planLeft}
 use Rattle.adv7194_planning.proofs.Clauses.{Clauses}
-use Rattle.adv7194_c.specs.declared.plan_numbers.PlanAnswer.{PlanAnswer}
-use Rattle.adv7194_c.specs.Answers.{planAnswer}
+use Rattle.adv7194_answers.specs.declared.plan_numbers.PlanAnswer.{PlanAnswer}
+use Rattle.adv7194_answers.specs.Answers.{planAnswer}
 
 -- all that planning promises of the numbers answered, and of what it leaves of the lent plan
 abbrev pub Promises : List ℕ → List ℤ → ℕ → List ℕ → List ℕ → PlanAnswer → Type 0

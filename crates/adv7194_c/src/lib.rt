@@ -1,5 +1,5 @@
-// What C and Rust link: planning, playing, reading and comparing with settings and answers as numbers, and a plan's transactions. A slice is a pointer and
-// a length.
+// What C and Rust link: planning, playing, reading and comparing with settings and answers as numbers, planning, playing and reading captions, and a
+// plan's transactions. A slice is a pointer and a length.
 ghost use mathlib.Core.Path.{_≡_};
 ghost use Prim.Native.Nat.{_<_};
 ghost use lib.ListN.{length, take};
@@ -8,33 +8,36 @@ ghost use Rattle.unpacking.specs.Indexed.{transactionOf, headerOf, dataAfter};
 ghost use Rattle.adv7194_settings.specs.Wanted.{wantedBy};
 ghost use Rattle.adv7194_settings.specs.Demand.{Demanded};
 ghost use Rattle.adv7194_settings.specs.Reading.{readOf, readLeft};
+ghost use Rattle.adv7194_captions.specs.Planning.{captionPlanning, captionPlanLeft};
+ghost use Rattle.adv7194_captions.specs.Reading.{captionReading};
 ghost use Rattle.adv7194_least.specs.Demands.{Played, Counted, Least, Only, mostBytes};
 ghost use Rattle.adv7194_planning.specs.Rows.{listOf};
 ghost use Rattle.adv7194_planning.specs.Planning.{planningOf, planLeft};
+ghost use Rattle.adv7194_playing.specs.declared.PlanKind.the-variants.{Settings, Captions};
 ghost use Rattle.adv7194_playing.specs.Playing.{playOf, playedImage};
 ghost use Rattle.adv7194_compare.specs.Differences.{Equal};
 ghost use Rattle.adv7194_compare.specs.Compare.{compareOf};
-ghost use Rattle.adv7194_c.specs.Answers.{planAnswer, playAnswer, readAnswer, transactionAnswer, compareAnswer, NothingDiffers};
-use crate::compare_numbers::CompareAnswer;
-use crate::compare_numbers::compare_answer;
-use crate::plan_numbers::PlanAnswer;
-use crate::plan_numbers::plan_answer;
-use crate::play_numbers::PlayAnswer;
-use crate::play_numbers::play_answer;
-use crate::read_numbers::ReadAnswer;
-use crate::read_numbers::read_answer;
-use crate::transaction_numbers::TransactionAnswer;
-use crate::transaction_numbers::transaction_answer;
+ghost use Rattle.adv7194_caption_planning.specs.Demands.{CaptionsPlayed, captionBytes};
+ghost use Rattle.adv7194_answers.specs.Answers.{planAnswer, playAnswer, readAnswer, captionsAnswer, transactionAnswer, compareAnswer, NothingDiffers};
+use adv7194_answers::captions_numbers::CaptionsAnswer;
+use adv7194_answers::captions_numbers::captions_answer;
+use adv7194_answers::compare_numbers::CompareAnswer;
+use adv7194_answers::compare_numbers::compare_answer;
+use adv7194_answers::plan_numbers::PlanAnswer;
+use adv7194_answers::plan_numbers::plan_answer;
+use adv7194_answers::play_numbers::PlayAnswer;
+use adv7194_answers::play_numbers::play_answer;
+use adv7194_answers::read_numbers::ReadAnswer;
+use adv7194_answers::read_numbers::read_answer;
+use adv7194_answers::transaction_numbers::TransactionAnswer;
+use adv7194_answers::transaction_numbers::transaction_answer;
+use adv7194_caption_planning::plan_captions;
+use adv7194_caption_reading::read_captions;
 use adv7194_compare::compare;
+use adv7194_playing::PlanKind;
 use adv7194_playing::play;
 use adv7194_reading::read;
 use unpacking::indexed::transaction;
-
-mod compare_numbers;
-mod plan_numbers;
-mod play_numbers;
-mod read_numbers;
-mod transaction_numbers;
 
 // Plans the settings over an image, for the chip at a bus address, into the lent plan.
 #[no_mangle]
@@ -56,13 +59,13 @@ pub extern "C" fn adv7194_plan(
     plan_answer(adv7194_planning::plan(image, settings, address, plan))
 }
 
-// Plays a packed plan, sent at the address used, against a fresh chip of its own address that holds the image.
+// Plays a packed plan of settings, sent at the address used, against a fresh chip of its own address that holds the image.
 #[no_mangle]
 pub extern "C" fn adv7194_play(image: &mut [u8], used: u32, own: u32, plan: &[u8]) -> PlayAnswer
-    ensures answer { λ r. ⌜ r ≡ playAnswer (playOf (now (image .entry)) used own (now (plan .entry))) ⌝ }
-    ensures memory { λ r. ⌜ now (image .exit) ≡ playedImage (now (image .entry)) used own (now (plan .entry)) ⌝ }
+    ensures answer { λ r. ⌜ r ≡ playAnswer (playOf Settings (now (image .entry)) used own (now (plan .entry))) ⌝ }
+    ensures memory { λ r. ⌜ now (image .exit) ≡ playedImage Settings (now (image .entry)) used own (now (plan .entry)) ⌝ }
 {
-    play_answer(play(image, used, own, plan))
+    play_answer(play(PlanKind::Settings, image, used, own, plan))
 }
 
 // Reads an image into the lent settings.
@@ -91,4 +94,42 @@ pub extern "C" fn adv7194_compare(a: &[u8], b: &[u8]) -> CompareAnswer
     ensures only { λ r. ⌜ (NothingDiffers r → Equal (now (a .entry)) (now (b .entry))) ⌝ }
 {
     compare_answer(compare(a, b))
+}
+
+// Plans one or both pairs of characters, for the chip at a bus address, into the lent plan. A pair is two numbers, or none where it is not given.
+#[no_mangle]
+pub extern "C" fn adv7194_plan_captions(
+    extended: &[i32],
+    ordinary: &[i32],
+    address: u32,
+    plan: &mut [u8],
+) -> PlanAnswer
+    ensures answer { λ r. ⌜ r ≡ planAnswer (captionPlanning (now (extended .entry)) (now (ordinary .entry)) address (length (now (plan .entry)))) ⌝ }
+    ensures memory { λ r. ⌜ now (plan .exit) ≡ captionPlanLeft (now (extended .entry)) (now (ordinary .entry)) address (now (plan .entry)) ⌝ }
+    ensures played { λ r. ⌜ (r .refusal ≡ 0 → CaptionsPlayed (now (extended .entry)) (now (ordinary .entry)) (take (r .length) (now (plan .exit)))) ⌝ }
+    ensures room { λ r. ⌜ (r .refusal ≡ 10 → length (now (plan .entry)) < captionBytes) ⌝ }
+{
+    plan_answer(plan_captions(extended, ordinary, address, plan))
+}
+
+// Plays a packed plan of captions as `adv7194_play` plays one of settings.
+#[no_mangle]
+pub extern "C" fn adv7194_play_captions(
+    image: &mut [u8],
+    used: u32,
+    own: u32,
+    plan: &[u8],
+) -> PlayAnswer
+    ensures answer { λ r. ⌜ r ≡ playAnswer (playOf Captions (now (image .entry)) used own (now (plan .entry))) ⌝ }
+    ensures memory { λ r. ⌜ now (image .exit) ≡ playedImage Captions (now (image .entry)) used own (now (plan .entry)) ⌝ }
+{
+    play_answer(play(PlanKind::Captions, image, used, own, plan))
+}
+
+// Reads a pair of characters, 0 the extended and 1 the ordinary one, from an image.
+#[no_mangle]
+pub extern "C" fn adv7194_read_captions(image: &[u8], pair: u32) -> CaptionsAnswer
+    ensures answer { λ r. ⌜ r ≡ captionsAnswer (captionReading (now (image .entry)) pair) ⌝ }
+{
+    captions_answer(read_captions(image, pair))
 }

@@ -17,8 +17,9 @@ use Rattle.adv7194_bus.specs.Kind.{registerCount}
 use Rattle.adv7194_bus.proofs.RuleLaws.{agree-all}
 use Rattle.adv7194_bus.specs.Rules.{allKeepRules}
 use Rattle.adv7194_bus.specs.Address.{addressRight}
+use Rattle.adv7194_playing.specs.declared.PlanKind.the-variants.{Settings}
 use Rattle.adv7194_playing.specs.Playing.{judged, acknowledgedBy, registersAfter}
-use Rattle.adv7194_playing.proofs.JudgedLaws.{by-rules}
+use Rattle.adv7194_playing.proofs.JudgedLaws.{by-list}
 use Rattle.least_cost.specs.Order.{Ascending}
 use Rattle.least_cost.proofs.Attained.{Right}
 use Rattle.least_cost.proofs.Cheapest.{map-every}
@@ -56,9 +57,9 @@ module _ (image wanted : List ℕ) (χ : Change image wanted) where
   plan-formed = unpacks-packed behind (packed (planOf image wanted)) (planOf image wanted) plan-unpacks .0
 
   -- playing accepts it
-  plan-judged : (own : ℕ) → addressRight own ≡ true → judged image own own (packed (planOf image wanted)) ≡ accepted (planOf image wanted)
+  plan-judged : (own : ℕ) → addressRight own ≡ true → judged Settings image own own (packed (planOf image wanted)) ≡ accepted (planOf image wanted)
   plan-judged own e =
-      by-rules image own own (packed (planOf image wanted)) (χ .found .size) e e (planOf image wanted) true plan-unpacks
+      by-list Settings image own own (packed (planOf image wanted)) (χ .found .size) e e (planOf image wanted) true plan-unpacks
       (holds (allKeepRules (planOf image wanted)) (agree-all (planOf image wanted) .1 (plan-rules image wanted χ)))
 
   -- demand 2 of the packed plan

@@ -13,6 +13,7 @@ use Rattle.bus.specs.Run.{allAcknowledged, listEvents}
 use Rattle.unpacking.specs.Unpacking.{unpack}
 use Rattle.adv7194_bus.specs.Kind.{adv7194}
 use Rattle.adv7194_bus.specs.Address.{addressRight}
+use Rattle.adv7194_playing.specs.declared.PlanKind.the-variants.{Settings}
 use Rattle.adv7194_playing.specs.Playing.{playOf, playedImage}
 use Rattle.least_cost.specs.Order.{NoDearer, Ascending}
 use Rattle.adv7194_least.specs.Reaching.{idleAt, Reaches}
@@ -23,8 +24,8 @@ pub record Played (image wanted plan : List ℕ) : Type 0 where
   pub unpacks : unpack plan ≡ accepted list
   pub reaches : (own pointer : ℕ) → Reaches own pointer image wanted list
   pub acknowledged : (own pointer : ℕ) → allAcknowledged (adv7194 own) (idleAt pointer image) (listEvents own list) ≡ true
-  pub answer : (own : ℕ) → addressRight own ≡ true → playOf image own own plan ≡ accepted true
-  pub leaves : (own : ℕ) → addressRight own ≡ true → playedImage image own own plan ≡ wanted
+  pub answer : (own : ℕ) → addressRight own ≡ true → playOf Settings image own own plan ≡ accepted true
+  pub leaves : (own : ℕ) → addressRight own ≡ true → playedImage Settings image own own plan ≡ wanted
 
 -- the numbers answered with a plan's bytes: how many they are, and the transactions and bus bytes of the list that they unpack to
 pub record Counted (plan : List ℕ) (size transactions bytes : ℕ) : Type 0 where

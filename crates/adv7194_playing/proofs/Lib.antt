@@ -1,3 +1,4 @@
+pub mod KindLaws
 pub mod JudgedLaws
 pub mod Rows
 pub mod Elsewhere

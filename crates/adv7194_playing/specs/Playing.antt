@@ -1,5 +1,5 @@
 -- Document 01, "Refusals": playing takes the address used and the chip's own, checks 1, 2 for either, then 9, and answers the image and whether
--- every byte was acknowledged. A refusal writes nothing.
+-- every byte was acknowledged. A refusal writes nothing. Document 02, P4: another play call takes just the plans of captions, by 1, 2, 9.
 use mathlib.Core.Path.{_≡_}
 use mathlib.Core.Logic.{_⊎_}
 use mathlib.Core.Bool.{Bool, cond, _&&_}
@@ -15,31 +15,44 @@ use Rattle.unpacking.specs.Unpacking.{unpack}
 use Rattle.adv7194_bus.specs.Kind.{registerCount, adv7194}
 use Rattle.adv7194_bus.specs.Address.{AddressFault, addressRight}
 use Rattle.adv7194_bus.specs.Rules.{Rules, allKeepRules}
+use Rattle.adv7194_captions.specs.Plans.{Captions as CaptionsOf, areCaptions}
+use Rattle.adv7194_playing.specs.declared.PlanKind.{PlanKind}
+use Rattle.adv7194_playing.specs.declared.PlanKind.the-variants.{Settings, Captions}
 use Rattle.adv7194_playing.specs.declared.Played.{Played}
 use Rattle.adv7194_playing.specs.declared.Played.the-variants.{Done, Refused}
 
+-- the lists that a play call takes: those that keep the three rules, or those of captions
+abbrev pub Takes : PlanKind → List Transaction → Type 0
+Takes Settings ts = Every Rules ts
+Takes Captions ts = CaptionsOf ts
+
 -- what playing judges, by the rows of document 01's table, in the order in which they are checked: the transactions to play, or the refusal
-pub data Judges (image : List ℕ) (used own : ℕ) (plan : List ℕ) : Judged (List Transaction) → Type 0 where
-  image-fault : (length image ≡ registerCount → ⊥) → Judges image used own plan (refused 1)
-  address-fault : length image ≡ registerCount → AddressFault used ⊎ AddressFault own → Judges image used own plan (refused 2)
+pub data Judges (kind : PlanKind) (image : List ℕ) (used own : ℕ) (plan : List ℕ) : Judged (List Transaction) → Type 0 where
+  image-fault : (length image ≡ registerCount → ⊥) → Judges kind image used own plan (refused 1)
+  address-fault : length image ≡ registerCount → AddressFault used ⊎ AddressFault own → Judges kind image used own plan (refused 2)
   packing-fault : length image ≡ registerCount → (AddressFault used ⊎ AddressFault own → ⊥)
-      → ((ts : List Transaction) → unpack plan ≡ accepted ts → ⊥) → Judges image used own plan (refused 9)
+      → ((ts : List Transaction) → unpack plan ≡ accepted ts → ⊥) → Judges kind image used own plan (refused 9)
   rules-fault : {ts : List Transaction} → length image ≡ registerCount → (AddressFault used ⊎ AddressFault own → ⊥)
-      → unpack plan ≡ accepted ts → (Every Rules ts → ⊥) → Judges image used own plan (refused 9)
+      → unpack plan ≡ accepted ts → (Takes kind ts → ⊥) → Judges kind image used own plan (refused 9)
   no-fault : {ts : List Transaction} → length image ≡ registerCount → (AddressFault used ⊎ AddressFault own → ⊥)
-      → unpack plan ≡ accepted ts → Every Rules ts → Judges image used own plan (accepted ts)
+      → unpack plan ≡ accepted ts → Takes kind ts → Judges kind image used own plan (accepted ts)
 
--- transactions that break a bus rule are refused by 9
-abbrev pub judgedByRules : Judged (List Transaction) → Judged (List Transaction)
-judgedByRules (accepted ts) = cond (allKeepRules ts) (accepted ts) (refused 9)
-judgedByRules (refused n) = refused n
+-- as a test of an unpacked list
+abbrev pub takes : PlanKind → List Transaction → Bool
+takes Settings ts = allKeepRules ts
+takes Captions ts = areCaptions ts
 
--- the judgement by tests: 1 for the image, 2 for either address, then 9 for the packing and for the bus rules. It is what `Judges` says
+-- transactions that a play call doesn't take are refused by 9
+abbrev pub judgedAs : PlanKind → Judged (List Transaction) → Judged (List Transaction)
+judgedAs kind (accepted ts) = cond (takes kind ts) (accepted ts) (refused 9)
+judgedAs kind (refused n) = refused n
+
+-- the judgement by tests: 1 for the image, 2 for either address, then 9 for the packing and for the transactions. It is what `Judges` says
 -- (theorem `judges` of proofs/Rows.antt)
-unfoldable pub judged : List ℕ → ℕ → ℕ → List ℕ → Judged (List Transaction)
-judged image used own plan =
+unfoldable pub judged : PlanKind → List ℕ → ℕ → ℕ → List ℕ → Judged (List Transaction)
+judged kind image used own plan =
     cond (eqb (length image) registerCount)
-    (cond (addressRight used && addressRight own) (judgedByRules (unpack plan)) (refused 2))
+    (cond (addressRight used && addressRight own) (judgedAs kind (unpack plan)) (refused 2))
     (refused 1)
 
 -- whether every byte is acknowledged: those of the list's events, sent at the address used to a fresh chip of its own address with the image
@@ -53,12 +66,12 @@ registersAfter image used own (accepted ts) = run (adv7194 own) (fresh image) (l
 registersAfter image used own (refused n) = image
 
 -- what playing answers
-abbrev pub playOf : List ℕ → ℕ → ℕ → List ℕ → Judged Bool
-playOf image used own plan = acknowledgedBy image used own (judged image used own plan)
+abbrev pub playOf : PlanKind → List ℕ → ℕ → ℕ → List ℕ → Judged Bool
+playOf kind image used own plan = acknowledgedBy image used own (judged kind image used own plan)
 
 -- the image that playing leaves
-abbrev pub playedImage : List ℕ → ℕ → ℕ → List ℕ → List ℕ
-playedImage image used own plan = registersAfter image used own (judged image used own plan)
+abbrev pub playedImage : PlanKind → List ℕ → ℕ → ℕ → List ℕ → List ℕ
+playedImage kind image used own plan = registersAfter image used own (judged kind image used own plan)
 
 -- the answer as document 01 has it
 abbrev pub answerOf : Played → Judged Bool

@@ -1,4 +1,4 @@
--- Document 01, "The bus and its three rules": data are stored, and the pointer rises by one. What a list of transactions that keeps the rules
+-- Document 01, "The bus and its three rules": data are stored, and the pointer rises by one. What a list of transactions that a play call takes
 -- leaves in registers.
 use mathlib.Core.Path.{_≡_}
 use mathlib.Core.List.{List, [], _∷_}

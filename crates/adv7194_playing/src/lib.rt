@@ -5,12 +5,15 @@ ghost use lib.ListN.{length};
 ghost use Rattle.unpacking.specs.Unpacking.{unpack, counted, answerOf as checkedOf};
 ghost use Rattle.adv7194_bus.specs.Kind.{registerCount};
 ghost use Rattle.adv7194_bus.specs.Address.{addressRight};
-ghost use Rattle.adv7194_playing.specs.Playing.{judgedByRules, acknowledgedBy, registersAfter, playOf, playedImage, answerOf};
+ghost use Rattle.adv7194_playing.specs.Kinds.{needsTransaction, takesHeader, takesData, pairFrom, PairThere};
+ghost use Rattle.adv7194_playing.specs.Playing.{judgedAs, acknowledgedBy, registersAfter, playOf, playedImage, answerOf};
 ghost use Rattle.adv7194_playing.specs.Written.{Written};
 use adv7194_bus::REGISTERS;
 use adv7194_bus::address_right;
 use adv7194_bus::image::copied;
 use adv7194_bus::keeps_rules;
+use adv7194_captions::at_pair;
+use adv7194_captions::is_odd;
 use refusals::Refusal;
 use unpacking::Checked;
 use unpacking::places::copy_data;
@@ -19,35 +22,86 @@ use unpacking::steps::Step;
 use unpacking::steps::begin;
 use unpacking::steps::next;
 
+// The plans that a play call takes.
+pub enum PlanKind {
+    // Those of settings, which keep the three rules.
+    Settings,
+    // Those of captions.
+    Captions,
+}
+
 // What playing answers: whether every byte was acknowledged, or a refusal.
 pub enum Played {
     Done(bool),
     Refused(Refusal),
 }
 
-// Writes the data of every transaction of a plan into registers, as long as its bytes keep the packing and the bus rules, and answers how many
-// transactions it has; the registers are no image of a chip's where it is refused.
-fn write_plan(plan: &[u8], registers: &mut [u8]) -> Checked
+// Whether a plan of this kind must have a transaction.
+fn needs_transaction(kind: PlanKind) -> bool
+    ensures answer { λ r. ⌜ r ≡ needsTransaction kind ⌝ }
+{
+    match kind {
+        PlanKind::Settings => false,
+        PlanKind::Captions => true,
+    }
+}
+
+// Whether this kind takes a transaction's subaddress and data count.
+fn takes_header(kind: PlanKind, subaddress: u8, count: u8) -> bool
+    ensures answer { λ r. ⌜ r ≡ takesHeader kind subaddress count ⌝ }
+{
+    match kind {
+        PlanKind::Settings => keeps_rules(subaddress, count),
+        PlanKind::Captions => at_pair(subaddress, count),
+    }
+}
+
+// Whether it takes the transaction's data, which registers hold from the subaddress on.
+fn takes_data(kind: PlanKind, registers: &[u8], subaddress: u8) -> bool
+    requires { ⌜ PairThere kind subaddress (now registers) ⌝ }
+    ensures answer { λ r. ⌜ r ≡ takesData kind (pairFrom subaddress (now (registers .entry))) ⌝ }
+{
+    match kind {
+        PlanKind::Settings => true,
+        PlanKind::Captions => {
+            let first = subaddress as usize;
+            let second = first + 1;
+            is_odd(registers[first]) & is_odd(registers[second])
+        }
+    }
+}
+
+// Writes the data of every transaction of a plan into registers, as long as its bytes keep the packing and this kind takes the transactions, and answers
+// how many there are; the registers are no image of a chip's where the plan is refused.
+fn write_plan(kind: PlanKind, plan: &[u8], registers: &mut [u8]) -> Checked
     requires { ⌜ length (now registers) ≡ registerCount ⌝ }
-    ensures answer { λ r. ⌜ checkedOf r ≡ counted (judgedByRules (unpack (now (plan .entry)))) ⌝ }
-    ensures memory { λ r. ⌜ Written (judgedByRules (unpack (now (plan .entry)))) (now (registers .entry)) (now (registers .exit)) ⌝ }
+    ensures answer { λ r. ⌜ checkedOf r ≡ counted (judgedAs kind (unpack (now (plan .entry)))) ⌝ }
+    ensures memory { λ r. ⌜ Written (judgedAs kind (unpack (now (plan .entry)))) (now (registers .entry)) (now (registers .exit)) ⌝ }
 {
     let mut cursor = begin(plan, Order::Ascending);
     let mut transactions: u8 = 0;
     loop {
         match next(plan, cursor) {
             Step::Fault => return Checked::Refused(Refusal::PlanBytes),
-            Step::End => return Checked::WellFormed(transactions),
+            Step::End => {
+                if (transactions == 0) & needs_transaction(kind) {
+                    return Checked::Refused(Refusal::PlanBytes);
+                }
+                return Checked::WellFormed(transactions);
+            }
             Step::Transaction {
                 subaddress,
                 count,
                 data,
                 after,
             } => {
-                if !keeps_rules(subaddress, count) {
+                if !takes_header(kind, subaddress, count) {
                     return Checked::Refused(Refusal::PlanBytes);
                 }
                 copy_data(plan, data, registers, subaddress, count);
+                if !takes_data(kind, registers, subaddress) {
+                    return Checked::Refused(Refusal::PlanBytes);
+                }
                 cursor = after;
                 transactions += 1;
             }
@@ -57,13 +111,13 @@ fn write_plan(plan: &[u8], registers: &mut [u8]) -> Checked
 
 // Plays a packed plan once image and addresses are checked: its data are written into a copy of the image, and the image becomes that copy where the
 // plan is accepted and was sent to the chip's own address.
-fn play_checked(image: &mut [u8], used: u32, own: u32, plan: &[u8]) -> Played
+fn play_checked(kind: PlanKind, image: &mut [u8], used: u32, own: u32, plan: &[u8]) -> Played
     requires { ⌜ (length (now image) ≡ registerCount) × (addressRight used ≡ true) × (addressRight own ≡ true) ⌝ }
-    ensures answer { λ r. ⌜ answerOf r ≡ acknowledgedBy (now (image .entry)) used own (judgedByRules (unpack (now (plan .entry)))) ⌝ }
-    ensures memory { λ r. ⌜ now (image .exit) ≡ registersAfter (now (image .entry)) used own (judgedByRules (unpack (now (plan .entry)))) ⌝ }
+    ensures answer { λ r. ⌜ answerOf r ≡ acknowledgedBy (now (image .entry)) used own (judgedAs kind (unpack (now (plan .entry)))) ⌝ }
+    ensures memory { λ r. ⌜ now (image .exit) ≡ registersAfter (now (image .entry)) used own (judgedAs kind (unpack (now (plan .entry)))) ⌝ }
 {
     let mut registers = copied(image);
-    match write_plan(plan, &mut registers) {
+    match write_plan(kind, plan, &mut registers) {
         Checked::Refused(refusal) => Played::Refused(refusal),
         Checked::WellFormed(transactions) => {
             if used != own {
@@ -75,10 +129,10 @@ fn play_checked(image: &mut [u8], used: u32, own: u32, plan: &[u8]) -> Played
     }
 }
 
-// Plays a packed plan, sent at the address used, against a fresh chip of its own address that holds the image.
-pub fn play(image: &mut [u8], used: u32, own: u32, plan: &[u8]) -> Played
-    ensures answer { λ r. ⌜ answerOf r ≡ playOf (now (image .entry)) used own (now (plan .entry)) ⌝ }
-    ensures memory { λ r. ⌜ now (image .exit) ≡ playedImage (now (image .entry)) used own (now (plan .entry)) ⌝ }
+// Plays a packed plan of this kind, sent at the address used, against a fresh chip of its own address that holds the image.
+pub fn play(kind: PlanKind, image: &mut [u8], used: u32, own: u32, plan: &[u8]) -> Played
+    ensures answer { λ r. ⌜ answerOf r ≡ playOf kind (now (image .entry)) used own (now (plan .entry)) ⌝ }
+    ensures memory { λ r. ⌜ now (image .exit) ≡ playedImage kind (now (image .entry)) used own (now (plan .entry)) ⌝ }
 {
     if image.len() != REGISTERS as usize {
         return Played::Refused(Refusal::ImageLength);
@@ -89,5 +143,5 @@ pub fn play(image: &mut [u8], used: u32, own: u32, plan: &[u8]) -> Played
     if !address_right(own) {
         return Played::Refused(Refusal::BusAddress);
     }
-    play_checked(image, used, own, plan)
+    play_checked(kind, image, used, own, plan)
 }

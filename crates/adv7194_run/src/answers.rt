@@ -16,6 +16,12 @@ const PLAY: u64 = 0x706C_6179;
 
 const READ: u64 = 0x7265_6164;
 
+const CAPTION: u64 = 0x63_6170_7469_6F6E;
+
+const PLAYCAP: u64 = 0x70_6C61_7963_6170;
+
+const READCAP: u64 = 0x72_6561_6463_6170;
+
 const EVENTS: u64 = 0x6576_656E_7473;
 
 const CODE: u64 = 0x636F_6465;
@@ -34,8 +40,11 @@ fn with_plan(tokens: Tokens, word: u64, image: &mut [u8]) -> bool {
     if word == PLAN {
         return calls::plan(held, numbers, image, &mut plan[0..n]);
     }
-    if (word != PLAY) | (numbers != 3) {
+    if numbers != 3 {
         return false;
+    }
+    if word == PLAYCAP {
+        return calls::play_captions(held[1], held[2], image, &plan[0..n]);
     }
     calls::play(held[1], held[2], image, &plan[0..n])
 }
@@ -45,6 +54,16 @@ fn with_image(tokens: Tokens, word: u64, image: &mut [u8]) -> bool {
     if (word == READ) & (tokens.numbers == 1) & (tokens.middle == tokens.count) {
         return calls::read(image);
     }
+    if word == READCAP {
+        if (tokens.numbers != 2) | (tokens.middle != tokens.count) {
+            return false;
+        }
+        let held = tokens.held;
+        return calls::read_captions(held[1], image);
+    }
+    if word == READ {
+        return false;
+    }
     if word == EVENTS {
         return chip::events(tokens, image);
     }
@@ -53,7 +72,26 @@ fn with_image(tokens: Tokens, word: u64, image: &mut [u8]) -> bool {
 
 // Whether an operation has an image.
 fn has_image(word: u64) -> bool {
-    (word == PLAN) | (word == PLAY) | (word == READ) | (word == EVENTS)
+    (word == PLAN)
+        | (word == PLAY)
+        | (word == READ)
+        | (word == EVENTS)
+        | (word == PLAYCAP)
+        | (word == READCAP)
+}
+
+// Answers a record of planning captions, if it is one: it has no first list.
+fn caption(tokens: Tokens) -> bool {
+    if tokens.numbers != tokens.middle {
+        return false;
+    }
+    let held = tokens.held;
+    let mut plan = [0u8; MOST_BYTES];
+    let n = tokens::bytes(held, tokens.second, tokens.count, &mut plan);
+    if MOST_BYTES < n {
+        return false;
+    }
+    calls::plan_captions(held, tokens.numbers, &mut plan[0..n])
 }
 
 // Answers a record of a coding, if it is one: so many tokens before a second list, of which so many are the word and numbers; then a field, and its
@@ -79,6 +117,9 @@ fn record(text: &[u8]) -> bool {
     }
     let held = tokens.held;
     let word = held[0];
+    if word == CAPTION {
+        return caption(tokens);
+    }
     if !has_image(word) {
         return coding(word, tokens.middle, tokens.numbers, held[1], held[2]);
     }

@@ -1,6 +1,7 @@
 // The calls of the C interface.
 use crate::print;
 use crate::tokens;
+use adv7194_answers::plan_numbers::PlanAnswer;
 
 // The most settings of a record, and where they begin.
 const MOST_SETTINGS: usize = 64;
@@ -10,7 +11,12 @@ const FIRST_SETTING: usize = 2;
 // How many numbers a set of settings is.
 const SETTINGS: usize = 49;
 
-// The settings of a record of planning: the numbers after the address.
+// The most characters of a pair in a record, and where they begin among the numbers after the address.
+const MOST_CHARACTERS: usize = 8;
+
+const FIRST_CHARACTER: usize = 2;
+
+// The settings of a record of planning, or the numbers of one of captions: those after the address.
 fn settings(held: [u64; 192]) -> [i32; 64] {
     let mut settings = [0i32; 64];
     let mut i = 0;
@@ -38,10 +44,43 @@ pub(crate) fn plan(held: [u64; 192], numbers: usize, image: &[u8], plan: &mut [u
         tokens::unsigned(held[1]),
         plan,
     );
+    planned(answer);
+    print::bytes(plan);
+    true
+}
+
+// What planning answers.
+fn planned(answer: PlanAnswer) {
     print::verdict(answer.refusal, answer.field);
     print::decimal(answer.length);
     print::decimal(answer.transactions);
     print::decimal(answer.bus_bytes);
+}
+
+// Planning captions: the word and numbers, and the lent plan. After the address the numbers are how many characters each pair has, and the characters.
+pub(crate) fn plan_captions(held: [u64; 192], numbers: usize, plan: &mut [u8]) -> bool {
+    let extended = tokens::unsigned(held[2]) as usize;
+    let ordinary = tokens::unsigned(held[3]) as usize;
+    if MOST_CHARACTERS < extended {
+        return false;
+    }
+    if MOST_CHARACTERS < ordinary {
+        return false;
+    }
+    let middle = FIRST_CHARACTER + extended;
+    let end = middle + ordinary;
+    if numbers != FIRST_SETTING + end {
+        return false;
+    }
+    let first = settings(held);
+    let second = settings(held);
+    let answer = adv7194_c::adv7194_plan_captions(
+        &first[FIRST_CHARACTER..middle],
+        &second[middle..end],
+        tokens::unsigned(held[1]),
+        plan,
+    );
+    planned(answer);
     print::bytes(plan);
     true
 }
@@ -57,6 +96,29 @@ pub(crate) fn play(used: u64, own: u64, image: &mut [u8], plan: &[u8]) -> bool {
     print::verdict(answer.refusal, answer.field);
     print::decimal(answer.acknowledged);
     print::bytes(image);
+    true
+}
+
+// Playing captions.
+pub(crate) fn play_captions(used: u64, own: u64, image: &mut [u8], plan: &[u8]) -> bool {
+    let answer = adv7194_c::adv7194_play_captions(
+        image,
+        tokens::unsigned(used),
+        tokens::unsigned(own),
+        plan,
+    );
+    print::verdict(answer.refusal, answer.field);
+    print::decimal(answer.acknowledged);
+    print::bytes(image);
+    true
+}
+
+// Reading a pair of captions.
+pub(crate) fn read_captions(pair: u64, image: &[u8]) -> bool {
+    let answer = adv7194_c::adv7194_read_captions(image, tokens::unsigned(pair));
+    print::verdict(answer.refusal, answer.field);
+    print::decimal(answer.first);
+    print::decimal(answer.second);
     true
 }
 

@@ -4,6 +4,10 @@
 //   plan ADDRESS SETTINGS..:IMAGE..;LENT..  planning into the lent bytes: length, transactions, bus bytes, and the lent bytes after it
 //   play USED OWN:IMAGE..;PLAN..            playing: 1 where every byte was acknowledged, and the image after it
 //   read:IMAGE..                            reading: the 49 settings
+//   caption ADDRESS E O CHARACTERS..;LENT..  planning captions into the lent bytes, E characters of the extended pair and then O of the ordinary one, at
+//                                           most eight of each: answered as plan is
+//   playcap USED OWN:IMAGE..;PLAN..         playing captions: answered as play is
+//   readcap PAIR:IMAGE..                    reading a pair of captions, 0 extended, 1 ordinary: its two characters
 //   events OWN:IMAGE..;EVENTS..             a fresh chip at bus events: a byte from the master, S start, P stop, R a byte read and acknowledged,
 //                                           N one read and not acknowledged. For each the byte that the master reads with + acknowledged, - not
 //                                           acknowledged, . not asked; then the pointer, the phase (I idle, A awaits the address, S the subaddress,

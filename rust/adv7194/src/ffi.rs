@@ -73,6 +73,20 @@ pub struct CompareAnswer {
     pub registers: u64,
 }
 
+/// What reading a pair of captions answers. After a refusal the last two are 0.
+#[repr(C)]
+#[derive(Clone, Copy, Debug, PartialEq, Eq)]
+pub struct CaptionsAnswer {
+    /// The refusal, or 0.
+    pub refusal: u32,
+    /// The field at fault, or 0.
+    pub field: u32,
+    /// The first character.
+    pub first: u32,
+    /// The second one.
+    pub second: u32,
+}
+
 extern "C" {
     fn adv7194_plan(
         image: *const u8,
@@ -109,6 +123,27 @@ extern "C" {
     ) -> ReadAnswer;
 
     fn adv7194_compare(a: *const u8, a_len: usize, b: *const u8, b_len: usize) -> CompareAnswer;
+
+    fn adv7194_plan_captions(
+        extended: *const i32,
+        extended_len: usize,
+        ordinary: *const i32,
+        ordinary_len: usize,
+        address: u32,
+        plan: *mut u8,
+        plan_len: usize,
+    ) -> PlanAnswer;
+
+    fn adv7194_play_captions(
+        image: *mut u8,
+        image_len: usize,
+        used: u32,
+        own: u32,
+        plan: *const u8,
+        plan_len: usize,
+    ) -> PlayAnswer;
+
+    fn adv7194_read_captions(image: *const u8, image_len: usize, pair: u32) -> CaptionsAnswer;
 }
 
 /// Plans, with the archive's own numbers.
@@ -179,4 +214,49 @@ pub fn read(image: &[u8], settings: &mut [i32]) -> ReadAnswer {
 pub fn compare(a: &[u8], b: &[u8]) -> CompareAnswer {
     // Sound: as in `plan`; both are only read, so they may be the same.
     unsafe { adv7194_compare(a.as_ptr(), a.len(), b.as_ptr(), b.len()) }
+}
+
+/// Plans captions, with the archive's own numbers.
+#[inline]
+pub fn plan_captions(
+    extended: &[i32],
+    ordinary: &[i32],
+    address: u32,
+    plan: &mut [u8],
+) -> PlanAnswer {
+    // Sound: as in `plan`; both pairs are only read, so they may be the same.
+    unsafe {
+        adv7194_plan_captions(
+            extended.as_ptr(),
+            extended.len(),
+            ordinary.as_ptr(),
+            ordinary.len(),
+            address,
+            plan.as_mut_ptr(),
+            plan.len(),
+        )
+    }
+}
+
+/// Plays captions, with the archive's own numbers.
+#[inline]
+pub fn play_captions(image: &mut [u8], used: u32, own: u32, plan: &[u8]) -> PlayAnswer {
+    // Sound: as in `plan`.
+    unsafe {
+        adv7194_play_captions(
+            image.as_mut_ptr(),
+            image.len(),
+            used,
+            own,
+            plan.as_ptr(),
+            plan.len(),
+        )
+    }
+}
+
+/// Reads a pair of captions, with the archive's own numbers.
+#[inline]
+pub fn read_captions(image: &[u8], pair: u32) -> CaptionsAnswer {
+    // Sound: as in `plan`.
+    unsafe { adv7194_read_captions(image.as_ptr(), image.len(), pair) }
 }

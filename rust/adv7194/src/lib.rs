@@ -1,4 +1,5 @@
-//! Plans, plays, reads back and compares the settings of ADV7194 video encoders.
+//! Plans, plays, reads back and compares the settings of ADV7194 video encoders,
+//! and plans, plays and reads back their captions.
 //!
 //! The work is done by a proved archive with a C interface; this crate gives it
 //! safe functions and types. All `unsafe` is in the module [`ffi`].
@@ -8,6 +9,8 @@
 //! and packs it into lent bytes. [`transactions`] takes a packed plan apart, to
 //! send it. [`play`] says what a chip holds after a packed plan. [`read`] gives
 //! the settings that an image holds, [`compare`] says in what two images differ.
+//! [`plan_captions`], [`play_captions`] and [`read_captions`] do the same for
+//! pairs of caption characters, which are no setting.
 //! Nothing is kept between calls and nothing is allocated.
 //!
 //! ```
@@ -35,6 +38,7 @@
 #![deny(unsafe_code)]
 #![warn(missing_docs)]
 
+mod captions;
 mod comparison;
 pub mod ffi;
 mod numbers;
@@ -42,6 +46,8 @@ mod refusal;
 mod settings;
 mod transactions;
 
+pub use captions::{plan_caption_numbers, plan_captions, play_captions, read_captions};
+pub use captions::{Captions, Pair, CAPTION_ROOM, PAIR};
 pub use comparison::{compare, Comparison, Differing};
 pub use numbers::{index, Numbers, NUMBERS};
 pub use refusal::{Reason, Refusal};
@@ -62,6 +68,18 @@ pub struct Planned {
     pub transactions: u32,
     /// Its bus bytes: 2 for each transaction, plus all data.
     pub bus_bytes: u32,
+}
+
+impl Planned {
+    /// What the archive answers, or its refusal.
+    pub(crate) fn of(answer: ffi::PlanAnswer) -> Result<Planned, Refusal> {
+        refusal::check(answer.refusal, answer.field)?;
+        Ok(Planned {
+            length: answer.length as usize,
+            transactions: answer.transactions,
+            bus_bytes: answer.bus_bytes,
+        })
+    }
 }
 
 /// Plans the way from `image` to `settings`, for a chip at the even `address`.
@@ -103,13 +121,7 @@ pub fn plan_numbers(
     address: u32,
     plan: &mut [u8],
 ) -> Result<Planned, Refusal> {
-    let answer = ffi::plan(image, settings, address, plan);
-    refusal::check(answer.refusal, answer.field)?;
-    Ok(Planned {
-        length: answer.length as usize,
-        transactions: answer.transactions,
-        bus_bytes: answer.bus_bytes,
-    })
+    Planned::of(ffi::plan(image, settings, address, plan))
 }
 
 /// Plays a packed plan, sent to the address `used`, on a chip that holds

@@ -11,11 +11,11 @@ pub enum Reason {
     ImageLength = 1,
     /// 2: a bus address is odd or above 254.
     Address = 2,
-    /// 3: a number is outside its range, the settings aren't 49 numbers, or there
-    /// is no such transaction.
+    /// 3: a number is outside its range, the settings aren't 49 numbers, there is
+    /// no such transaction, or no pair of captions.
     OutOfRange = 3,
-    /// 4: a code is reserved, a must-be-zero bit is set, or WSS breaks its odd
-    /// count.
+    /// 4: a code is reserved, a must-be-zero bit is set, or WSS or a caption byte
+    /// breaks its odd count.
     Reserved = 4,
     /// 5: square pixel with 4x oversampling.
     SquareWithFourTimes = 5,
@@ -75,7 +75,7 @@ impl Reason {
 pub struct Refusal {
     /// Why.
     pub reason: Reason,
-    /// The field's number, 1 to 28, or 0.
+    /// The field's number, 1 to 28, 29 for captions, or 0.
     pub field: u8,
 }
 

@@ -6,9 +6,12 @@ use crate::{decimal, hex};
 use plain::chip::{Acknowledge, Chip, Phase};
 use plain::fields::SETTINGS;
 use plain::refusal::Refusal;
+use plain::{PlanAnswer, PlayAnswer};
 
 /// The answer to a line that is no record.
 const NOT_A_RECORD: &str = "NOT A RECORD";
+/// The most characters of a pair in a record.
+const MOST_CHARACTERS: usize = 8;
 
 /// The answers to all lines of a text, a line each.
 pub fn answers(text: &str) -> String {
@@ -29,7 +32,10 @@ fn answer_record(record: &Record) -> Option<String> {
     let lists = (record.has_first(), record.has_second());
     match (record.word, record.numbers.as_slice(), lists) {
         ("plan", [address, settings @ ..], _) => plan(record, *address, settings),
-        ("play", [used, own], _) => play(record, *used, *own),
+        ("caption", [address, numbers @ ..], (false, _)) => caption(record, *address, numbers),
+        ("play", [used, own], _) => play(record, plain::play, *used, *own),
+        ("playcap", [used, own], _) => play(record, plain::play_captions, *used, *own),
+        ("readcap", [pair], (_, false)) => readcap(record, *pair),
         ("read", [], (_, false)) => read(record),
         ("events", [own], _) => events(record, *own),
         ("code", [field, setting], (false, false)) => codings::code(*field, signed(*setting)),
@@ -83,20 +89,47 @@ fn plan(record: &Record, address: i64, settings: &[i64]) -> Option<String> {
     let mut lent = record.second()?;
     let image = record.first()?;
     let answer = plain::plan(&image, &settings, unsigned(address), &mut lent);
-    Some(joined(&[
+    Some(planned(answer, &lent))
+}
+
+/// What planning answers, and the lent plan after it.
+fn planned(answer: PlanAnswer, lent: &[u8]) -> String {
+    joined(&[
         verdict(answer.refusal, answer.field),
         answer.length.to_string(),
         answer.transactions.to_string(),
         answer.bus_bytes.to_string(),
-        hex(&lent),
-    ]))
+        hex(lent),
+    ])
 }
 
+/// Planning captions: how many characters each pair has, and the characters of both.
+fn caption(record: &Record, address: i64, numbers: &[i64]) -> Option<String> {
+    let [extended, ordinary, characters @ ..] = numbers else {
+        return None;
+    };
+    let counts = [*extended, *ordinary].map(|count| usize::try_from(count).ok());
+    let [Some(extended @ ..=MOST_CHARACTERS), Some(ordinary @ ..=MOST_CHARACTERS)] = counts else {
+        return None;
+    };
+    if characters.len() != extended + ordinary {
+        return None;
+    }
+    let characters: Vec<i32> = characters.iter().map(|&number| signed(number)).collect();
+    let (extended, ordinary) = characters.split_at(extended);
+    let mut lent = record.second()?;
+    let answer = plain::plan_captions(extended, ordinary, unsigned(address), &mut lent);
+    Some(planned(answer, &lent))
+}
+
+/// A player: it plays a plan, sent to the first address, on a chip with the second one.
+type Player = fn(&mut [u8], u32, u32, &[u8]) -> PlayAnswer;
+
 /// Playing.
-fn play(record: &Record, used: i64, own: i64) -> Option<String> {
+fn play(record: &Record, player: Player, used: i64, own: i64) -> Option<String> {
     let mut image = record.first()?;
     let plan = record.second()?;
-    let answer = plain::play(&mut image, unsigned(used), unsigned(own), &plan);
+    let answer = player(&mut image, unsigned(used), unsigned(own), &plan);
     Some(joined(&[
         verdict(answer.refusal, answer.field),
         answer.acknowledged.to_string(),
@@ -111,6 +144,16 @@ fn read(record: &Record) -> Option<String> {
     Some(joined(&[
         verdict(answer.refusal, answer.field),
         decimal(&settings),
+    ]))
+}
+
+/// Reading a pair of captions back.
+fn readcap(record: &Record, pair: i64) -> Option<String> {
+    let answer = plain::read_captions(&record.first()?, unsigned(pair));
+    Some(joined(&[
+        verdict(answer.refusal, answer.field),
+        answer.first.to_string(),
+        answer.second.to_string(),
     ]))
 }
 

@@ -1,5 +1,5 @@
-//! Records of the program `adv7194_run` and pairs of images for `board_compare`, and
-//! what they must give, by the plain implementation.
+//! Records of the program `adv7194_run`, pairs of images for `board_compare` and
+//! inputs of `caption_plan`, and what they must give, by the plain implementation.
 //!
 //! A record is a line of text; crates/adv7194_run/src/main.rt says what each
 //! kind asks and how it is answered. Nothing here is a program's or the library's.
@@ -7,9 +7,11 @@
 #![warn(missing_docs)]
 
 pub mod answer;
+pub mod inputs;
 pub mod make;
 pub mod pairs;
 
+mod captions;
 mod codings;
 mod events;
 mod plans;

@@ -1,4 +1,4 @@
-//! Writes the stored cases of `adv7194_run` and `board_compare`.
+//! Writes the stored cases of `adv7194_run`, `board_compare` and `caption_plan`.
 //!
 //! `cases DIRECTORY` writes into its folders of these names what is made, and what it must give; a
 //! file that stands there beside them is left as it is. `cases` alone answers the records of standard input.
@@ -11,7 +11,8 @@ fn main() -> io::Result<()> {
     if let Some(directory) = std::env::args().nth(1) {
         let directory = Path::new(&directory);
         records(&directory.join("adv7194_run"))?;
-        return pairs(&directory.join("board_compare"));
+        pairs(&directory.join("board_compare"))?;
+        return inputs(&directory.join("caption_plan"));
     }
     let mut text = String::new();
     io::stdin().read_to_string(&mut text)?;
@@ -25,6 +26,16 @@ fn records(directory: &Path) -> io::Result<()> {
         let answers = cases::answers(&records);
         std::fs::write(directory.join(name).with_extension("in"), records)?;
         std::fs::write(directory.join(name).with_extension("out"), answers)?;
+    }
+    Ok(())
+}
+
+/// Writes every input of captions, with its text.
+fn inputs(directory: &Path) -> io::Result<()> {
+    for (name, input) in cases::inputs::INPUTS {
+        let path = directory.join(name);
+        std::fs::write(path.with_extension("in"), input)?;
+        std::fs::write(path.with_extension("out"), plain::caption_listing(input))?;
     }
     Ok(())
 }

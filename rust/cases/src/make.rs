@@ -1,7 +1,7 @@
 //! The records that are stored, file by file.
 
 use crate::codings::PLACES;
-use crate::{events, hex, plans, plays, signalling, together};
+use crate::{captions, events, hex, plans, plays, signalling, together};
 use plain::registers::REGISTERS;
 
 /// How many numbers are tried past a range on either side.
@@ -41,6 +41,7 @@ const RANGES: [(i32, i32); PLACES.len()] = [
 /// Every file that is made: its name and its records.
 pub fn files() -> Vec<(&'static str, String)> {
     vec![
+        ("captions", text(captions::captions())),
         ("codings", text(codings())),
         ("curves_and_words", text(plans::curves_and_words())),
         ("events", text(events::systematic())),

@@ -128,7 +128,7 @@ fn flipped(image: &Image, flips: &[(usize, u8)]) -> Image {
 
 /// An image that reading refuses, each register another byte.
 fn any() -> Image {
-    std::array::from_fn(|register| 5 * register as u8 + 2)
+    std::array::from_fn(|register| (5 * register + 2) as u8)
 }
 
 /// One difference in each field.

@@ -8,7 +8,7 @@ use plain::registers::{self as reg, REGISTERS};
 /// The boards' address.
 pub(crate) const ADDRESS: u32 = 0x54;
 /// What a lent plan holds before planning.
-const BEFORE: u8 = 0xEE;
+pub(crate) const BEFORE: u8 = 0xEE;
 /// A hue that is coded as 97, and one past its range.
 const HUE: i32 = 40;
 const HUE_PAST_RANGE: i32 = 225;

@@ -7,6 +7,8 @@ use std::path::PathBuf;
 const RECORDS: &str = "adv7194_run";
 /// The program that compares pairs of images.
 const PAIRS: &str = "board_compare";
+/// The program that plans captions.
+const CAPTIONS: &str = "caption_plan";
 
 /// Where a program's cases are stored.
 fn directory(program: &str) -> PathBuf {
@@ -71,6 +73,23 @@ fn pairs_and_their_texts_are_as_made() {
     // three files for each, and what says what they are
     let files = fs::read_dir(&directory).expect("the stored cases").count();
     assert_eq!(files, 3 * pairs.len() + 1, "files that aren't made");
+}
+
+#[test]
+fn inputs_of_captions_and_their_texts_are_as_made() {
+    let directory = directory(CAPTIONS);
+    for (name, input) in cases::inputs::INPUTS {
+        let path = directory.join(name);
+        let stored = |end: &str| fs::read(path.with_extension(end)).expect("a stored file");
+        assert!(stored("in") == input, "{name}.in");
+        let text = plain::caption_listing(input);
+        let stored = String::from_utf8(stored("out")).expect("a text");
+        assert_eq!(first_difference(&stored, &text), None, "{name}.out");
+    }
+    // two files for each, and what says what they are
+    let files = fs::read_dir(&directory).expect("the stored cases").count();
+    let made = 2 * cases::inputs::INPUTS.len() + 1;
+    assert_eq!(files, made, "files that aren't made");
 }
 
 #[test]

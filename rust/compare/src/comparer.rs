@@ -7,11 +7,22 @@ use plain::registers::READ_ONLY;
 use plain::{CompareAnswer, PlanAnswer, PlayAnswer, ReadAnswer, TransactionAnswer};
 
 /// Guard bytes.
-const GUARD_BYTE: u8 = 0xC3;
+pub(crate) const GUARD_BYTE: u8 = 0xC3;
 /// Guard numbers.
-const GUARD_NUMBER: i32 = -0x3C5A_1234;
+pub(crate) const GUARD_NUMBER: i32 = -0x3C5A_1234;
 /// The most differences that are shown.
 const MOST_SHOWN: u64 = 20;
+
+/// A player of plans on both sides.
+#[derive(Clone, Copy)]
+pub(crate) struct Player {
+    /// Which it is.
+    pub(crate) entry: Entry,
+    /// The plain one.
+    pub(crate) plain: fn(&mut [u8], u32, u32, &[u8]) -> PlayAnswer,
+    /// The archive's.
+    pub(crate) proved: fn(&mut [u8], u32, u32, &[u8]) -> ffi::PlayAnswer,
+}
 
 /// Makes calls on both sides, and counts answers and differences.
 #[derive(Default)]
@@ -37,7 +48,7 @@ impl Comparer {
     }
 
     /// Counts an answer that must be one that can occur.
-    fn count(&mut self, entry: Entry, refusal: u32, field: u32) {
+    pub(crate) fn count(&mut self, entry: Entry, refusal: u32, field: u32) {
         self.calls += 1;
         let can = self.tally.count(entry, refusal, field);
         self.expect(can, || {
@@ -65,20 +76,31 @@ impl Comparer {
             let given = format!("{image:02X?} {settings:?} {address} room {}", plan.len());
             format!("plan, {what}: {answer:?} {proved:?} for {given}")
         };
-        self.count(Entry::Plan, answer.refusal, answer.field);
+        self.expect(lent == given, || show("given memory"));
+        self.planned(Entry::Plan, (answer, proved), (&before, &one, &other), show);
+        (answer, other)
+    }
+
+    /// Compares what planning answered, and the lent plan before it and on both sides after it.
+    pub(crate) fn planned(
+        &mut self,
+        entry: Entry,
+        (answer, proved): (PlanAnswer, ffi::PlanAnswer),
+        (before, one, other): (&Lent<u8>, &Lent<u8>, &Lent<u8>),
+        show: impl Fn(&str) -> String,
+    ) {
+        self.count(entry, answer.refusal, answer.field);
         self.expect(same_plan(answer, proved), || show("answers"));
         self.expect(one == other, || show("lent plan"));
-        self.expect(lent == given, || show("given memory"));
         if proved.refusal != 0 {
             let zero = [proved.length, proved.transactions, proved.bus_bytes] == [0; 3];
             self.expect(other == before, || show("plan after a refusal"));
             self.expect(zero, || show("numbers after a refusal"));
         } else {
             let past = proved.length as usize..;
-            let kept = other.get().get(past.clone()) == plan.get(past);
+            let kept = other.get().get(past.clone()) == before.get().get(past);
             self.expect(kept, || show("past the plan"));
         }
-        (answer, other)
     }
 
     /// Plays.
@@ -89,17 +111,35 @@ impl Comparer {
         own: u32,
         plan: &[u8],
     ) -> (PlayAnswer, Lent<u8>) {
+        let player = Player {
+            entry: Entry::Play,
+            plain: plain::play,
+            proved: ffi::play,
+        };
+        self.play_by(player, image, used, own, plan)
+    }
+
+    /// Plays by a player.
+    pub(crate) fn play_by(
+        &mut self,
+        player: Player,
+        image: &[u8],
+        used: u32,
+        own: u32,
+        plan: &[u8],
+    ) -> (PlayAnswer, Lent<u8>) {
         let given = Lent::new(plan, GUARD_BYTE);
         let before = Lent::new(image, GUARD_BYTE);
         let (mut one, mut other, mut lent) = (before, before, given);
-        let answer = plain::play(one.lend(), used, own, plan);
-        let proved = ffi::play(other.lend(), used, own, lent.lend());
+        let answer = (player.plain)(one.lend(), used, own, plan);
+        let proved = (player.proved)(other.lend(), used, own, lent.lend());
         let a = [answer.refusal, answer.field, answer.acknowledged];
         let b = [proved.refusal, proved.field, proved.acknowledged];
         let show = |what: &str| {
-            format!("play, {what}: {a:?} {b:?} for {image:02X?} {used} {own} {plan:02X?}")
+            let (name, given) = (player.entry.name(), format!("{image:02X?} {used} {own}"));
+            format!("{name}, {what}: {a:?} {b:?} for {given} {plan:02X?}")
         };
-        self.count(Entry::Play, answer.refusal, answer.field);
+        self.count(player.entry, answer.refusal, answer.field);
         self.expect(a == b, || show("answers"));
         self.expect(one == other, || show("lent image"));
         self.expect(lent == given, || show("given memory"));

@@ -66,12 +66,17 @@ pub fn foreign(random: &mut Random) -> Vec<u8> {
         list.push((start as u32, count as u32));
         from = start + count;
     }
+    packed(&list, || random.byte())
+}
+
+/// Transactions packed, each a subaddress and a data count, with data one after the other.
+pub fn packed(list: &[(u32, u32)], mut data: impl FnMut() -> u8) -> Vec<u8> {
     let mut bits = Bits::default();
     bits.put(list.len() as u32, HEAD_BITS);
-    for (start, count) in list {
+    for &(start, count) in list {
         bits.put(start, HEAD_BITS);
         bits.put(count, HEAD_BITS);
-        (0..count).for_each(|_| bits.put(random.byte() as u32, 8));
+        (0..count).for_each(|_| bits.put(data() as u32, 8));
     }
     bits.bytes()
 }

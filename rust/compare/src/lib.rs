@@ -5,6 +5,8 @@
 #![forbid(unsafe_code)]
 #![warn(missing_docs)]
 
+pub mod caption_calls;
+pub mod captions;
 pub mod cases;
 pub mod comparer;
 pub mod damage;
@@ -12,6 +14,7 @@ pub mod lent;
 pub mod pairs;
 pub mod random;
 pub mod seeded;
+pub mod seeded_captions;
 pub mod sending;
 pub mod systematic;
 pub mod tally;

@@ -42,6 +42,14 @@ fn compare(cases: u64, seed: u64) -> u64 {
         "seeded: {cases} cases, {accepted} accepted; {} calls in all",
         comparer.calls
     );
+    let mut captions = Seeded::new(seed);
+    for _ in 0..cases {
+        captions.captions(&mut comparer);
+    }
+    println!(
+        "captions: {cases} cases, {} accepted; {} calls in all",
+        captions.accepted, comparer.calls
+    );
     let missing = comparer.tally.print();
     comparer.expect(missing == 0, || format!("{missing} refusals never came"));
     let half = 2 * accepted >= cases;

@@ -25,7 +25,7 @@ const NUMBER_BEFORE: i32 = -77;
 
 /// Seeded cases, with what they need.
 pub struct Seeded {
-    random: Random,
+    pub(crate) random: Random,
     spans: Vec<u64>,
     /// Cases that were accepted.
     pub accepted: u64,
@@ -53,7 +53,7 @@ impl Seeded {
     }
 
     /// An address, seldom a wrong one.
-    fn address(&mut self) -> u32 {
+    pub(crate) fn address(&mut self) -> u32 {
         if !self.random.once_in(SELDOM) {
             return 2 * self.random.below(128) as u32;
         }
@@ -62,7 +62,7 @@ impl Seeded {
     }
 
     /// A length, seldom another than the right one.
-    fn length(&mut self, right: usize) -> usize {
+    pub(crate) fn length(&mut self, right: usize) -> usize {
         if self.random.once_in(SELDOM) {
             self.random.below(LONGEST) as usize
         } else {

@@ -1,5 +1,6 @@
 //! Systematic cases: every length, address, bit, byte and number near a limit.
 
+use crate::captions;
 use crate::cases::{self, Image, Numbers, ADDRESS, BEFORE, ROOM};
 use crate::comparer::Comparer;
 use crate::pairs;
@@ -50,6 +51,7 @@ pub fn all(comparer: &mut Comparer, seed: u64) {
     signalling_settings(comparer, &mut random);
     signalling_images(comparer, &mut random);
     pairs::all(comparer, &mut random);
+    captions::all(comparer, &mut random);
 }
 
 /// A sound case: an image, settings and the image they make.
@@ -89,14 +91,19 @@ fn lengths(comparer: &mut Comparer, random: &mut Random) {
     }
 }
 
+/// The addresses that are tried: all up to a number, and ones around the powers of two.
+pub(crate) fn every_address() -> impl Iterator<Item = u32> {
+    let powers = (8..u32::BITS).map(|place| 1 << place);
+    let wide = powers.flat_map(|power: u32| [power - 1, power, power + 2, power | ADDRESS]);
+    (0..=ADDRESSES).chain(wide).chain([u32::MAX, u32::MAX - 1])
+}
+
 /// Many addresses, for each place of one.
 fn addresses(comparer: &mut Comparer, random: &mut Random) {
     let (image, settings, _) = sound(random);
     let (planned, bytes) = cases::packed(&image, &settings);
     let plan = &bytes[..planned.length as usize];
-    let powers = (8..u32::BITS).map(|place| 1 << place);
-    let wide = powers.flat_map(|power: u32| [power - 1, power, power + 2, power | ADDRESS]);
-    for address in (0..=ADDRESSES).chain(wide).chain([u32::MAX, u32::MAX - 1]) {
+    for address in every_address() {
         comparer.plan(&image, &settings, address, &[BEFORE; ROOM]);
         for bytes in [plan, &[0x00], &[0x01], &[]] {
             comparer.play(&image, address, ADDRESS, bytes);

@@ -13,10 +13,23 @@ pub enum Entry {
     Transaction,
     /// Comparing two images.
     Compare,
+    /// Planning captions.
+    PlanCaptions,
+    /// Playing captions.
+    PlayCaptions,
+    /// Reading captions.
+    ReadCaptions,
+}
+
+impl Entry {
+    /// Its name.
+    pub fn name(self) -> &'static str {
+        NAMES[self as usize]
+    }
 }
 
 /// How many there are.
-const ENTRIES: usize = 5;
+const ENTRIES: usize = 8;
 /// All of them.
 const ALL: [Entry; ENTRIES] = [
     Entry::Plan,
@@ -24,13 +37,25 @@ const ALL: [Entry; ENTRIES] = [
     Entry::Read,
     Entry::Transaction,
     Entry::Compare,
+    Entry::PlanCaptions,
+    Entry::PlayCaptions,
+    Entry::ReadCaptions,
 ];
 /// Their names, in that order.
-const NAMES: [&str; ENTRIES] = ["plan", "play", "read", "transaction", "compare"];
+const NAMES: [&str; ENTRIES] = [
+    "plan",
+    "play",
+    "read",
+    "transaction",
+    "compare",
+    "plan_captions",
+    "play_captions",
+    "read_captions",
+];
 /// Numbers of refusals, none among them.
 const REFUSALS: usize = 11;
 /// Numbers of fields, none among them.
-const FIELDS: usize = 29;
+const FIELDS: usize = 30;
 /// The refusal of a number outside its range.
 const RANGE: u32 = 3;
 /// The last field that settings have.
@@ -52,7 +77,7 @@ const PLAN: [(u32, u32); 12] = [
     (4, 19),
     (4, 23),
 ];
-/// Playing.
+/// Playing, settings or captions.
 const PLAY: [(u32, u32); 3] = [(1, 0), (2, 0), (9, 0)];
 /// Reading. Fields whose every code has a setting aren't among them.
 const READ: [(u32, u32); 19] = [
@@ -81,6 +106,10 @@ const READ: [(u32, u32); 19] = [
 const TRANSACTION: [(u32, u32); 3] = [(9, 0), (3, 0), (10, 0)];
 /// Comparing.
 const COMPARE: [(u32, u32); 1] = [(1, 0)];
+/// Planning captions.
+const PLAN_CAPTIONS: [(u32, u32); 3] = [(2, 0), (3, 29), (10, 0)];
+/// Reading captions.
+const READ_CAPTIONS: [(u32, u32); 3] = [(1, 0), (3, 29), (4, 29)];
 
 /// Counts by entry, refusal and field.
 pub struct Tally([[[u64; FIELDS]; REFUSALS]; ENTRIES]);
@@ -102,7 +131,7 @@ impl Tally {
 
     /// Prints the table, and gives how many that can occur never came.
     pub fn print(&self) -> u64 {
-        println!("entry       refusal field      count");
+        println!("entry         refusal field      count");
         let mut missing = 0;
         for entry in ALL {
             for refusal in 0..REFUSALS as u32 {
@@ -110,9 +139,9 @@ impl Tally {
                     let count = self.0[entry as usize][refusal as usize][field as usize];
                     let can = can_be(entry, refusal, field);
                     if count > 0 || can {
-                        let name = NAMES[entry as usize];
+                        let name = entry.name();
                         let note = if count == 0 { "  NEVER CAME" } else { "" };
-                        println!("{name:11} {refusal:7} {field:5} {count:10}{note}");
+                        println!("{name:13} {refusal:7} {field:5} {count:10}{note}");
                     }
                     missing += (count == 0 && can) as u64;
                 }
@@ -133,10 +162,12 @@ fn can_be(entry: Entry, refusal: u32, field: u32) -> bool {
     let pair = (refusal, field);
     let listed = match entry {
         Entry::Plan => PLAN.contains(&pair) || refusal == RANGE && field <= LAST_SET,
-        Entry::Play => PLAY.contains(&pair),
+        Entry::Play | Entry::PlayCaptions => PLAY.contains(&pair),
         Entry::Read => READ.contains(&pair),
         Entry::Transaction => TRANSACTION.contains(&pair),
         Entry::Compare => COMPARE.contains(&pair),
+        Entry::PlanCaptions => PLAN_CAPTIONS.contains(&pair),
+        Entry::ReadCaptions => READ_CAPTIONS.contains(&pair),
     };
     listed || pair == (0, 0)
 }

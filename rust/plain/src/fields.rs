@@ -148,4 +148,6 @@ pub mod number {
     pub const CURVE_B: u32 = 27;
     /// Subcarrier word.
     pub const WORD: u32 = 28;
+    /// Captions: a refusal's number only.
+    pub const CAPTIONS: u32 = 29;
 }

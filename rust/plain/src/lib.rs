@@ -1,5 +1,5 @@
-//! Planning, playing, reading back and comparing settings of one ADV7194, in
-//! plain Rust.
+//! Planning, playing, reading back and comparing settings of one ADV7194, and
+//! its captions, in plain Rust.
 //!
 //! Written from the papers alone. It shares no code and no table with the
 //! proved library: it is what that library is compared with, and timed against.
@@ -17,6 +17,8 @@ pub mod search;
 pub mod signal;
 pub mod subcarrier;
 
+mod caption_listing;
+mod captions;
 mod check;
 mod compare;
 mod pack;
@@ -28,6 +30,9 @@ mod transaction;
 mod unpack;
 mod wanted;
 
+pub use caption_listing::caption_listing;
+pub use captions::{is_odd, plan_captions, play_captions, read_captions, with_parity};
+pub use captions::{CaptionsAnswer, CAPTION_ROOM, PAIR};
 pub use check::check;
 pub use compare::{compare, outside, raw_code, CompareAnswer, LAST_FIELD};
 pub use plan::{plan, PlanAnswer};

@@ -22,14 +22,21 @@ pub struct PlanAnswer {
     pub bus_bytes: u32,
 }
 
+impl PlanAnswer {
+    /// What a refusal answers.
+    pub(crate) fn refused(refused: Refusal) -> PlanAnswer {
+        PlanAnswer {
+            refusal: refused.refusal,
+            field: refused.field,
+            ..PlanAnswer::default()
+        }
+    }
+}
+
 /// Packs into `plan` the least list of transactions that brings a chip holding
 /// `image` to the settings. Checks 1, 2, the fields in order, then 10.
 pub fn plan(image: &[u8], settings: &[i32], address: u32, plan: &mut [u8]) -> PlanAnswer {
-    planned(image, settings, address, plan).unwrap_or_else(|refused| PlanAnswer {
-        refusal: refused.refusal,
-        field: refused.field,
-        ..PlanAnswer::default()
-    })
+    planned(image, settings, address, plan).unwrap_or_else(PlanAnswer::refused)
 }
 
 /// Planning, with its refusal as an error.

@@ -15,21 +15,28 @@ pub struct PlayAnswer {
     pub acknowledged: u32,
 }
 
+impl PlayAnswer {
+    /// Whether every byte was acknowledged, or the refusal.
+    pub(crate) fn of(played: Result<bool, Refusal>) -> PlayAnswer {
+        match played {
+            Ok(acknowledged) => PlayAnswer {
+                refusal: 0,
+                field: 0,
+                acknowledged: acknowledged as u32,
+            },
+            Err(refused) => PlayAnswer {
+                refusal: refused.refusal,
+                field: refused.field,
+                acknowledged: 0,
+            },
+        }
+    }
+}
+
 /// Plays the packed `plan`, sent to the address `used`, on a chip holding
 /// `image` whose own address is `own`. Checks 1, 2 for either address, then 9.
 pub fn play(image: &mut [u8], used: u32, own: u32, plan: &[u8]) -> PlayAnswer {
-    match played(image, used, own, plan) {
-        Ok(acknowledged) => PlayAnswer {
-            refusal: 0,
-            field: 0,
-            acknowledged: acknowledged as u32,
-        },
-        Err(refused) => PlayAnswer {
-            refusal: refused.refusal,
-            field: refused.field,
-            acknowledged: 0,
-        },
-    }
+    PlayAnswer::of(played(image, used, own, plan))
 }
 
 /// Playing, with its refusal as an error.

@@ -6,9 +6,11 @@ use crate::fields::number;
 pub const IMAGE_LENGTH: u32 = 1;
 /// A bus address is odd or above 254.
 pub const ADDRESS: u32 = 2;
-/// A number is outside its range, or there is no such transaction.
+/// A number is outside its range, there is no such transaction, or no pair of
+/// captions.
 pub const RANGE: u32 = 3;
-/// A code is reserved, a must-be-zero bit is set, or WSS breaks its odd count.
+/// A code is reserved, a must-be-zero bit is set, or WSS or a caption byte
+/// breaks its odd count.
 pub const RESERVED: u32 = 4;
 /// Square pixel with 4x.
 pub const SQUARE_FOUR_TIMES: u32 = 5;

@@ -85,7 +85,7 @@ pub fn side_by_side(a: &[u8], b: &[u8]) -> String {
 }
 
 /// Bytes in two hexadecimal digits each, a space between them.
-fn hex(bytes: &[u8]) -> String {
+pub(crate) fn hex(bytes: &[u8]) -> String {
     let digits: Vec<String> = bytes.iter().map(|byte| format!("{byte:02X}")).collect();
     digits.join(" ")
 }

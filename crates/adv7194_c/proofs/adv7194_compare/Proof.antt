@@ -1,6 +1,5 @@
 -- `adv7194_compare` meets its contract: it is the library's comparison, answered in numbers. Assumes nothing.
 use mathlib.Core.Path.{sym, subst}
-use borrow.Author.Needs.{needs}
 use denote.Ref.{now}
 use Rattle.adv7194_c.proofs.Comparing.{Compares, compares}
 use Rattle.adv7194_c.proofs.adv7194_compare.Statement.{statement}
@@ -14,4 +13,4 @@ returns c =
     (compares (now (a .a)) (now (a .b)) (p .compare .result) (p .compare .ensures))
 
 pub adv7194-compare-spec : {M : Type 1} → statement M
-adv7194-compare-spec = tie.close (tie.spec (λ c κs. search needs) (λ c κs. search needs) returns)
+adv7194-compare-spec = tie.close (tie.spec (λ c κs. tt) (λ c κs. tt) returns)

@@ -14,4 +14,4 @@ returns c =
     (promised (now (a .image)) (now (a .settings)) (a .address) (now (a .plan)) (p .plan .last .1 .1 .1 .0) (p .plan .result) (p .plan .ensures))
 
 pub adv7194-plan-spec : {M : Type 1} → statement M
-adv7194-plan-spec = tie.close (tie.spec (λ c κs. search needs) (λ c κs. search needs) (λ c. search needs) returns)
+adv7194-plan-spec = tie.close (tie.spec (λ c κs. tt) (λ c κs. tt) (λ c. search needs) returns)

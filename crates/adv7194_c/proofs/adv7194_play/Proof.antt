@@ -1,7 +1,7 @@
 -- `adv7194_play` meets its contract: it is the library's playing, answered in numbers. Assumes nothing.
 use mathlib.Core.Path.{ap, _∙_}
 use borrow.Author.Needs.{needs}
-use Rattle.adv7194_c.specs.Answers.{playAnswer}
+use Rattle.adv7194_answers.specs.Answers.{playAnswer}
 use Rattle.adv7194_c.proofs.adv7194_play.Statement.{statement}
 use Rattle.adv7194_c.proofs.adv7194_play.Tie as tie
 
@@ -11,4 +11,4 @@ returns c =
     (c .play-answer .ensures ∙ ap playAnswer (p .play .ensures .0), p .play .ensures .1)
 
 pub adv7194-play-spec : {M : Type 1} → statement M
-adv7194-play-spec = tie.close (tie.spec (λ c κs. search needs) (λ c κs. search needs) (λ c. search needs) returns)
+adv7194-play-spec = tie.close (tie.spec (λ c κs. tt) (λ c κs. tt) (λ c. search needs) returns)

@@ -1,7 +1,7 @@
 -- `adv7194_transaction` meets its contract: it is the library's, answered in numbers. Assumes nothing.
 use mathlib.Core.Path.{ap, _∙_}
 use borrow.Author.Needs.{needs}
-use Rattle.adv7194_c.specs.Answers.{transactionAnswer}
+use Rattle.adv7194_answers.specs.Answers.{transactionAnswer}
 use Rattle.adv7194_c.proofs.adv7194_transaction.Statement.{statement}
 use Rattle.adv7194_c.proofs.adv7194_transaction.Tie as tie
 
@@ -11,4 +11,4 @@ returns c =
     (c .transaction-answer .ensures ∙ ap transactionAnswer (p .transaction .ensures .0), p .transaction .ensures .1)
 
 pub adv7194-transaction-spec : {M : Type 1} → statement M
-adv7194-transaction-spec = tie.close (tie.spec (λ c κs. search needs) (λ c κs. search needs) (λ c. search needs) returns)
+adv7194-transaction-spec = tie.close (tie.spec (λ c κs. tt) (λ c κs. tt) (λ c. search needs) returns)

@@ -18,13 +18,13 @@ use Rattle.adv7194_playing.proofs.play.Tie as tie
 
 -- the judgement, from where the function was entered
 abbrev judgement : tie.Start → Judged (List Transaction)
-judgement s = judged (now (s .args .image)) (s .args .used) (s .args .own) (now (s .args .plan))
+judgement s = judged (s .args .kind) (now (s .args .image)) (s .args .used) (s .args .own) (now (s .args .plan))
 
 returns : tie.Need-returns
 returns c =
     let s = c .before .before .before in
     let a = s .args in
-    refuse (now (a .image)) (a .used) (a .own) (judgement s) 1 (wrong-length (now (a .image)) (a .used) (a .own) (now (a .plan)) (c .if1 .taken))
+    refuse (now (a .image)) (a .used) (a .own) (judgement s) 1 (wrong-length (a .kind) (now (a .image)) (a .used) (a .own) (now (a .plan)) (c .if1 .taken))
 
 returns-2 : tie.Need-returns-2
 returns-2 c =
@@ -32,7 +32,8 @@ returns-2 c =
     let s = r .before .before .before .before in
     let a = s .args in
     refuse (now (a .image)) (a .used) (a .own) (judgement s) 2
-    (wrong-used (now (a .image)) (a .used) (a .own) (now (a .plan)) (r .before .if1 .left) (sym (r .address-right .ensures) ∙ not-true _ (c .if2 .taken)))
+    (wrong-used (a .kind) (now (a .image)) (a .used) (a .own) (now (a .plan)) (r .before .if1 .left)
+    (sym (r .address-right .ensures) ∙ not-true _ (c .if2 .taken)))
 
 returns-3 : tie.Need-returns-3
 returns-3 c =
@@ -41,7 +42,7 @@ returns-3 c =
     let s = r .before .before .before .before in
     let a = s .args in
     refuse (now (a .image)) (a .used) (a .own) (judgement s) 2
-    (wrong-own (now (a .image)) (a .used) (a .own) (now (a .plan)) (r .before .if1 .left)
+    (wrong-own (a .kind) (now (a .image)) (a .used) (a .own) (now (a .plan)) (r .before .if1 .left)
     (sym (r .address-right .ensures) ∙ not-false _ (q .before .if2 .left)) (sym (q .address-right2 .ensures) ∙ not-true _ (c .if3 .taken)))
 
 -- where the function was entered, from where both addresses were judged right
@@ -63,7 +64,7 @@ returns-4 c =
     let p = c .before .before in
     let e = p .before .before in
     let a = start e .args in
-    let j = right-so-far (now (a .image)) (a .used) (a .own) (now (a .plan)) (long e) (used-right e) (own-right e) in (
+    let j = right-so-far (a .kind) (now (a .image)) (a .used) (a .own) (now (a .plan)) (long e) (used-right e) (own-right e) in (
       p .play-checked .ensures .0 ∙ sym (ap (acknowledgedBy (now (a .image)) (a .used) (a .own)) j),
       p .play-checked .ensures .1 ∙ sym (ap (registersAfter (now (a .image)) (a .used) (a .own)) j),
     )

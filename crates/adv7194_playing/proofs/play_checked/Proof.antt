@@ -11,7 +11,7 @@ use Rattle.bus.specs.Transactions.{Transaction}
 use Rattle.unpacking.specs.declared.Checked.{Checked}
 use Rattle.unpacking.specs.Unpacking.{unpack, counted, answerOf}
 use Rattle.unpacking.proofs.PlanLaws.{refused-list}
-use Rattle.adv7194_playing.specs.Playing.{judgedByRules}
+use Rattle.adv7194_playing.specs.Playing.{judgedAs}
 use Rattle.adv7194_playing.specs.Written.{Written}
 use Rattle.adv7194_playing.proofs.JudgedLaws.{refuse}
 use Rattle.adv7194_playing.proofs.Elsewhere.{nothing-stored, not-acknowledged}
@@ -26,7 +26,7 @@ start w = w .before .before .before .before .before .before
 
 -- the judgement of the plan
 abbrev judgement : tie.After-write-plan → Judged (List Transaction)
-judgement w = judgedByRules (unpack (now (start w .args .plan)))
+judgement w = judgedAs (start w .args .kind) (unpack (now (start w .args .plan)))
 
 -- as it was answered
 answered : (w : tie.After-write-plan) (r : Checked) → w .write-plan .result ≡ r → counted (judgement w) ≡ answerOf r
@@ -51,19 +51,19 @@ returns-2 c =
     refuse (now (a .image)) (a .used) (a .own) (judgement w) n (refused-list (judgement w) n (answered w _ (t .refusal .given .1)))
 
 -- the registers that were written, from the image's
-wrote : (w : tie.After-write-plan) → Written (judgement w) (now (start w .args .image)) (w .write-plan .last .1 .0)
-wrote w = subst (λ (l : List ℕ). Written (judgement w) l (w .write-plan .last .1 .0)) (w .before .before .copied .ensures) (w .write-plan .ensures .1)
+wrote : (w : tie.After-write-plan) → Written (judgement w) (now (start w .args .image)) (w .write-plan .last .1 .1 .0)
+wrote w = subst (λ (l : List ℕ). Written (judgement w) l (w .write-plan .last .1 .1 .0)) (w .before .before .copied .ensures) (w .write-plan .ensures .1)
 
 -- where the plan was written at the chip's own address
 abbrev written-at : tie.After-copy → tie.After-write-plan
 written-at k = k .before .before .before .before .before .before .before .before
 
 -- the image became those registers
-became : (k : tie.After-copy) → k .copy .last .1 .0 ≡ written-at k .write-plan .last .1 .0
+became : (k : tie.After-copy) → k .copy .last .1 .0 ≡ written-at k .write-plan .last .1 .1 .0
 became k =
     let w = written-at k in
     let image = now (start w .args .image) in
-    k .copy .ensures .1 ∙ copied-whole (w .write-plan .last .1 .0) image (sym (left-as-many (judgement w) image (w .write-plan .last .1 .0) (wrote w)))
+    k .copy .ensures .1 ∙ copied-whole (w .write-plan .last .1 .1 .0) image (sym (left-as-many (judgement w) image (w .write-plan .last .1 .1 .0) (wrote w)))
 
 returns-3 : tie.Need-returns-3
 returns-3 c =
@@ -72,14 +72,14 @@ returns-3 c =
     let t = o .before .before in
     let w = written-at k in
     let a = start w .args in
-    let p = own-played (now (a .image)) (a .used) (a .own) (o .if1 .left) (now (a .plan)) _ _ (answered w _ (t .transactions .given .1)) (wrote w) in
+    let p = own-played (a .kind) (now (a .image)) (a .used) (a .own) (o .if1 .left) (now (a .plan)) _ _ (answered w _ (t .transactions .given .1)) (wrote w) in
     (p .0, became k ∙ p .1)
 
 same-length-3 : tie.Need-same-length-3
 same-length-3 c =
     let k = c .before .before in
     let w = written-at k in
-    ap length (became k) ∙ left-as-many (judgement w) (now (start w .args .image)) (w .write-plan .last .1 .0) (wrote w)
+    ap length (became k) ∙ left-as-many (judgement w) (now (start w .args .image)) (w .write-plan .last .1 .1 .0) (wrote w)
 
 pub play-checked-spec : {M : Type 1} → statement M
 play-checked-spec =

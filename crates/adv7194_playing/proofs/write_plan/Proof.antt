@@ -1,22 +1,26 @@
--- `write_plan` meets its contract: it is a walk that writes the data of each transaction that keeps the rules. Assumes nothing.
-use mathlib.Core.Path.{_≡_, sym, _∙_, subst}
-use mathlib.Core.Bool.{true, false}
+-- `write_plan` meets its contract: it is a walk that writes the data of each transaction that the kind takes. Assumes nothing.
+use mathlib.Core.Path.{_≡_, sym, ap, _∙_, subst}
+use mathlib.Core.Bool.{Bool, true, false, not, _&&_}
 use mathlib.Core.List.{List}
 use Prim.Native.Nat.{ℕ}
 use native.Mathlib.Omega.{arith}
+use lib.Dec.{eqb}
 use borrow.Author.Needs.{needs}
 use borrow.Author.Tests.{not-true, not-false}
 use Rattle.unpacking.specs.declared.steps.Step.{Step}
 use Rattle.unpacking.proofs.StepLaws.{Went, Stepped, stepped}
-use Rattle.adv7194_playing.proofs.WrittenLaws.{Writing, as-many, fault-answered, end-answered, rule-answered, written-on, writing-begins}
+use Rattle.adv7194_playing.specs.Kinds.{takesHeader}
+use Rattle.adv7194_playing.proofs.KindLaws.{enough}
+use Rattle.adv7194_playing.proofs.WrittenLaws.{Writing, as-many, fault-answered, empty-answered, end-answered, header-answered, writing-begins}
+use Rattle.adv7194_playing.proofs.WrittenLaws.{data-there, still-as-many, data-answered, written-on}
 use Rattle.adv7194_playing.proofs.write_plan.Statement.{statement}
 use Rattle.adv7194_playing.proofs.write_plan.Tie as tie
 
 abbrev Inv-loop : tie.InvT-loop
-Inv-loop plan registers₀ cursor₀ transactions₀ registers cursor transactions = Writing plan registers₀ registers cursor transactions
+Inv-loop kind plan registers₀ cursor₀ transactions₀ registers cursor transactions = Writing kind plan registers₀ registers cursor transactions
 
 abbrev μ-loop : tie.MeasureT-loop
-μ-loop plan registers₀ cursor₀ transactions₀ registers cursor transactions = cursor .left
+μ-loop kind plan registers₀ cursor₀ transactions₀ registers cursor transactions = cursor .left
 
 -- where the function was entered
 abbrev start : tie.At-loop Inv-loop μ-loop → tie.Start Inv-loop μ-loop
@@ -28,8 +32,8 @@ plan-at c = start c .args .plan .now
 loop-holds : tie.Need-loop-holds Inv-loop μ-loop
 loop-holds c =
     let k = c .before .before in
-    writing-begins (k .before .args .plan .now) (k .before .args .registers .now) (c .begin .result) (c .begin .ensures)
-    (λ i. k .shared-slice-known .given i .fits)
+    let a = k .before .args in
+    writing-begins (a .kind) (a .plan .now) (a .registers .now) (c .begin .result) (c .begin .ensures) (λ i. k .shared-slice-known .given i .fits)
 
 -- what the step says
 said : (c : tie.After-next Inv-loop μ-loop) (r : Step) → c .next .result ≡ r → Stepped (plan-at (c .before)) (c .before .loop .cursor) r
@@ -39,8 +43,24 @@ said c r e = subst (Stepped (plan-at (c .before)) (c .before .loop .cursor)) (sy
 returns : tie.Need-returns Inv-loop μ-loop
 returns c = let n = c .before .before in fault-answered (n .before .loop .inv) (said n _ (c .enum-told .given .1))
 
+-- whether there are enough transactions, as the end tests it
+tested : (c : tie.After-needs-transaction Inv-loop μ-loop) (b : Bool)
+    → eqb (c .before .before .before .before .loop .transactions) 0 && c .needs-transaction .result ≡ b
+    → enough (start (c .before .before .before .before) .args .kind) (c .before .before .before .before .loop .transactions) ≡ not b
+tested c b e =
+    ap not (sym (ap (λ (x : Bool). eqb (c .before .before .before .before .loop .transactions) 0 && x) (c .needs-transaction .ensures)) ∙ e)
+
 returns-2 : tie.Need-returns-2 Inv-loop μ-loop
-returns-2 c = let n = c .before .before in end-answered (n .before .loop .inv) (said n _ (c .enum-told2 .given .1))
+returns-2 c =
+    let e = c .before .before in
+    let n = e .before .before in
+    empty-answered (n .before .loop .inv) (said n _ (e .enum-told2 .given .1)) (tested (c .before) true (c .if1 .taken))
+
+returns-3 : tie.Need-returns-3 Inv-loop μ-loop
+returns-3 c =
+    let e = c .before .before in
+    let n = e .before .before in
+    end-answered (n .before .loop .inv) (said n _ (e .enum-told2 .given .1)) (tested (c .before) false (c .if1 .left))
 
 -- the transaction that was found
 went : (c : tie.After-subaddress Inv-loop μ-loop)
@@ -48,28 +68,47 @@ went : (c : tie.After-subaddress Inv-loop μ-loop)
     (c .subaddress .given .0 .1 .1 .0) (c .subaddress .given .0 .1 .1 .1 .0)
 went c = said (c .before .before) _ (c .subaddress .given .1)
 
-returns-3 : tie.Need-returns-3 Inv-loop μ-loop
-returns-3 c =
+returns-4 : tie.Need-returns-4 Inv-loop μ-loop
+returns-4 c =
     let k = c .before in
     let s = k .before .before in
-    rule-answered (s .before .before .before .loop .inv) (went s) (sym (k .keeps-rules .ensures) ∙ not-true _ (c .if1 .taken))
+    header-answered (s .before .before .before .loop .inv) (went s) (sym (k .takes-header .ensures) ∙ not-true _ (c .if2 .taken))
 
--- the turn that ends
-abbrev kept : tie.After-slice-known2 Inv-loop μ-loop → tie.Else1 Inv-loop μ-loop
-kept c = c .before .before .before .before
+-- its header was taken, and its data were written
+abbrev found : tie.After-takes-data-arg Inv-loop μ-loop → tie.After-subaddress Inv-loop μ-loop
+found c = c .before .before .before .before .before .before .before .before
 
-abbrev found : tie.After-slice-known2 Inv-loop μ-loop → tie.After-subaddress Inv-loop μ-loop
-found c = kept c .before .before .before
+header : (c : tie.After-takes-data-arg Inv-loop μ-loop)
+    → takesHeader (start (found c .before .before .before) .args .kind) (found c .subaddress .given .0 .0) (found c .subaddress .given .0 .1 .0) ≡ true
+header c = let e = c .before .before .before .before .before in sym (e .before .takes-header .ensures) ∙ not-false _ (e .if2 .left)
+
+returns-5 : tie.Need-returns-5 Inv-loop μ-loop
+returns-5 c =
+    let a = c .before .before in
+    let l = found a .before .before .before in
+    data-answered (l .loop .inv) (went (found a)) (start l .pre) (header a) (a .before .before .before .copy-data .ensures)
+    (sym (c .before .takes-data .ensures) ∙ not-true _ (c .if3 .taken))
 
 add-transactions : tie.Need-add-transactions Inv-loop μ-loop
-add-transactions c = let v = found c .before .before .before .loop .inv in record { fits = omega (arith, v .counts, v .walked .few) }
+add-transactions c = let v = found (c .before .before) .before .before .before .loop .inv in record { fits = omega (arith, v .counts, v .walked .few) }
 
 loop-again : tie.Need-loop-again Inv-loop μ-loop
 loop-again c =
-    let e = kept c in
+    let a = c .before .before in
+    let l = found a .before .before .before in
+    written-on (l .loop .inv) (went (found a)) (start l .pre) (header a) (a .before .before .before .copy-data .ensures)
+    (sym (c .before .takes-data .ensures) ∙ not-false _ (c .if3 .left))
+
+same-length-5 : tie.Need-same-length-5 Inv-loop μ-loop
+same-length-5 c =
+    let a = c .before .before in
+    let l = found a .before .before .before in
+    still-as-many (l .loop .inv) (went (found a)) (start l .pre) (header a) (a .before .before .before .copy-data .ensures)
+
+takes-data-requires : tie.Need-takes-data-requires Inv-loop μ-loop
+takes-data-requires c κs =
     let l = found c .before .before .before in
-    written-on (l .loop .inv) (went (found c)) (start l .pre) (sym (e .before .keeps-rules .ensures) ∙ not-false _ (e .if1 .left)) _
-    (c .before .before .copy-data .ensures)
+    data-there (l .loop .inv) (went (found c)) (start l .pre) (header c) (c .before .before .before .copy-data .ensures)
 
 pub write-plan-spec : {M : Type 1} → statement M
 write-plan-spec =
@@ -77,20 +116,26 @@ write-plan-spec =
     (tie.spec
     Inv-loop
     μ-loop
-    (λ c κs. search needs)
+    (λ c κs. tt)
     loop-holds
-    (λ c κs. search needs)
+    (λ c κs. tt)
     (λ c. search needs)
     (λ c. as-many (c .before .before .before .loop .inv))
     returns
     (λ c. search needs)
-    (λ c. as-many (c .before .before .before .loop .inv))
+    (λ c κs. tt)
+    (λ c. as-many (c .before .before .before .before .before .loop .inv))
     returns-2
-    (λ c. search needs)
-    (λ c κs. search needs)
-    (λ c. as-many (c .before .before .before .before .before .before .loop .inv))
+    (λ c. as-many (c .before .before .before .before .before .loop .inv))
     returns-3
-    (λ c κs. search needs)
+    (λ c. search needs)
+    (λ c κs. tt)
+    (λ c. as-many (c .before .before .before .before .before .before .loop .inv))
+    returns-4
+    (λ c κs. tt)
+    takes-data-requires
+    same-length-5
+    returns-5
     add-transactions
-    (λ c. omega (arith, went (found c) .left))
+    (λ c. omega (arith, went (found (c .before .before)) .left))
     loop-again)

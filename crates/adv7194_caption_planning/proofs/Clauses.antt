@@ -1,0 +1,80 @@
+-- All that planning captions promises, of whatever it answers and leaves. Assumes nothing.
+use mathlib.Core.Path.{_≡_, refl, sym, ap, _∙_}
+use mathlib.Core.Bool.{Bool, true, false}
+use mathlib.Core.List.{List, _++_}
+use Prim.Native.Nat.{ℕ, _<_}
+use native.Mathlib.Omega.{arith}
+use lib.Dec.{leb}
+use lib.IntN.{ℤ}
+use lib.ListN.{length, take, drop}
+use lib.Seq.{take-append-seam}
+use borrow.Author.Tests.{leb-false, not-false}
+use Rattle.refusals.specs.Verdict.{Verdict, good, refusedAt}
+use Rattle.refusals.specs.Order.{Exactly, placesAt}
+use Rattle.refusals.proofs.OrderLaws.{good-none, exactly}
+use Rattle.packing.specs.Packing.{packed}
+use Rattle.planning.specs.Plan.{Counts, countsOf, packingOf, leftBy, done}
+use Rattle.adv7194_bus.specs.Address.{addressRight}
+use Rattle.adv7194_captions.specs.Pairs.{pairsRight, captionList}
+use Rattle.adv7194_captions.specs.Planning.{captionRow, captionOrder, captionPlanning, captionPlanLeft}
+use Rattle.adv7194_captions.proofs.ListLaws.{captions-length}
+use Rattle.adv7194_captions.proofs.RowLaws.{wrong-address, wrong-pairs, right-pairs}
+use Rattle.adv7194_caption_planning.specs.Demands.{CaptionsPlayed, captionBytes}
+use Rattle.adv7194_caption_planning.proofs.PlayedLaws.{captions-played}
+
+-- all that planning promises of an answer, and of what it leaves of the lent plan
+abbrev pub Clauses : List ℤ → List ℤ → ℕ → List ℕ → List ℕ → Verdict Counts → Type 0
+Clauses extended ordinary address plan after v =
+    (v ≡ captionPlanning extended ordinary address (length plan))
+    × ((after ≡ captionPlanLeft extended ordinary address plan)
+    × (Exactly (captionRow extended ordinary address (length plan)) captionOrder (countsOf (captionList extended ordinary)) v
+    × (((l t b : ℕ) → v ≡ done l t b → CaptionsPlayed extended ordinary (take l after))
+    × ((f : ℕ) → v ≡ refusedAt 10 f → length plan < captionBytes))))
+
+module _ (extended ordinary : List ℤ) (address room : ℕ) where
+  -- the pairs of a plan that is answered are right, and its numbers are the list's
+  planned : (n : Counts) → captionPlanning extended ordinary address room ≡ good n
+      → (countsOf (captionList extended ordinary) ≡ n) × (pairsRight extended ordinary ≡ true)
+  unfolding captionPlanning captionOrder placesAt captionRow
+  planned n e =
+      let g = good-none (captionRow extended ordinary address room) captionOrder (countsOf (captionList extended ordinary)) n e in
+      (g .0, not-false (pairsRight extended ordinary) (g .1 .1 .0))
+
+  -- where the room is refused, it is too short for the list of right pairs
+  too-short : (f : ℕ) → captionPlanning extended ordinary address room ≡ refusedAt 10 f → room < captionBytes
+  too-short f e = by (addressRight address) refl (pairsRight extended ordinary) refl (leb (length (packed (captionList extended ordinary))) room) refl
+    where
+      by : (a : Bool) → addressRight address ≡ a → (p : Bool) → pairsRight extended ordinary ≡ p
+          → (l : Bool) → leb (length (packed (captionList extended ordinary))) room ≡ l → room < captionBytes
+      by false x p y l z = let w = wrong-address extended ordinary address room x in let z : _≡_ {A = ℕ} 2 10 = cc in absurd (omega arith)
+      by true x false y l z = let w = wrong-pairs extended ordinary address room x y in let z : _≡_ {A = ℕ} 3 10 = cc in absurd (omega arith)
+      by true x true y true z =
+          let w = right-pairs extended ordinary address room x y in
+          let v : packingOf (captionList extended ordinary) room ≡ good (countsOf (captionList extended ordinary)) = rw z in
+          let z : _≡_ {A = ℕ} 0 1 = cc in
+          absurd (omega arith)
+      by true x true y false z =
+          omega (arith, leb-false (length (packed (captionList extended ordinary))) room z, captions-length extended ordinary y)
+
+module _ (extended ordinary : List ℤ) (address : ℕ) (plan after : List ℕ) (v : Verdict Counts)
+    (answer : v ≡ captionPlanning extended ordinary address (length plan)) (memory : after ≡ captionPlanLeft extended ordinary address plan) where
+  -- the bytes answered are the packed list
+  left : (l t b : ℕ) → v ≡ done l t b → take l after ≡ packed (captionList extended ordinary)
+  left l t b e =
+      let list = captionList extended ordinary in
+      let k = planned extended ordinary address (length plan) (record { length = l; transactions = t; busBytes = b }) (sym answer ∙ e) .0 in
+      let n : l ≡ length (packed list) = sym (ap (λ (n : Counts). n .length) k) in
+      ap (take l) (memory ∙ ap (leftBy list plan) (sym answer ∙ e)) ∙ ap (λ (k : ℕ). take k (packed list ++ drop k plan)) n
+      ∙ take-append-seam (packed list) (drop (length (packed list)) plan)
+
+  -- what the bytes do
+  played : (l t b : ℕ) → v ≡ done l t b → CaptionsPlayed extended ordinary (take l after)
+  played l t b e =
+      let k = planned extended ordinary address (length plan) (record { length = l; transactions = t; busBytes = b }) (sym answer ∙ e) in
+      rw (left l t b e) (captions-played extended ordinary (k .1))
+
+  pub clauses : Clauses extended ordinary address plan after v
+  unfolding captionPlanning
+  clauses =
+      let e = exactly (captionRow extended ordinary address (length plan)) captionOrder (countsOf (captionList extended ordinary)) answer in
+      (answer, (memory, (e, (played, λ f k. too-short extended ordinary address (length plan) f (sym answer ∙ k)))))

@@ -1,0 +1,3 @@
+pub mod PairCounts
+pub mod PlayedLaws
+pub mod Clauses

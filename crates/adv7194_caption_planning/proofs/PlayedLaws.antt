@@ -1,0 +1,152 @@
+-- What the packed list of right pairs does: it unpacks, is acknowledged at the chip's own address alone, and leaves bytes that read back as the
+-- characters. Assumes nothing.
+use mathlib.Core.Path.{_≡_, refl, sym, ap, ap₂, _∙_}
+use mathlib.Core.Logic.{_≢_, ⊎-elim}
+use mathlib.Core.Bool.{Bool, true, false}
+use mathlib.Core.List.{List, [], _∷_}
+use Prim.Native.Nat.{ℕ, suc, _+_, _<_}
+use native.Mathlib.Omega.{arith}
+use lib.Dec.{eqb}
+use lib.IntN.{ℤ, natAbs}
+use lib.ListN.{length, getD}
+use borrow.Author.Tests.{eqb-true, eqb-false, eq-eqb, ne-eqb}
+use Rattle.bits.proofs.ParityLaws.{parity-odd, parity-low}
+use Rattle.refusals.specs.Refusal.{accepted}
+use Rattle.refusals.specs.Verdict.{good}
+use Rattle.bus.specs.Transactions.{Transaction, size, Every}
+use Rattle.bus.specs.Chip.{Chip, fresh}
+use Rattle.bus.specs.Run.{allAcknowledged, listEvents, after}
+use Rattle.bus.proofs.Play.{touched-or-same, list-elsewhere}
+use Rattle.bus.proofs.Acknowledged.{unacknowledged-elsewhere}
+use Rattle.bus.proofs.Unanswered.{none-elsewhere}
+use Rattle.packing.specs.Packing.{packed, behind}
+use Rattle.unpacking.proofs.Exact.{in-order}
+use Rattle.least_cost.specs.Order.{Ascending, Holds}
+use Rattle.least_cost.proofs.Cheapest.{map-every}
+use Rattle.least_cost.proofs.Ends.{Kept, length-after, ascending-holds}
+use Rattle.adv7194_bus.specs.Kind.{registerCount, readOnly, adv7194}
+use Rattle.adv7194_bus.specs.Address.{addressRight}
+use Rattle.adv7194_bus.proofs.AddressLaws.{right-address}
+use Rattle.adv7194_captions.specs.Characters.{characterBits, captionByte}
+use Rattle.adv7194_captions.specs.Pairs.{pairsRight, pairAt, captionList}
+use Rattle.adv7194_captions.specs.Plans.{pairSize}
+use Rattle.adv7194_captions.specs.Reading.{pairCount, pairRegister, captionReading}
+use Rattle.adv7194_captions.proofs.PairLaws.{Character, Right, ordinary-alone, extended-alone, both-given, right}
+use Rattle.adv7194_captions.proofs.ListLaws.{captions-formed, captions-unpack, captions-some, captions-inside, captions-sized}
+use Rattle.adv7194_captions.proofs.JustThese.{just-these}
+use Rattle.adv7194_captions.proofs.RowLaws.{odd-ones}
+use Rattle.adv7194_playing.specs.declared.PlanKind.the-variants.{Captions}
+use Rattle.adv7194_playing.specs.Playing.{judged, acknowledgedBy, playOf}
+use Rattle.adv7194_playing.proofs.KindLaws.{Kept as Inside}
+use Rattle.adv7194_playing.proofs.JudgedLaws.{by-list}
+use Rattle.adv7194_playing.proofs.WrittenRun.{run-acknowledged}
+use Rattle.adv7194_caption_planning.specs.Demands.{Leaves, ReadsBack, CaptionsPlayed}
+
+-- ---- the list
+
+-- it ascends
+ascends : {e o : List ℤ} → Right e o → Ascending 0 (captionList e o)
+unfolding captionList pairAt
+ascends (ordinary-alone p q) = (omega arith, tt)
+ascends (extended-alone p q) = (omega arith, tt)
+ascends (both-given p q p′ q′) = (omega arith, (omega arith, tt))
+
+-- ---- reading back
+
+-- a pair's registers with the bytes of two characters
+read-pair : (registers : List ℕ) (pair : ℕ) (a b : ℤ) → length registers ≡ registerCount → pair < pairCount → Character a → Character b
+    → captionByte a ≡ getD registers (pairRegister pair) 0 → captionByte b ≡ getD registers (suc (pairRegister pair)) 0
+    → captionReading registers pair ≡ good (record { first = natAbs a; second = natAbs b })
+read-pair registers pair a b h p u v x y =
+    odd-ones registers pair h p
+    (rw (← x, ← y) (rw (parity-odd characterBits (natAbs a) (u .small), parity-odd characterBits (natAbs b) (v .small))))
+    ∙ ap₂ (λ (m n : ℕ). good (record { first = m; second = n }))
+    (rw (← x) (parity-low characterBits (natAbs a) (u .small)))
+    (rw (← y) (parity-low characterBits (natAbs b) (v .small)))
+
+-- registers that hold the list's data
+read-back : (registers : List ℕ) → length registers ≡ registerCount → {e o : List ℤ} → Right e o
+    → Every (Holds (λ r. getD registers r 0)) (captionList e o) → ReadsBack registers 0 e × ReadsBack registers 1 o
+unfolding captionList pairAt
+read-back registers h (ordinary-alone {c} {d} p q) k = (
+  λ s. absurd (omega arith),
+  λ s. read-pair registers 1 c d h (omega arith) p q (k .0 0x13 (omega arith)) (k .0 0x14 (omega arith)),
+)
+read-back registers h (extended-alone {a} {b} p q) k = (
+  λ s. read-pair registers 0 a b h (omega arith) p q (k .0 0x11 (omega arith)) (k .0 0x12 (omega arith)),
+  λ s. absurd (omega arith),
+)
+read-back registers h (both-given {a} {b} {c} {d} p q p′ q′) k = (
+  λ s. read-pair registers 0 a b h (omega arith) p q (k .0 0x11 (omega arith)) (k .0 0x12 (omega arith)),
+  λ s. read-pair registers 1 c d h (omega arith) p′ q′ (k .1 .0 0x13 (omega arith)) (k .1 .0 0x14 (omega arith)),
+)
+
+-- ---- the chip
+
+-- two right addresses that are not the same: the one used is not the chip's read address either
+not-read : (used own : ℕ) → addressRight used ≡ true → addressRight own ≡ true → used ≢ own + 1
+not-read used own e f p = omega (arith, right-address used e .1, right-address own f .1)
+
+module _ (extended ordinary : List ℤ) (h : pairsRight extended ordinary ≡ true) where
+  abbrev list : List Transaction
+  list = captionList extended ordinary
+
+  -- its data are for registers that keep a byte
+  kept : (own : ℕ) → Every (Kept (adv7194 own)) list
+  kept own =
+      map-every Inside (Kept (adv7194 own)) (λ t k x u. (k x u .0, rw (ne-eqb x readOnly (k x u .1)))) list (captions-inside extended ordinary h)
+
+  -- at the chip's own address every byte is acknowledged
+  acknowledged : (own : ℕ) (c : Chip) → allAcknowledged (adv7194 own) c (listEvents own list) ≡ true
+  acknowledged own c =
+      run-acknowledged own list c (captions-inside extended ordinary h)
+      (map-every (λ t. size t ≡ pairSize) (λ t. 0 < size t) (λ t e. omega arith) list (captions-sized extended ordinary h))
+
+  -- and the data are left
+  leaves : (own : ℕ) (c : Chip) → length (c .registers) ≡ registerCount → Leaves list (c .registers) (after (adv7194 own) c list .registers)
+  leaves own c n = record {
+    size = length-after (adv7194 own) list c;
+    held = ascending-holds (adv7194 own) list c 0 (ascends (right extended ordinary h)) (kept own) (omega arith);
+    kept = λ r u. ⊎-elim (λ v. absurd (u v)) (λ v. v) (touched-or-same (adv7194 own) list c r);
+  }
+
+  -- at another it isn't
+  unanswered : (used own : ℕ) (c : Chip) → used ≢ own → addressRight used ≡ true → addressRight own ≡ true
+      → allAcknowledged (adv7194 own) c (listEvents used list) ≡ false
+  unanswered used own c w e f = some list (captions-some extended ordinary h)
+    where
+      some : (ts : List Transaction) → 0 < length ts → allAcknowledged (adv7194 own) c (listEvents used ts) ≡ false
+      some [] n = absurd (omega arith)
+      some (t ∷ ts) n = unacknowledged-elsewhere (adv7194 own) used w (not-read used own e f) t ts c
+
+  -- the call that plays captions takes the packed list
+  taken : (image : List ℕ) (used own : ℕ) → length image ≡ registerCount → addressRight used ≡ true → addressRight own ≡ true
+      → judged Captions image used own (packed list) ≡ accepted list
+  taken image used own n e f =
+      let order = in-order behind list (captions-formed extended ordinary h) in
+      let all = just-these list order .1 (record { extended = extended; ordinary = ordinary; right = h; list = refl }) in
+      by-list Captions image used own (packed list) n e f list true (captions-unpack extended ordinary h) all
+
+  -- and answers whether it was sent to the chip's own address
+  answer : (image : List ℕ) (used own : ℕ) → length image ≡ registerCount → addressRight used ≡ true → addressRight own ≡ true
+      → playOf Captions image used own (packed list) ≡ accepted (eqb used own)
+  answer image used own n e f = ap (acknowledgedBy image used own) (taken image used own n e f) ∙ ap accepted (by (eqb used own) refl)
+    where
+      by : (b : Bool) → eqb used own ≡ b → allAcknowledged (adv7194 own) (fresh image) (listEvents used list) ≡ eqb used own
+      by true p = rw (eqb-true used own p) (acknowledged own (fresh image) ∙ sym (eq-eqb own own refl))
+      by false p = unanswered used own (fresh image) (eqb-false used own p) e f ∙ sym p
+
+  -- what the packed list does
+  pub captions-played : CaptionsPlayed extended ordinary (packed list)
+  captions-played = record {
+    unpacks = captions-unpack extended ordinary h;
+    answer = answer;
+    acknowledged = acknowledged;
+    leaves = leaves;
+    reads = λ own c n. let l = leaves own c n in
+        read-back (after (adv7194 own) c list .registers) (l .size ∙ n) (right extended ordinary h) (l .held);
+    elsewhere = λ used own c w e f. (
+      none-elsewhere (adv7194 own) used w (not-read used own e f) list c,
+      list-elsewhere (adv7194 own) used w (not-read used own e f) list c,
+    );
+  }

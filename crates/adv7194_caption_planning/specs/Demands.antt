@@ -1,0 +1,55 @@
+-- Document 02, P4: what a plan of captions does. Each pair is a transaction of its own, written even where the byte is unchanged; the chip then holds
+-- these bytes, and reading a pair back gives its characters.
+use mathlib.Core.Path.{_≡_}
+use mathlib.Core.Logic.{_≢_}
+use mathlib.Core.Bool.{true}
+use mathlib.Core.List.{List}
+use Prim.Native.Nat.{ℕ, _<_}
+use lib.Dec.{eqb}
+use lib.IntN.{ℤ, pos, natAbs}
+use lib.ListN.{length, getD}
+use Rattle.refusals.specs.Refusal.{accepted}
+use Rattle.refusals.specs.Verdict.{good}
+use Rattle.bus.specs.Transactions.{Transaction, Touched, Every}
+use Rattle.bus.specs.Chip.{Chip}
+use Rattle.bus.specs.Run.{run, allAcknowledged, noneAcknowledged, listEvents}
+use Rattle.unpacking.specs.Unpacking.{unpack}
+use Rattle.least_cost.specs.Order.{Holds}
+use Rattle.adv7194_bus.specs.Kind.{registerCount, adv7194}
+use Rattle.adv7194_bus.specs.Address.{addressRight}
+use Rattle.adv7194_captions.specs.Pairs.{captionList}
+use Rattle.adv7194_captions.specs.Reading.{captionReading}
+use Rattle.adv7194_playing.specs.declared.PlanKind.the-variants.{Captions}
+use Rattle.adv7194_playing.specs.Playing.{playOf}
+
+-- the most bytes that a packed plan of captions has
+abbrev pub captionBytes : ℕ
+captionBytes = 8
+
+-- what a list leaves: its data, and every register that it doesn't touch as it was
+pub record Leaves (ts : List Transaction) (before after : List ℕ) : Type 0 where
+  pub size : length after ≡ length before
+  pub held : Every (Holds (λ r. getD after r 0)) ts
+  pub kept : (r : ℕ) → (Touched ts r → ⊥) → getD after r 0 ≡ getD before r 0
+
+-- reading a pair, where it was given, gives its characters
+abbrev pub ReadsBack : List ℕ → ℕ → List ℤ → Type 0
+ReadsBack registers pair zs =
+    0 < length zs → captionReading registers pair ≡ good (record { first = natAbs (getD zs 0 (pos 0)); second = natAbs (getD zs 1 (pos 0)) })
+
+-- a plan's bytes are those of the pairs: they unpack to their list; the call that plays captions takes them for every right pair of addresses, and at the
+-- chip's own alone they are acknowledged. The chip, whatever it waits for and points at, acknowledges every byte at its own address, then holds the
+-- pairs' bytes, every other register as it was, and reads them back; at another address it acknowledges nothing and stores nothing
+pub record CaptionsPlayed (extended ordinary : List ℤ) (plan : List ℕ) : Type 0 where
+  pub unpacks : unpack plan ≡ accepted (captionList extended ordinary)
+  pub answer : (image : List ℕ) (used own : ℕ) → length image ≡ registerCount → addressRight used ≡ true → addressRight own ≡ true
+      → playOf Captions image used own plan ≡ accepted (eqb used own)
+  pub acknowledged : (own : ℕ) (c : Chip) → allAcknowledged (adv7194 own) c (listEvents own (captionList extended ordinary)) ≡ true
+  pub leaves : (own : ℕ) (c : Chip) → length (c .registers) ≡ registerCount
+      → Leaves (captionList extended ordinary) (c .registers) (run (adv7194 own) c (listEvents own (captionList extended ordinary)) .registers)
+  pub reads : (own : ℕ) (c : Chip) → length (c .registers) ≡ registerCount
+      → ReadsBack (run (adv7194 own) c (listEvents own (captionList extended ordinary)) .registers) 0 extended
+      × ReadsBack (run (adv7194 own) c (listEvents own (captionList extended ordinary)) .registers) 1 ordinary
+  pub elsewhere : (used own : ℕ) (c : Chip) → used ≢ own → addressRight used ≡ true → addressRight own ≡ true
+      → (noneAcknowledged (adv7194 own) c (listEvents used (captionList extended ordinary)) ≡ true)
+      × (run (adv7194 own) c (listEvents used (captionList extended ordinary)) .registers ≡ c .registers)

@@ -1,0 +1,4 @@
+pub mod PairLaws
+pub mod ListLaws
+pub mod JustThese
+pub mod RowLaws

@@ -1,0 +1,46 @@
+-- Document 02, P4: reading a pair back checks 1, then 4 (field 29) for an even count of ones; the pair's number, 0 extended and 1 ordinary, is checked
+-- between them: another is 3, field 29.
+use mathlib.Core.Bool.{Bool, cond, not, _&&_}
+use mathlib.Core.List.{List, [], _∷_, _++_}
+use Prim.Native.Nat.{ℕ, suc, _+_, _*_}
+use lib.Dec.{eqb, ltb}
+use lib.ListN.{length, getD}
+use Rattle.refusals.specs.Verdict.{Verdict}
+use Rattle.refusals.specs.Order.{Place, firstOf, placesAt}
+use Rattle.adv7194_bus.specs.Kind.{registerCount}
+use Rattle.adv7194_captions.specs.Characters.{isOdd, characterIn}
+use Rattle.adv7194_captions.specs.Pairs.{extendedPair, captionField}
+use Rattle.adv7194_captions.specs.Plans.{pairSize}
+
+-- how many pairs there are
+abbrev pub pairCount : ℕ
+pairCount = 2
+
+-- the first register of a pair, by its number
+abbrev pub pairRegister : ℕ → ℕ
+pairRegister pair = extendedPair + pairSize * pair
+
+-- row n holds of the call
+unfoldable pub captionReadRow : List ℕ → ℕ → ℕ → ℕ → Bool
+captionReadRow image pair n f =
+    cond (eqb n 1) (not (eqb (length image) registerCount))
+    (cond (eqb n 3) (not (ltb pair pairCount))
+    (eqb n 4 && not (isOdd (getD image (pairRegister pair) 0) && isOdd (getD image (suc (pairRegister pair)) 0))))
+
+-- the checking order
+unfoldable pub captionReadOrder : List Place
+captionReadOrder = placesAt (1 ∷ []) 0 ++ placesAt (3 ∷ 4 ∷ []) captionField
+
+-- the characters of a pair
+pub record Characters : Type 0 where
+  pub first : ℕ
+  pub second : ℕ
+
+-- those that an image holds
+abbrev pub charactersIn : List ℕ → ℕ → Characters
+charactersIn image pair =
+    record { first = characterIn (getD image (pairRegister pair) 0); second = characterIn (getD image (suc (pairRegister pair)) 0) }
+
+-- what reading a pair answers
+unfoldable pub captionReading : List ℕ → ℕ → Verdict Characters
+captionReading image pair = firstOf (captionReadRow image pair) captionReadOrder (charactersIn image pair)
