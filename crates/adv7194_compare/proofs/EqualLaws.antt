@@ -2,7 +2,7 @@
 -- Assumes nothing.
 use mathlib.Core.Path.{_≡_, refl, sym, ap, ap₂, _∙_}
 use mathlib.Core.Bool.{Bool, true, false, not, cond, _&&_, _||_}
-use mathlib.Core.List.{List, _∷_}
+use mathlib.Core.List.{List}
 use Prim.Native.Nat.{ℕ, zero, suc, _+_, _^_, _≤_, _<_}
 use native.Mathlib.Omega.{arith}
 use lib.Bits.{bitAnd, bitOr}
@@ -10,10 +10,8 @@ use lib.Dec.{T, eqb, eqb→eq}
 use lib.ListN.{getD}
 use lib.Pow.{pow-pos}
 use borrow.Author.Tests.{eqb-true, eqb-false, eq-eqb, ne-eqb, not-false}
-use Rattle.bits.specs.Strings.{msbFirst, msbValue}
 use Rattle.bits.specs.Maps.{has}
-use Rattle.bits.proofs.StringLaws.{msb-value}
-use Rattle.bits.proofs.SetLaws.{has-and, has-or}
+use Rattle.bits.proofs.SetLaws.{has-and, has-or, by-bits}
 use Rattle.adv7194_bus.specs.Kind.{registerCount, readOnly}
 use Rattle.adv7194_bus.proofs.Checks.{agrees, same-bool, below, at-below}
 use Rattle.adv7194_table.specs.Fields.{timing, output, picture, dnr}
@@ -23,17 +21,6 @@ use Rattle.adv7194_table.specs.RawCodes.{ownBits, outsideBits}
 use Rattle.adv7194_table.proofs.MaskLaws.{none-read-only}
 use Rattle.adv7194_compare.specs.Differences.{fieldDiffers, registerDiffers, Equal}
 use Rattle.adv7194_compare.proofs.DifferenceLaws.{masked, sameFrom, same-none, same-next, other-here, mapFrom, map-next, map-none}
-
--- ---- numbers by their bits
-
--- numbers of w bits are equal where their bits are
-same-string : (w x y : ℕ) → ((i : ℕ) → i < w → has x i ≡ has y i) → msbFirst w x ≡ msbFirst w y
-unfolding msbFirst
-same-string zero x y h = refl
-same-string (suc w) x y h = ap₂ _∷_ (h w (omega arith)) (same-string w x y (λ i k. h i (omega arith)))
-
-by-bits : (w x y : ℕ) → x < 2 ^ w → y < 2 ^ w → ((i : ℕ) → i < w → has x i ≡ has y i) → x ≡ y
-by-bits w x y a b h = sym (msb-value w x a) ∙ ap msbValue (same-string w x y h) ∙ msb-value w y b
 
 -- a bit of a mask is the same in two numbers that are the same under it
 bit-kept : (x y m i : ℕ) → bitAnd x m ≡ bitAnd y m → has m i ≡ true → has x i ≡ has y i
