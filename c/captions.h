@@ -173,16 +173,23 @@ static void test_play_captions(void)
 }
 
 /* Reads a pair of an image with these bytes at 11 to 14, and checks the answer and that the image is kept. */
-static void read_captions(const char *what, const uint8_t *held, size_t image_len, uint32_t pair, uint32_t refusal,
-                          uint32_t field, uint32_t first, uint32_t second)
+static void read_captions_known(const char *what, const uint8_t *held, size_t image_len, uint64_t known, uint32_t pair,
+                                uint32_t refusal, uint32_t field, uint32_t first, uint32_t second)
 {
     bytes image, before;
     fill_bytes(&image, 0x00);
     memcpy(image.at + CAPTION_REGISTER, held, CAPTION_REGISTERS);
     before = image;
-    adv7194_captions_answer answer = adv7194_read_captions(image.at, image_len, pair);
+    adv7194_captions_answer answer = adv7194_read_captions(image.at, image_len, known, pair);
     bool right = answer.refusal == refusal && answer.field == field && answer.first == first && answer.second == second;
     check(what, right && memcmp(&image, &before, sizeof image) == 0);
+}
+
+/* Reads a pair of an image known in full. */
+static void read_captions(const char *what, const uint8_t *held, size_t image_len, uint32_t pair, uint32_t refusal,
+                          uint32_t field, uint32_t first, uint32_t second)
+{
+    read_captions_known(what, held, image_len, ADV7194_ALL_KNOWN, pair, refusal, field, first, second);
 }
 
 /* Reading captions back. */
@@ -203,6 +210,38 @@ static void test_read_captions(void)
     read_captions("read captions refusal 4, ordinary", even, whole, ADV7194_ORDINARY, reserved, field, 0, 0);
 }
 
+/* Captions of boards known in part: what is sent is known; what is read must be, after 3 and before 4. */
+static void test_captions_known(void)
+{
+    static const uint8_t odd[] = {0x80, 0x7F, 0xC8, 0x49}, zeros[CAPTION_REGISTERS];
+    const uint32_t range = ADV7194_OUT_OF_RANGE, unknown = ADV7194_REGISTER_UNKNOWN, field = ADV7194_FIELD_CAPTIONS;
+    const size_t whole = ADV7194_REGISTERS;
+    const uint64_t flags[] = {0, ADV7194_ALL_KNOWN, ~ADV7194_ALL_KNOWN, FLAG(0x13)};
+    bytes image;
+    fill_bytes(&image, 0xA5);
+    for (size_t i = 0; i < sizeof flags / sizeof flags[0]; i++) {
+        player *by = adv7194_play_captions;
+        play_known(by, "play captions, known by it", &image, whole, flags[i], BOARD, BOARD, both_plan, sizeof both_plan,
+                   ADV7194_ACCEPTED, 1, FLAG(0x11) | FLAG(0x12) | FLAG(0x13) | FLAG(0x14));
+        play_known(by, "play one pair, known by it", &image, whole, flags[i], BOARD, BOARD, hi_plan, sizeof hi_plan,
+                   ADV7194_ACCEPTED, 1, FLAG(0x13) | FLAG(0x14));
+        play_known(by, "play captions elsewhere, nothing known", &image, whole, flags[i], OTHER_BOARD, BOARD, both_plan,
+                   sizeof both_plan, ADV7194_ACCEPTED, 0, 0);
+        play_known(by, "play captions refused, nothing known", &image, whole, flags[i], BOARD, BOARD, both_plan,
+                   sizeof both_plan - 1, ADV7194_PLAN_BYTES, 0, 0);
+    }
+    for (uint32_t pair = ADV7194_EXTENDED; pair <= ADV7194_ORDINARY; pair++) {
+        uint64_t first = FLAG(CAPTION_REGISTER + 2 * pair), second = first << 1;
+        read_captions_known("read captions refusal 11, first", odd, whole, ~first, pair, unknown, field, 0, 0);
+        read_captions_known("read captions refusal 11, second", odd, whole, ~second, pair, unknown, field, 0, 0);
+        read_captions_known("read captions refusal 11, before 4", zeros, whole, ~second, pair, unknown, field, 0, 0);
+        read_captions_known("read captions, no other known", odd, whole, first | second, pair, ADV7194_ACCEPTED, 0,
+                            odd[2 * pair] & LAST_CHARACTER, odd[2 * pair + 1] & LAST_CHARACTER);
+    }
+    read_captions_known("read captions refusal 3, before 11", odd, whole, 0, 2, range, field, 0, 0);
+    read_captions_known("read captions refusal 1, before 11", odd, whole - 1, 0, 0, ADV7194_IMAGE_LENGTH, 0, 0, 0);
+}
+
 /* Captions; null with length 0, in every place. */
 static void test_captions(void)
 {
@@ -211,14 +250,15 @@ static void test_captions(void)
     test_plan_captions();
     test_play_captions();
     test_read_captions();
+    test_captions_known();
     check("captions, null extended", adv7194_plan_captions(NULL, 0, hi_pair, 2, BOARD, lent.at, MOST).refusal == 0);
     check("captions, null ordinary", adv7194_plan_captions(hi_pair, 2, NULL, 0, BOARD, lent.at, MOST).refusal == 0);
     check("captions, the same twice", adv7194_plan_captions(hi_pair, 2, hi_pair, 2, BOARD, lent.at, MOST).length == 8);
     check("captions, null pairs", adv7194_plan_captions(NULL, 0, NULL, 0, BOARD, lent.at, MOST).refusal == 3);
     check("captions, null plan", adv7194_plan_captions(hi_pair, 2, NULL, 0, BOARD, NULL, 0).refusal == 10);
-    check("play captions, null image", adv7194_play_captions(NULL, 0, BOARD, BOARD, hi_plan, 5).refusal == 1);
-    check("play captions, null plan", adv7194_play_captions(lent.at, 54, BOARD, BOARD, NULL, 0).refusal == 9);
-    check("read captions, null image", adv7194_read_captions(NULL, 0, ADV7194_EXTENDED).refusal == 1);
+    check("play captions, null image", adv7194_play_captions(NULL, 0, 0, BOARD, BOARD, hi_plan, 5).refusal == 1);
+    check("play captions, null plan", adv7194_play_captions(lent.at, 54, 0, BOARD, BOARD, NULL, 0).refusal == 9);
+    check("read captions, null image", adv7194_read_captions(NULL, 0, 0, ADV7194_EXTENDED).refusal == 1);
 }
 
 #endif

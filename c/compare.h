@@ -8,9 +8,6 @@
 #include "adv7194.h"
 #include "lent.h"
 
-/* The bit of a field or of a register in what is answered. */
-#define BIT(n) ((uint64_t)1 << (n))
-
 /* Compares and checks the answer, and that both images are kept. */
 static void compare(const char *what, const bytes *a, size_t a_len, const bytes *b, size_t b_len,
                     uint32_t refusal, uint32_t readable, uint64_t fields, uint64_t registers)
@@ -41,15 +38,15 @@ static void test_compare(const bytes *image)
     fill_bytes(&zeros, 0);
     compare("compare equal images", image, whole, image, whole, ADV7194_ACCEPTED, 1, 0, 0);
     compare("compare equal images that aren't read", &zeros, whole, &zeros, whole, ADV7194_ACCEPTED, 0, 0, 0);
-    compare_flipped("compare hue", image, 0x20, 0x17, 1, BIT(15), 0);
-    compare_flipped("compare the word", image, 0x0F, 0x01, 0, BIT(ADV7194_FIELD_WORD), 0);
-    compare_flipped("compare standard, and bits beside it", image, 0x00, 0xF1, 0, BIT(1), BIT(0x00));
-    compare_flipped("compare both gains", image, 0x23, 0x11, 1, BIT(18) | BIT(19), 0);
-    compare_flipped("compare a must-be-zero bit of 21", image, 0x21, 0x80, 0, BIT(16), 0);
-    compare_flipped("compare a must-be-zero bit of 22", image, 0x22, 0x10, 0, BIT(17), 0);
-    compare_flipped("compare 1A under off", image, 0x1A, 0x80, 1, BIT(11), 0);
+    compare_flipped("compare hue", image, 0x20, 0x17, 1, FLAG(15), 0);
+    compare_flipped("compare the word", image, 0x0F, 0x01, 0, FLAG(ADV7194_FIELD_WORD), 0);
+    compare_flipped("compare standard, and bits beside it", image, 0x00, 0xF1, 0, FLAG(1), FLAG(0x00));
+    compare_flipped("compare both gains", image, 0x23, 0x11, 1, FLAG(18) | FLAG(19), 0);
+    compare_flipped("compare a must-be-zero bit of 21", image, 0x21, 0x80, 0, FLAG(16), 0);
+    compare_flipped("compare a must-be-zero bit of 22", image, 0x22, 0x10, 0, FLAG(17), 0);
+    compare_flipped("compare 1A under off", image, 0x1A, 0x80, 1, FLAG(11), 0);
     compare_flipped("compare 34", image, 0x34, 0xFF, 1, 0, 0);
-    compare_flipped("compare 35", image, 0x35, 0x01, 1, 0, BIT(0x35));
+    compare_flipped("compare 35", image, 0x35, 0x01, 1, 0, FLAG(0x35));
     compare("compare refusal 1, first", image, whole - 1, image, whole, ADV7194_IMAGE_LENGTH, 0, 0, 0);
     compare("compare refusal 1, second", image, whole, &zeros, whole + 1, ADV7194_IMAGE_LENGTH, 0, 0, 0);
     check("compare, null images", adv7194_compare(NULL, 0, NULL, 0).refusal == ADV7194_IMAGE_LENGTH);

@@ -17,6 +17,9 @@
 #define GUARD_BYTE 0xC3
 #define GUARD_NUMBER (-123456789)
 
+/* The bit of a register in flags, or of a field in what is answered. */
+#define FLAG(n) ((uint64_t)1 << (n))
+
 /* Checks that held, and that didn't. */
 static int passed;
 static int failed;

@@ -4,99 +4,19 @@
  * them.
  */
 #include "adv7194.h"
+#include "boards.h"
+#include "calls.h"
 #include "captions.h"
 #include "compare.h"
 #include "lent.h"
 #include "players.h"
 #include "transactions.h"
 
-/* An even address, and another. */
-#define ADDRESS 0x54u
-#define OTHER_ADDRESS 0x56u
-/* Above 254, but even, and right in its lowest byte. */
-#define WIDE_ADDRESS 0x154u
-/* What lent memory holds before. */
-#define BEFORE_BYTE 0x6B
-#define BEFORE_NUMBER 77
-/* The right lengths. */
-#define IMAGE ADV7194_REGISTERS
-#define NUMBERS ADV7194_SETTINGS
-
-/* Registers that are looked at. */
-#define HUE_REGISTER 0x20
-#define WORD_LAST_REGISTER 0x0F
-
-/* The house setting. */
-static void house(numbers *s)
-{
-    fill_numbers(s, 0);
-    s->at[ADV7194_FOUR_TIMES] = 1;
-    s->at[ADV7194_PEDESTAL] = 1;
-    s->at[ADV7194_CONTRAST] = 1000;
-    s->at[ADV7194_U_SCALE] = 1000;
-    s->at[ADV7194_V_SCALE] = 1000;
-    s->at[ADV7194_DNR_INPUT] = 1;
-    s->at[ADV7194_CURVE_A_P] = s->at[ADV7194_CURVE_A_Q] = 1;
-    s->at[ADV7194_CURVE_B_P] = s->at[ADV7194_CURVE_B_Q] = 1;
-}
-
-/* Plans and checks the answer, that inputs are kept, and that after a refusal
- * all is; what lies past the packed plan always is. */
-static adv7194_plan_answer plan(const char *what, bytes *image, size_t image_len, numbers *settings,
-                                size_t settings_len, uint32_t address, bytes *lent, size_t lent_len,
-                                uint32_t refusal, uint32_t field)
-{
-    bytes image_before = *image, lent_before = *lent;
-    numbers settings_before = *settings;
-    adv7194_plan_answer answer = adv7194_plan(image->at, image_len, settings->at, settings_len,
-                                              address, lent->at, lent_len);
-    bool right = answer.refusal == refusal && answer.field == field;
-    bool kept = memcmp(image, &image_before, sizeof *image) == 0 &&
-                memcmp(settings, &settings_before, sizeof *settings) == 0;
-    if (refusal != ADV7194_ACCEPTED) {
-        right = right && answer.length == 0 && answer.transactions == 0 && answer.bus_bytes == 0;
-        kept = kept && memcmp(lent, &lent_before, sizeof *lent) == 0;
-    } else if (right && answer.length <= lent_len) {
-        memcpy(lent_before.at, lent->at, answer.length);
-        kept = kept && memcmp(lent, &lent_before, sizeof *lent) == 0;
-    } else {
-        right = false;
-    }
-    check(what, right && kept);
-    return answer;
-}
-
-/* Plays settings. */
-static void play(const char *what, bytes *image, size_t image_len, uint32_t used, uint32_t own,
-                 const uint8_t *packed, size_t packed_len, uint32_t refusal, uint32_t acknowledged)
-{
-    play_by(adv7194_play, what, image, image_len, used, own, packed, packed_len, refusal, acknowledged);
-}
-
-/* Reads and checks the answer, that the image is kept, and that after a refusal all is. */
-static void read_into(const char *what, bytes *image, size_t image_len, numbers *settings,
-                      size_t settings_len, uint32_t refusal, uint32_t field)
-{
-    bytes image_before = *image;
-    numbers settings_before = *settings;
-    adv7194_read_answer answer = adv7194_read(image->at, image_len, settings->at, settings_len);
-    bool right = answer.refusal == refusal && answer.field == field;
-    bool kept = memcmp(image, &image_before, sizeof *image) == 0;
-    if (refusal == ADV7194_ACCEPTED)
-        memcpy(settings_before.at, settings->at, ADV7194_SETTINGS * sizeof settings->at[0]);
-    kept = kept && memcmp(settings, &settings_before, sizeof *settings) == 0;
-    check(what, right && kept);
-}
-
 /* Reads an image with one register replaced. */
 static void read_with(const char *what, const bytes *image, int reg, uint8_t value, uint32_t refusal,
                       uint32_t field)
 {
-    bytes changed = *image;
-    numbers settings;
-    changed.at[reg] = value;
-    fill_numbers(&settings, BEFORE_NUMBER);
-    read_into(what, &changed, IMAGE, &settings, ADV7194_SETTINGS, refusal, field);
+    read_replaced(what, image, reg, value, ADV7194_ALL_KNOWN, refusal, field);
 }
 
 /* Plans the house setting with one number replaced. */
@@ -277,20 +197,21 @@ static void test_read(bytes *image)
 static void test_null(bytes *image)
 {
     static const uint8_t empty[] = {0x00};
+    const uint64_t all = ADV7194_ALL_KNOWN;
     bytes lent;
     numbers settings;
     house(&settings);
     fill_bytes(&lent, BEFORE_BYTE);
-    check("plan, null image", adv7194_plan(NULL, 0, settings.at, NUMBERS, ADDRESS, lent.at, MOST).refusal == 1);
-    check("plan, null settings", adv7194_plan(image->at, IMAGE, NULL, 0, ADDRESS, lent.at, MOST).refusal == 3);
-    check("plan, null plan", adv7194_plan(image->at, IMAGE, settings.at, NUMBERS, ADDRESS, NULL, 0).refusal == 10);
-    check("plan, all null", adv7194_plan(NULL, 0, NULL, 0, 1, NULL, 0).refusal == 1);
-    check("play, null image", adv7194_play(NULL, 0, ADDRESS, ADDRESS, empty, 1).refusal == 1);
-    check("play, null plan", adv7194_play(image->at, IMAGE, ADDRESS, ADDRESS, NULL, 0).refusal == 9);
+    check("plan, null image", adv7194_plan(NULL, 0, all, settings.at, NUMBERS, ADDRESS, lent.at, MOST).refusal == 1);
+    check("plan, null settings", adv7194_plan(image->at, IMAGE, all, NULL, 0, ADDRESS, lent.at, MOST).refusal == 3);
+    check("plan, null plan", adv7194_plan(image->at, IMAGE, all, settings.at, NUMBERS, ADDRESS, NULL, 0).refusal == 10);
+    check("plan, all null", adv7194_plan(NULL, 0, all, NULL, 0, 1, NULL, 0).refusal == 1);
+    check("play, null image", adv7194_play(NULL, 0, all, ADDRESS, ADDRESS, empty, 1).refusal == 1);
+    check("play, null plan", adv7194_play(image->at, IMAGE, all, ADDRESS, ADDRESS, NULL, 0).refusal == 9);
     check("transaction, null plan", adv7194_transaction(NULL, 0, 0, lent.at, MOST).refusal == 9);
     check("transaction, null data", adv7194_transaction(empty, 1, 0, NULL, 0).refusal == 3);
-    check("read, null image", adv7194_read(NULL, 0, settings.at, NUMBERS).refusal == 1);
-    check("read, null settings", adv7194_read(image->at, IMAGE, NULL, 0).refusal == 3);
+    check("read, null image", adv7194_read(NULL, 0, all, settings.at, NUMBERS).refusal == 1);
+    check("read, null settings", adv7194_read(image->at, IMAGE, all, NULL, 0).refusal == 3);
 }
 
 int main(void)
@@ -304,6 +225,7 @@ int main(void)
     test_play();
     test_transaction();
     test_read(&image);
+    test_boards(&image);
     test_compare(&image);
     test_captions();
     test_null(&image);

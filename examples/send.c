@@ -26,7 +26,8 @@ int main(void)
 {
     uint8_t image[ADV7194_REGISTERS], plan[ADV7194_PLAN_ROOM], data[ADV7194_DATA_ROOM];
     size_t length = fread(image, 1, sizeof image, stdin);
-    adv7194_plan_answer answer = adv7194_plan(image, length, house, ADV7194_SETTINGS, ADDRESS, plan, sizeof plan);
+    adv7194_plan_answer answer = adv7194_plan(image, length, ADV7194_ALL_KNOWN, house, ADV7194_SETTINGS, ADDRESS,
+                                              plan, sizeof plan);
     if (answer.refusal != ADV7194_ACCEPTED) {
         printf("REFUSED %u %u\n", (unsigned)answer.refusal, (unsigned)answer.field);
         return 1;

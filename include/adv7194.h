@@ -6,6 +6,11 @@
  * A packed plan is a list of write transactions, as adv7194_plan and
  * adv7194_plan_captions make it and adv7194_transaction takes it apart.
  *
+ * After a power dip only some registers may be known. `known` has a flag for
+ * each, bit r for register r; ADV7194_ALL_KNOWN is all of them. The byte of a
+ * register that isn't known means nothing. Bits past the last register are
+ * ignored, and answered as they came.
+ *
  * Each lent memory is a pointer followed by its length, in elements. A null
  * pointer is allowed with length 0. Lent memories of one call must not overlap.
  * A memory lent as const is only read. Nothing outside the lent memories is
@@ -16,7 +21,7 @@
  * another.
  *
  * A refusal writes nothing: all lent memory is as it was, and every number
- * answered but the refusal and its field is 0.
+ * answered but the refusal, its field and `known` is 0.
  *
  * A bus address is the 8-bit byte that starts a write, such as 0x54; tools that
  * take the 7-bit address, such as i2ctransfer, call the same chip 0x2a.
@@ -33,6 +38,8 @@ extern "C" {
 
 /* Bytes of an image. */
 #define ADV7194_REGISTERS 54
+/* The flags of a board whose every register is known: 54 ones. */
+#define ADV7194_ALL_KNOWN UINT64_C(0x3FFFFFFFFFFFFF)
 /* Numbers of the settings. */
 #define ADV7194_SETTINGS 49
 /* Room for the longest packed plan. */
@@ -114,7 +121,8 @@ enum {
     ADV7194_WRONG_SIGNALLING = 7,    /* CGMS with PAL, WSS with NTSC, CGMS for neither field, or both at once */
     ADV7194_DISAGREES = 8,           /* check bits or subcarrier word don't agree with the other fields */
     ADV7194_PLAN_BYTES = 9,          /* a plan's bytes break the packing or the bus rules */
-    ADV7194_PLAN_TOO_SHORT = 10      /* the lent plan is shorter than the packed plan, or the lent data than the transaction's */
+    ADV7194_PLAN_TOO_SHORT = 10,     /* the lent plan is shorter than the packed plan, or the lent data than the transaction's */
+    ADV7194_REGISTER_UNKNOWN = 11    /* a register isn't known of which the settings fix only some bits, or one that is read */
 };
 
 /* The field numbers of the subcarrier word, which is worked out and not set, and
@@ -163,6 +171,7 @@ typedef struct {
     uint32_t refusal;      /* a refusal, or 0 */
     uint32_t field;        /* always 0 */
     uint32_t acknowledged; /* 1 if every byte was acknowledged, else 0 */
+    uint64_t known;        /* the flags after the call; as handed in where it refuses */
 } adv7194_play_answer;
 
 /* What reading answers. */
@@ -198,26 +207,38 @@ typedef struct {
 
 /*
  * Packs into `plan` the least list of write transactions that brings a chip
- * holding `image` to the settings: the fewest bus bytes, then the fewest
- * transactions. Bytes of `plan` past the packed plan stay as they were.
+ * holding `image` in its known registers to the settings: the fewest bus bytes,
+ * then the fewest transactions. Bytes of `plan` past the packed plan stay as
+ * they were.
+ *
+ * A register that isn't known is written where the settings fix all its bits,
+ * and else left alone. Whatever the chip holds in unknown registers, it then has
+ * the settings, and every other bit of a known register as it was.
  *
  * Refuses, in this order: 1; 2; 3 with field 0 for another length than 49; the
- * settings' fields in order; 10. Of the image only the length is judged.
+ * settings' fields in order; 11 where they fix only some bits of a register that
+ * isn't known, with the lowest such field (00 is field 1's, 02 field 2's, 01
+ * field 3's and, with signalling off, 19 field 11's); 10. Of the image only the
+ * length is judged.
  */
 adv7194_plan_answer adv7194_plan(const uint8_t *image, size_t image_len,
+                                 uint64_t known,
                                  const int32_t *settings, size_t settings_len,
                                  uint32_t address,
                                  uint8_t *plan, size_t plan_len);
 
 /*
  * Plays the packed `plan`, sent to the address `used`, on a chip that holds
- * `image` and has the address `own`. `image` becomes what the chip then holds.
- * Where the addresses differ nothing is stored, and nothing is acknowledged
- * unless the plan is empty.
+ * `image` and has the address `own`. `image` becomes what the chip then holds,
+ * and a register that a byte is stored in becomes known. Where the addresses
+ * differ nothing is stored, and nothing is acknowledged unless the plan is
+ * empty.
  *
- * Refuses, in this order: 1; 2 for either address; 9.
+ * Refuses, in this order: 1; 2 for either address; 9. Whether a register may be
+ * written that isn't known is not judged here.
  */
 adv7194_play_answer adv7194_play(uint8_t *image, size_t image_len,
+                                 uint64_t known,
                                  uint32_t used, uint32_t own,
                                  const uint8_t *plan, size_t plan_len);
 
@@ -239,16 +260,18 @@ adv7194_transaction_answer adv7194_transaction(const uint8_t *plan, size_t plan_
  * same codes, the ones nearest zero; curves as bytes.
  *
  * Refuses, in this order: 1; 3 with field 0 for another length than 49; the
- * image's fields in order, the subcarrier word last.
+ * image's fields in order, the subcarrier word last, each by 11 before all else
+ * where one of its registers isn't known (field 11's are 19 to 1B, off or not).
  */
 adv7194_read_answer adv7194_read(const uint8_t *image, size_t image_len,
+                                 uint64_t known,
                                  int32_t *settings, size_t settings_len);
 
 /*
- * Compares two images. A field differs where any of its bits does; must-be-zero
- * bits count to their field, and all of registers 19 to 1B to field 11. Register
- * 34 is never compared: its bit of `registers` is always 0. Nothing differs
- * exactly where the images are equal in every register but 34.
+ * Compares two images, both known in full. A field differs where any of its bits
+ * does; must-be-zero bits count to their field, and all of registers 19 to 1B to
+ * field 11. Register 34 is never compared: its bit of `registers` is always 0.
+ * Nothing differs exactly where the images are equal in every register but 34.
  *
  * `a` and `b` may be the same memory. Refuses 1 for either image.
  */
@@ -275,22 +298,26 @@ adv7194_plan_answer adv7194_plan_captions(const int32_t *extended, size_t extend
 /*
  * Plays a packed `plan` of captions, sent to the address `used`, on a chip that
  * holds `image` and has the address `own`. `image` becomes what the chip then
- * holds. Where the addresses differ nothing is stored and nothing acknowledged.
+ * holds, and the registers of the pairs sent become known. Where the addresses
+ * differ nothing is stored and nothing acknowledged.
  *
  * Refuses, in this order: 1; 2 for either address; 9 for every plan that
  * adv7194_plan_captions doesn't make. adv7194_play refuses those it makes, by 9.
  */
 adv7194_play_answer adv7194_play_captions(uint8_t *image, size_t image_len,
+                                          uint64_t known,
                                           uint32_t used, uint32_t own,
                                           const uint8_t *plan, size_t plan_len);
 
 /*
  * Reads a pair of captions back: the two characters that `image` holds in it.
  *
- * Refuses, in this order: 1; 3 with field 29 where `pair` is neither 0 nor 1; 4
- * with field 29 where a byte of the pair has an even number of ones.
+ * Refuses, in this order: 1; then, with field 29, 3 where `pair` is neither 0 nor
+ * 1, 11 where a register of the pair isn't known, 4 where a byte of it has an
+ * even number of ones.
  */
 adv7194_captions_answer adv7194_read_captions(const uint8_t *image, size_t image_len,
+                                              uint64_t known,
                                               uint32_t pair);
 
 #ifdef __cplusplus

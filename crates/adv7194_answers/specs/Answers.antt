@@ -1,5 +1,5 @@
 -- Document 01, "Refusals": every refusal carries its number and a field number, 0 where none applies. An answer as numbers: the refusal is 0 where
--- there is none, and after a refusal every other number is 0.
+-- there is none, and after a refusal every other number is 0 but the map of known registers (document 02, P5), which is as it was handed in.
 use mathlib.Core.Path.{_≡_}
 use mathlib.Core.Bool.{Bool, true, false}
 use Prim.Native.Nat.{ℕ}
@@ -27,10 +27,10 @@ abbrev pub yesNo : Bool → ℕ
 yesNo true = 1
 yesNo false = 0
 
--- what playing answers; its refusals belong to no field
-abbrev pub playAnswer : Judged Bool → PlayAnswer
-playAnswer (accepted b) = record { refusal = 0; field = 0; acknowledged = yesNo b }
-playAnswer (refused n) = record { refusal = n; field = 0; acknowledged = 0 }
+-- what playing answers, with the map of the registers known after it; its refusals belong to no field
+abbrev pub playAnswer : Judged Bool → ℕ → PlayAnswer
+playAnswer (accepted b) known = record { refusal = 0; field = 0; acknowledged = yesNo b; known = known }
+playAnswer (refused n) known = record { refusal = n; field = 0; acknowledged = 0; known = known }
 
 -- what reading answers
 abbrev pub readAnswer : Verdict (Unit {0}) → ReadAnswer

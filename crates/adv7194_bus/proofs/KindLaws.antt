@@ -33,10 +33,10 @@ in-map r = split (ltb r 53) refl
         has-past 53 dropped r (omega arith) h ∙ sym (ne-eqb r readOnly (omega arith))
 
 -- the chip as the code calls it is the ADV7194
-kind-map : (own : ℕ) (l : List ℕ) → length l ≡ registerCount → kindOf own dropped l ≡ adv7194 own
-kind-map own l h =
+pub kind-map : (own n : ℕ) → n ≡ registerCount → kindOf own dropped n ≡ adv7194 own
+kind-map own n h =
     ap₂ (λ (n : ℕ) (f : ℕ → Bool). record { count = n; keeps = f; address = own }) h (fun-ext (λ r. ap not (in-map r)))
 
 -- and so is what it does at an event
 pub step-map : (own : ℕ) (s : State) (l : List ℕ) (e : Event) → length l ≡ registerCount → stepOf own dropped s l e ≡ stepBy own s l e
-step-map own s l e h = ap (λ (κ : Kind). step κ (chipAt (s .phase) (s .pointer) l) e) (kind-map own l h)
+step-map own s l e h = ap (λ (κ : Kind). step κ (chipAt (s .phase) (s .pointer) l) e) (kind-map own (length l) h)

@@ -10,6 +10,7 @@ use bus::chip::Event;
 use bus::chip::State;
 use bus::chip::Stepped;
 
+pub mod board;
 pub mod image;
 
 // How many registers the chip has: 00 to 35.

@@ -1,3 +1,4 @@
 pub mod Promises
 pub mod CaptionPromises
 pub mod Comparing
+pub mod Playing

@@ -6,12 +6,16 @@ use native.Mathlib.Omega.{arith}
 use lib.IntN.{ℤ}
 use lib.ListN.{length, take}
 use Rattle.refusals.specs.declared.Refusal.{Refusal}
-use Rattle.refusals.specs.declared.Refusal.the-variants.{ImageLength, BusAddress, OutOfRange, Reserved, SquarePixelWithOversampling, PedestalWithPal, SignallingConflict, Disagreement, PlanBytes, PlanRoom}
+use Rattle.refusals.specs.declared.Refusal.the-variants.{ImageLength, BusAddress, OutOfRange, Reserved, SquarePixelWithOversampling, PedestalWithPal}
+use Rattle.refusals.specs.declared.Refusal.the-variants.{SignallingConflict, Disagreement, PlanBytes, PlanRoom, RegisterUnknown}
 use Rattle.refusals.specs.Refusal.{numberOf}
 use Rattle.refusals.specs.Verdict.{refusedAt}
+use Rattle.adv7194_bus.specs.declared.board.Board.{Board}
 use Rattle.adv7194_settings.specs.Wanted.{wantedBy}
 use Rattle.adv7194_settings.specs.Demand.{Demanded}
-use Rattle.adv7194_least.specs.Demands.{Played, Counted, Least, Only, mostBytes}
+use Rattle.adv7194_least.specs.Aim.{aimOf}
+use Rattle.adv7194_least.specs.Played.{Played}
+use Rattle.adv7194_least.specs.Demands.{Counted, Least, Only, mostBytes}
 use Rattle.planning.specs.declared.plan.Planned.{Planned}
 use Rattle.planning.specs.declared.plan.Planned.the-variants.{Done, Refused}
 use Rattle.adv7194_planning.specs.Rows.{listOf}
@@ -22,16 +26,17 @@ use Rattle.adv7194_answers.specs.declared.plan_numbers.PlanAnswer.{PlanAnswer}
 use Rattle.adv7194_answers.specs.Answers.{planAnswer}
 
 -- all that planning promises of the numbers answered, and of what it leaves of the lent plan
-abbrev pub Promises : List ℕ → List ℤ → ℕ → List ℕ → List ℕ → PlanAnswer → Type 0
-Promises image numbers address plan after r =
-    let wanted = wantedBy image numbers in
-    (r ≡ planAnswer (planningOf image numbers address (length plan)))
-    × ((after ≡ planLeft image numbers address plan)
+abbrev pub Promises : Board → List ℤ → ℕ → List ℕ → List ℕ → PlanAnswer → Type 0
+Promises board numbers address plan after r =
+    let image = board .registers in
+    let aim = aimOf board numbers in
+    (r ≡ planAnswer (planningOf board numbers address (length plan)))
+    × ((after ≡ planLeft board numbers address plan)
     × ((r .refusal ≡ 0 → Counted (take (r .length) after) (r .length) (r .transactions) (r .«bus_bytes»))
-    × ((r .refusal ≡ 0 → Demanded image numbers wanted)
-    × ((r .refusal ≡ 0 → Played image wanted (take (r .length) after))
-    × ((r .refusal ≡ 0 → Least image wanted (r .transactions) (r .«bus_bytes»))
-    × ((r .refusal ≡ 0 → Only image wanted (listOf image numbers))
+    × ((r .refusal ≡ 0 → Demanded image numbers (wantedBy image numbers))
+    × ((r .refusal ≡ 0 → Played aim (take (r .length) after))
+    × ((r .refusal ≡ 0 → Least aim (r .transactions) (r .«bus_bytes»))
+    × ((r .refusal ≡ 0 → Only aim (listOf board numbers))
     × (r .refusal ≡ 10 → length plan < mostBytes)))))))
 
 -- a refusal's number is not that of none
@@ -46,11 +51,12 @@ numbered SignallingConflict e = omega arith
 numbered Disagreement e = omega arith
 numbered PlanBytes e = omega arith
 numbered PlanRoom e = omega arith
+numbered RegisterUnknown e = omega arith
 
 -- what planning promises of its answer, it promises of the numbers
-pub promised : (image : List ℕ) (numbers : List ℤ) (address : ℕ) (plan after : List ℕ) (p : Planned) → Clauses image numbers address plan after (answerOf p)
-    → Promises image numbers address plan after (planAnswer (answerOf p))
-promised image numbers address plan after (Done l t b) c =
+pub promised : (board : Board) (numbers : List ℤ) (address : ℕ) (plan after : List ℕ) (p : Planned) → Clauses board numbers address plan after (answerOf p)
+    → Promises board numbers address plan after (planAnswer (answerOf p))
+promised board numbers address plan after (Done l t b) c =
     let rest = c .1 .1 in
     let more = rest .1 .1 in (
       ap planAnswer (c .0),
@@ -62,7 +68,7 @@ promised image numbers address plan after (Done l t b) c =
         ),
       ),
     )
-promised image numbers address plan after (Refused r f) c =
+promised board numbers address plan after (Refused r f) c =
     let no : numberOf r ≡ 0 → ⊥ = numbered r in
     let short : numberOf r ≡ 10 → length plan < mostBytes = λ e. c .1 .1 .1 .1 .1 .1 .1 .0 f (ap (λ (n : ℕ). refusedAt n f) e) in (
       ap planAnswer (c .0),

@@ -5,16 +5,19 @@ ghost use Prim.Native.Nat.{_<_};
 ghost use lib.ListN.{length, take};
 ghost use Rattle.unpacking.specs.Unpacking.{unpack};
 ghost use Rattle.unpacking.specs.Indexed.{transactionOf, headerOf, dataAfter};
+ghost use Rattle.adv7194_bus.specs.Board.{boardOf};
 ghost use Rattle.adv7194_settings.specs.Wanted.{wantedBy};
 ghost use Rattle.adv7194_settings.specs.Demand.{Demanded};
 ghost use Rattle.adv7194_settings.specs.Reading.{readOf, readLeft};
 ghost use Rattle.adv7194_captions.specs.Planning.{captionPlanning, captionPlanLeft};
 ghost use Rattle.adv7194_captions.specs.Reading.{captionReading};
-ghost use Rattle.adv7194_least.specs.Demands.{Played, Counted, Least, Only, mostBytes};
+ghost use Rattle.adv7194_least.specs.Aim.{aimOf};
+ghost use Rattle.adv7194_least.specs.Played.{Played};
+ghost use Rattle.adv7194_least.specs.Demands.{Counted, Least, Only, mostBytes};
 ghost use Rattle.adv7194_planning.specs.Rows.{listOf};
 ghost use Rattle.adv7194_planning.specs.Planning.{planningOf, planLeft};
 ghost use Rattle.adv7194_playing.specs.declared.PlanKind.the-variants.{Settings, Captions};
-ghost use Rattle.adv7194_playing.specs.Playing.{playOf, playedImage};
+ghost use Rattle.adv7194_playing.specs.Playing.{playOf, playedBoard};
 ghost use Rattle.adv7194_compare.specs.Differences.{Equal};
 ghost use Rattle.adv7194_compare.specs.Compare.{compareOf};
 ghost use Rattle.adv7194_caption_planning.specs.Demands.{CaptionsPlayed, captionBytes};
@@ -39,49 +42,67 @@ use adv7194_playing::play;
 use adv7194_reading::read;
 use unpacking::indexed::transaction;
 
-// Plans the settings over an image, for the chip at a bus address, into the lent plan.
+// Plans the settings over an image of which the registers in a map are known, for the chip at a bus address, into the lent plan.
 #[no_mangle]
 pub extern "C" fn adv7194_plan(
     image: &[u8],
+    known: u64,
     settings: &[i32],
     address: u32,
     plan: &mut [u8],
 ) -> PlanAnswer
-    ensures answer { λ r. ⌜ r ≡ planAnswer (planningOf (now (image .entry)) (now (settings .entry)) address (length (now (plan .entry)))) ⌝ }
-    ensures memory { λ r. ⌜ now (plan .exit) ≡ planLeft (now (image .entry)) (now (settings .entry)) address (now (plan .entry)) ⌝ }
+    ensures answer { λ r. ⌜ r ≡ planAnswer (planningOf (boardOf (now (image .entry)) known) (now (settings .entry)) address (length (now (plan .entry)))) ⌝ }
+    ensures memory { λ r. ⌜ now (plan .exit) ≡ planLeft (boardOf (now (image .entry)) known) (now (settings .entry)) address (now (plan .entry)) ⌝ }
     ensures counted { λ r. ⌜ (r .refusal ≡ 0 → Counted (take (r .length) (now (plan .exit))) (r .length) (r .transactions) (r .«bus_bytes»)) ⌝ }
-    ensures demanded { λ r. ⌜ (r .refusal ≡ 0 → Demanded (now (image .entry)) (now (settings .entry)) (wantedBy (now (image .entry)) (now (settings .entry)))) ⌝ }
-    ensures played { λ r. ⌜ (r .refusal ≡ 0 → Played (now (image .entry)) (wantedBy (now (image .entry)) (now (settings .entry))) (take (r .length) (now (plan .exit)))) ⌝ }
-    ensures least { λ r. ⌜ (r .refusal ≡ 0 → Least (now (image .entry)) (wantedBy (now (image .entry)) (now (settings .entry))) (r .transactions) (r .«bus_bytes»)) ⌝ }
-    ensures only { λ r. ⌜ (r .refusal ≡ 0 → Only (now (image .entry)) (wantedBy (now (image .entry)) (now (settings .entry))) (listOf (now (image .entry)) (now (settings .entry)))) ⌝ }
+    ensures demanded { λ r. ⌜
+        (r .refusal ≡ 0 → Demanded (now (image .entry)) (now (settings .entry)) (wantedBy (now (image .entry)) (now (settings .entry)))) ⌝ }
+    ensures played { λ r. ⌜
+        (r .refusal ≡ 0 → Played (aimOf (boardOf (now (image .entry)) known) (now (settings .entry))) (take (r .length) (now (plan .exit)))) ⌝ }
+    ensures least { λ r. ⌜ (r .refusal ≡ 0 → Least (aimOf (boardOf (now (image .entry)) known) (now (settings .entry))) (r .transactions) (r .«bus_bytes»)) ⌝ }
+    ensures only { λ r. ⌜
+        (r .refusal ≡ 0 → Only (aimOf (boardOf (now (image .entry)) known) (now (settings .entry)))
+        (listOf (boardOf (now (image .entry)) known) (now (settings .entry)))) ⌝ }
     ensures room { λ r. ⌜ (r .refusal ≡ 10 → length (now (plan .entry)) < mostBytes) ⌝ }
 {
-    plan_answer(adv7194_planning::plan(image, settings, address, plan))
+    plan_answer(adv7194_planning::plan(image, known, settings, address, plan))
 }
 
-// Plays a packed plan of settings, sent at the address used, against a fresh chip of its own address that holds the image.
+// Plays a packed plan of settings, sent at the address used, against a fresh chip of its own address that holds the image, of which the registers in a
+// map are known; the answer has the map after it.
 #[no_mangle]
-pub extern "C" fn adv7194_play(image: &mut [u8], used: u32, own: u32, plan: &[u8]) -> PlayAnswer
-    ensures answer { λ r. ⌜ r ≡ playAnswer (playOf Settings (now (image .entry)) used own (now (plan .entry))) ⌝ }
-    ensures memory { λ r. ⌜ now (image .exit) ≡ playedImage Settings (now (image .entry)) used own (now (plan .entry)) ⌝ }
+pub extern "C" fn adv7194_play(
+    image: &mut [u8],
+    known: u64,
+    used: u32,
+    own: u32,
+    plan: &[u8],
+) -> PlayAnswer
+    ensures answer { λ r. ⌜
+        r ≡ playAnswer (playOf Settings (boardOf (now (image .entry)) known) used own (now (plan .entry)))
+        (playedBoard Settings (boardOf (now (image .entry)) known) used own (now (plan .entry)) .known) ⌝ }
+    ensures memory { λ r. ⌜ boardOf (now (image .exit)) (r .known) ≡ playedBoard Settings (boardOf (now (image .entry)) known) used own (now (plan .entry)) ⌝ }
 {
-    play_answer(play(PlanKind::Settings, image, used, own, plan))
+    play_answer(
+        play(PlanKind::Settings, image, known, used, own, plan),
+        known,
+    )
 }
 
-// Reads an image into the lent settings.
+// Reads an image of which the registers in a map are known into the lent settings.
 #[no_mangle]
-pub extern "C" fn adv7194_read(image: &[u8], settings: &mut [i32]) -> ReadAnswer
-    ensures answer { λ r. ⌜ r ≡ readAnswer (readOf (now (image .entry)) (length (now (settings .entry)))) ⌝ }
-    ensures memory { λ r. ⌜ now (settings .exit) ≡ readLeft (now (image .entry)) (now (settings .entry)) ⌝ }
+pub extern "C" fn adv7194_read(image: &[u8], known: u64, settings: &mut [i32]) -> ReadAnswer
+    ensures answer { λ r. ⌜ r ≡ readAnswer (readOf (boardOf (now (image .entry)) known) (length (now (settings .entry)))) ⌝ }
+    ensures memory { λ r. ⌜ now (settings .exit) ≡ readLeft (boardOf (now (image .entry)) known) (now (settings .entry)) ⌝ }
 {
-    read_answer(read(image, settings))
+    read_answer(read(image, known, settings))
 }
 
 // The transaction with an index, counted from 0, of a packed plan: its subaddress and data count, with its data at the front of the memory lent.
 #[no_mangle]
 pub extern "C" fn adv7194_transaction(plan: &[u8], index: u32, data: &mut [u8]) -> TransactionAnswer
     ensures answer { λ r. ⌜ r ≡ transactionAnswer (headerOf (transactionOf (unpack (now (plan .entry))) index (length (now («data» .entry))))) ⌝ }
-    ensures memory { λ r. ⌜ now («data» .exit) ≡ dataAfter (transactionOf (unpack (now (plan .entry))) index (length (now («data» .entry)))) (now («data» .entry)) ⌝ }
+    ensures memory { λ r. ⌜
+        now («data» .exit) ≡ dataAfter (transactionOf (unpack (now (plan .entry))) index (length (now («data» .entry)))) (now («data» .entry)) ⌝ }
 {
     transaction_answer(transaction(plan, index, data))
 }
@@ -116,20 +137,26 @@ pub extern "C" fn adv7194_plan_captions(
 #[no_mangle]
 pub extern "C" fn adv7194_play_captions(
     image: &mut [u8],
+    known: u64,
     used: u32,
     own: u32,
     plan: &[u8],
 ) -> PlayAnswer
-    ensures answer { λ r. ⌜ r ≡ playAnswer (playOf Captions (now (image .entry)) used own (now (plan .entry))) ⌝ }
-    ensures memory { λ r. ⌜ now (image .exit) ≡ playedImage Captions (now (image .entry)) used own (now (plan .entry)) ⌝ }
+    ensures answer { λ r. ⌜
+        r ≡ playAnswer (playOf Captions (boardOf (now (image .entry)) known) used own (now (plan .entry)))
+        (playedBoard Captions (boardOf (now (image .entry)) known) used own (now (plan .entry)) .known) ⌝ }
+    ensures memory { λ r. ⌜ boardOf (now (image .exit)) (r .known) ≡ playedBoard Captions (boardOf (now (image .entry)) known) used own (now (plan .entry)) ⌝ }
 {
-    play_answer(play(PlanKind::Captions, image, used, own, plan))
+    play_answer(
+        play(PlanKind::Captions, image, known, used, own, plan),
+        known,
+    )
 }
 
-// Reads a pair of characters, 0 the extended and 1 the ordinary one, from an image.
+// Reads a pair of characters, 0 the extended and 1 the ordinary one, from an image of which the registers in a map are known.
 #[no_mangle]
-pub extern "C" fn adv7194_read_captions(image: &[u8], pair: u32) -> CaptionsAnswer
-    ensures answer { λ r. ⌜ r ≡ captionsAnswer (captionReading (now (image .entry)) pair) ⌝ }
+pub extern "C" fn adv7194_read_captions(image: &[u8], known: u64, pair: u32) -> CaptionsAnswer
+    ensures answer { λ r. ⌜ r ≡ captionsAnswer (captionReading (boardOf (now (image .entry)) known) pair) ⌝ }
 {
-    captions_answer(read_captions(image, pair))
+    captions_answer(read_captions(image, known, pair))
 }

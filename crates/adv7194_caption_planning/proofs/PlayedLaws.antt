@@ -1,8 +1,8 @@
--- What the packed list of right pairs does: it unpacks, is acknowledged at the chip's own address alone, and leaves bytes that read back as the
--- characters. Assumes nothing.
+-- What the packed list of right pairs does: it unpacks, is acknowledged at the chip's own address alone, and leaves bytes that are known and read back as
+-- the characters. Assumes nothing.
 use mathlib.Core.Path.{_≡_, refl, sym, ap, ap₂, _∙_}
-use mathlib.Core.Logic.{_≢_, ⊎-elim}
-use mathlib.Core.Bool.{Bool, true, false}
+use mathlib.Core.Logic.{_≢_, inl, inr, ⊎-elim}
+use mathlib.Core.Bool.{Bool, true, false, or-true, or-false}
 use mathlib.Core.List.{List, [], _∷_}
 use Prim.Native.Nat.{ℕ, suc, _+_, _<_}
 use native.Mathlib.Omega.{arith}
@@ -10,13 +10,17 @@ use lib.Dec.{eqb}
 use lib.IntN.{ℤ, natAbs}
 use lib.ListN.{length, getD}
 use borrow.Author.Tests.{eqb-true, eqb-false, eq-eqb, ne-eqb}
+use Rattle.bits.specs.Maps.{has}
+use Rattle.bits.proofs.FlagLaws.{holds, fails}
 use Rattle.bits.proofs.ParityLaws.{parity-odd, parity-low}
 use Rattle.refusals.specs.Refusal.{accepted}
 use Rattle.refusals.specs.Verdict.{good}
-use Rattle.bus.specs.Transactions.{Transaction, size, Every}
+use Rattle.bus.specs.Transactions.{Transaction, size, Touched, Every}
 use Rattle.bus.specs.Chip.{Chip, fresh}
 use Rattle.bus.specs.Run.{allAcknowledged, listEvents, after}
+use Rattle.bus.specs.Known.{knownAfter}
 use Rattle.bus.proofs.Play.{touched-or-same, list-elsewhere}
+use Rattle.bus.proofs.KnownLaws.{touchedBy, touched-agree, known-list, known-elsewhere}
 use Rattle.bus.proofs.Acknowledged.{unacknowledged-elsewhere}
 use Rattle.bus.proofs.Unanswered.{none-elsewhere}
 use Rattle.packing.specs.Packing.{packed, behind}
@@ -25,6 +29,8 @@ use Rattle.least_cost.specs.Order.{Ascending, Holds}
 use Rattle.least_cost.proofs.Cheapest.{map-every}
 use Rattle.least_cost.proofs.Ends.{Kept, length-after, ascending-holds}
 use Rattle.adv7194_bus.specs.Kind.{registerCount, readOnly, adv7194}
+use Rattle.adv7194_bus.specs.declared.board.Board.{Board}
+use Rattle.adv7194_bus.specs.Board.{knows}
 use Rattle.adv7194_bus.specs.Address.{addressRight}
 use Rattle.adv7194_bus.proofs.AddressLaws.{right-address}
 use Rattle.adv7194_captions.specs.Characters.{characterBits, captionByte}
@@ -40,7 +46,7 @@ use Rattle.adv7194_playing.specs.Playing.{judged, acknowledgedBy, playOf}
 use Rattle.adv7194_playing.proofs.KindLaws.{Kept as Inside}
 use Rattle.adv7194_playing.proofs.JudgedLaws.{by-list}
 use Rattle.adv7194_playing.proofs.WrittenRun.{run-acknowledged}
-use Rattle.adv7194_caption_planning.specs.Demands.{Leaves, ReadsBack, CaptionsPlayed}
+use Rattle.adv7194_caption_planning.specs.Demands.{Leaves, ReadsBack, MakesKnown, CaptionsPlayed}
 
 -- ---- the list
 
@@ -53,33 +59,36 @@ ascends (both-given p q p′ q′) = (omega arith, (omega arith, tt))
 
 -- ---- reading back
 
--- a pair's registers with the bytes of two characters
-read-pair : (registers : List ℕ) (pair : ℕ) (a b : ℤ) → length registers ≡ registerCount → pair < pairCount → Character a → Character b
-    → captionByte a ≡ getD registers (pairRegister pair) 0 → captionByte b ≡ getD registers (suc (pairRegister pair)) 0
-    → captionReading registers pair ≡ good (record { first = natAbs a; second = natAbs b })
-read-pair registers pair a b h p u v x y =
-    odd-ones registers pair h p
-    (rw (← x, ← y) (rw (parity-odd characterBits (natAbs a) (u .small), parity-odd characterBits (natAbs b) (v .small))))
-    ∙ ap₂ (λ (m n : ℕ). good (record { first = m; second = n }))
-    (rw (← x) (parity-low characterBits (natAbs a) (u .small)))
-    (rw (← y) (parity-low characterBits (natAbs b) (v .small)))
+module _ (left : Board) (h : length (left .registers) ≡ registerCount) where
+  -- a pair's registers, which are known, with the bytes of two characters
+  read-pair : (pair : ℕ) (x y : ℤ) → pair < pairCount → Character x → Character y
+      → captionByte x ≡ getD (left .registers) (pairRegister pair) 0 → captionByte y ≡ getD (left .registers) (suc (pairRegister pair)) 0
+      → knows left (pairRegister pair) ≡ true → knows left (suc (pairRegister pair)) ≡ true
+      → captionReading left pair ≡ good (record { first = natAbs x; second = natAbs y })
+  read-pair pair x y p u v m n k l =
+      odd-ones left pair h p (rw (k, l))
+      (rw (← m, ← n) (rw (parity-odd characterBits (natAbs x) (u .small), parity-odd characterBits (natAbs y) (v .small))))
+      ∙ ap₂ (λ (m n : ℕ). good (record { first = m; second = n }))
+      (rw (← m) (parity-low characterBits (natAbs x) (u .small)))
+      (rw (← n) (parity-low characterBits (natAbs y) (v .small)))
 
--- registers that hold the list's data
-read-back : (registers : List ℕ) → length registers ≡ registerCount → {e o : List ℤ} → Right e o
-    → Every (Holds (λ r. getD registers r 0)) (captionList e o) → ReadsBack registers 0 e × ReadsBack registers 1 o
-unfolding captionList pairAt
-read-back registers h (ordinary-alone {c} {d} p q) k = (
-  λ s. absurd (omega arith),
-  λ s. read-pair registers 1 c d h (omega arith) p q (k .0 0x13 (omega arith)) (k .0 0x14 (omega arith)),
-)
-read-back registers h (extended-alone {a} {b} p q) k = (
-  λ s. read-pair registers 0 a b h (omega arith) p q (k .0 0x11 (omega arith)) (k .0 0x12 (omega arith)),
-  λ s. absurd (omega arith),
-)
-read-back registers h (both-given {a} {b} {c} {d} p q p′ q′) k = (
-  λ s. read-pair registers 0 a b h (omega arith) p q (k .0 0x11 (omega arith)) (k .0 0x12 (omega arith)),
-  λ s. read-pair registers 1 c d h (omega arith) p′ q′ (k .1 .0 0x13 (omega arith)) (k .1 .0 0x14 (omega arith)),
-)
+  -- registers that hold the list's data, and are known
+  read-back : {e o : List ℤ} → Right e o → Every (Holds (λ r. getD (left .registers) r 0)) (captionList e o)
+      → ((r : ℕ) → Touched (captionList e o) r → knows left r ≡ true) → ReadsBack left 0 e × ReadsBack left 1 o
+  unfolding captionList pairAt
+  read-back (ordinary-alone {c} {d} p q) k l = (
+    λ s. absurd (omega arith),
+    λ s. read-pair 1 c d (omega arith) p q (k .0 0x13 (omega arith)) (k .0 0x14 (omega arith)) (l 0x13 (inl (omega arith))) (l 0x14 (inl (omega arith))),
+  )
+  read-back (extended-alone {a} {b} p q) k l = (
+    λ s. read-pair 0 a b (omega arith) p q (k .0 0x11 (omega arith)) (k .0 0x12 (omega arith)) (l 0x11 (inl (omega arith))) (l 0x12 (inl (omega arith))),
+    λ s. absurd (omega arith),
+  )
+  read-back (both-given {a} {b} {c} {d} p q p′ q′) k l = (
+    λ s. read-pair 0 a b (omega arith) p q (k .0 0x11 (omega arith)) (k .0 0x12 (omega arith)) (l 0x11 (inl (omega arith))) (l 0x12 (inl (omega arith))),
+    λ s. read-pair 1 c d (omega arith) p′ q′ (k .1 .0 0x13 (omega arith)) (k .1 .0 0x14 (omega arith))
+        (l 0x13 (inr (inl (omega arith)))) (l 0x14 (inr (inl (omega arith)))),
+  )
 
 -- ---- the chip
 
@@ -110,6 +119,17 @@ module _ (extended ordinary : List ℤ) (h : pairsRight extended ordinary ≡ tr
     kept = λ r u. ⊎-elim (λ v. absurd (u v)) (λ v. v) (touched-or-same (adv7194 own) list c r);
   }
 
+  -- in registers that are known then, every other flag as it was
+  makes-known : (own : ℕ) (c : Chip) (known : ℕ) → MakesKnown list known (knownAfter (adv7194 own) c known (listEvents own list))
+  makes-known own c known = record {
+    touched = λ r u.
+        known-list (adv7194 own) list c known (kept own) r
+        ∙ rw (holds (touchedBy list r) (touched-agree list r .1 u)) (or-true (has known r));
+    kept = λ r u.
+        known-list (adv7194 own) list c known (kept own) r
+        ∙ rw (fails (touchedBy list r) (λ t. u (touched-agree list r .0 t))) (or-false (has known r));
+  }
+
   -- at another it isn't
   unanswered : (used own : ℕ) (c : Chip) → used ≢ own → addressRight used ≡ true → addressRight own ≡ true
       → allAcknowledged (adv7194 own) c (listEvents used list) ≡ false
@@ -128,13 +148,14 @@ module _ (extended ordinary : List ℤ) (h : pairsRight extended ordinary ≡ tr
       by-list Captions image used own (packed list) n e f list true (captions-unpack extended ordinary h) all
 
   -- and answers whether it was sent to the chip's own address
-  answer : (image : List ℕ) (used own : ℕ) → length image ≡ registerCount → addressRight used ≡ true → addressRight own ≡ true
-      → playOf Captions image used own (packed list) ≡ accepted (eqb used own)
-  answer image used own n e f = ap (acknowledgedBy image used own) (taken image used own n e f) ∙ ap accepted (by (eqb used own) refl)
+  answer : (b : Board) (used own : ℕ) → length (b .registers) ≡ registerCount → addressRight used ≡ true → addressRight own ≡ true
+      → playOf Captions b used own (packed list) ≡ accepted (eqb used own)
+  answer b used own n e f =
+      ap (acknowledgedBy (b .registers) used own) (taken (b .registers) used own n e f) ∙ ap accepted (by (eqb used own) refl)
     where
-      by : (b : Bool) → eqb used own ≡ b → allAcknowledged (adv7194 own) (fresh image) (listEvents used list) ≡ eqb used own
-      by true p = rw (eqb-true used own p) (acknowledged own (fresh image) ∙ sym (eq-eqb own own refl))
-      by false p = unanswered used own (fresh image) (eqb-false used own p) e f ∙ sym p
+      by : (t : Bool) → eqb used own ≡ t → allAcknowledged (adv7194 own) (fresh (b .registers)) (listEvents used list) ≡ eqb used own
+      by true p = rw (eqb-true used own p) (acknowledged own (fresh (b .registers)) ∙ sym (eq-eqb own own refl))
+      by false p = unanswered used own (fresh (b .registers)) (eqb-false used own p) e f ∙ sym p
 
   -- what the packed list does
   pub captions-played : CaptionsPlayed extended ordinary (packed list)
@@ -143,10 +164,16 @@ module _ (extended ordinary : List ℤ) (h : pairsRight extended ordinary ≡ tr
     answer = answer;
     acknowledged = acknowledged;
     leaves = leaves;
-    reads = λ own c n. let l = leaves own c n in
-        read-back (after (adv7194 own) c list .registers) (l .size ∙ n) (right extended ordinary h) (l .held);
-    elsewhere = λ used own c w e f. (
+    known = makes-known;
+    reads = λ own c known n.
+        let l = leaves own c n in
+        let m = makes-known own c known in
+        read-back _ (l .size ∙ n) (right extended ordinary h) (l .held) (m .touched);
+    elsewhere = λ used own c known w e f. (
       none-elsewhere (adv7194 own) used w (not-read used own e f) list c,
-      list-elsewhere (adv7194 own) used w (not-read used own e f) list c,
+      (
+        list-elsewhere (adv7194 own) used w (not-read used own e f) list c,
+        known-elsewhere (adv7194 own) used w (not-read used own e f) list c known,
+      ),
     );
   }

@@ -11,11 +11,15 @@ use lib.ListN.{length, getD}
 use Rattle.refusals.specs.Refusal.{accepted}
 use Rattle.refusals.specs.Verdict.{good}
 use Rattle.bus.specs.Transactions.{Transaction, Touched, Every}
+use Rattle.bits.specs.Maps.{has}
 use Rattle.bus.specs.Chip.{Chip}
+use Rattle.bus.specs.Known.{knownAfter}
 use Rattle.bus.specs.Run.{run, allAcknowledged, noneAcknowledged, listEvents}
 use Rattle.unpacking.specs.Unpacking.{unpack}
 use Rattle.least_cost.specs.Order.{Holds}
 use Rattle.adv7194_bus.specs.Kind.{registerCount, adv7194}
+use Rattle.adv7194_bus.specs.declared.board.Board.{Board}
+use Rattle.adv7194_bus.specs.Board.{boardOf}
 use Rattle.adv7194_bus.specs.Address.{addressRight}
 use Rattle.adv7194_captions.specs.Pairs.{captionList}
 use Rattle.adv7194_captions.specs.Reading.{captionReading}
@@ -33,23 +37,33 @@ pub record Leaves (ts : List Transaction) (before after : List ℕ) : Type 0 whe
   pub kept : (r : ℕ) → (Touched ts r → ⊥) → getD after r 0 ≡ getD before r 0
 
 -- reading a pair, where it was given, gives its characters
-abbrev pub ReadsBack : List ℕ → ℕ → List ℤ → Type 0
-ReadsBack registers pair zs =
-    0 < length zs → captionReading registers pair ≡ good (record { first = natAbs (getD zs 0 (pos 0)); second = natAbs (getD zs 1 (pos 0)) })
+abbrev pub ReadsBack : Board → ℕ → List ℤ → Type 0
+ReadsBack b pair zs =
+    0 < length zs → captionReading b pair ≡ good (record { first = natAbs (getD zs 0 (pos 0)); second = natAbs (getD zs 1 (pos 0)) })
+
+-- the registers that a list makes known: those that it touches
+pub record MakesKnown (ts : List Transaction) (before after : ℕ) : Type 0 where
+  pub touched : (r : ℕ) → Touched ts r → has after r ≡ true
+  pub kept : (r : ℕ) → (Touched ts r → ⊥) → has after r ≡ has before r
 
 -- a plan's bytes are those of the pairs: they unpack to their list; the call that plays captions takes them for every right pair of addresses, and at the
 -- chip's own alone they are acknowledged. The chip, whatever it waits for and points at, acknowledges every byte at its own address, then holds the
--- pairs' bytes, every other register as it was, and reads them back; at another address it acknowledges nothing and stores nothing
+-- pairs' bytes, which are known then, every other register and flag as it was, and reads them back; at another address it acknowledges nothing and stores
+-- nothing
 pub record CaptionsPlayed (extended ordinary : List ℤ) (plan : List ℕ) : Type 0 where
   pub unpacks : unpack plan ≡ accepted (captionList extended ordinary)
-  pub answer : (image : List ℕ) (used own : ℕ) → length image ≡ registerCount → addressRight used ≡ true → addressRight own ≡ true
-      → playOf Captions image used own plan ≡ accepted (eqb used own)
+  pub answer : (b : Board) (used own : ℕ) → length (b .registers) ≡ registerCount → addressRight used ≡ true → addressRight own ≡ true
+      → playOf Captions b used own plan ≡ accepted (eqb used own)
   pub acknowledged : (own : ℕ) (c : Chip) → allAcknowledged (adv7194 own) c (listEvents own (captionList extended ordinary)) ≡ true
   pub leaves : (own : ℕ) (c : Chip) → length (c .registers) ≡ registerCount
       → Leaves (captionList extended ordinary) (c .registers) (run (adv7194 own) c (listEvents own (captionList extended ordinary)) .registers)
-  pub reads : (own : ℕ) (c : Chip) → length (c .registers) ≡ registerCount
-      → ReadsBack (run (adv7194 own) c (listEvents own (captionList extended ordinary)) .registers) 0 extended
-      × ReadsBack (run (adv7194 own) c (listEvents own (captionList extended ordinary)) .registers) 1 ordinary
-  pub elsewhere : (used own : ℕ) (c : Chip) → used ≢ own → addressRight used ≡ true → addressRight own ≡ true
+  pub known : (own : ℕ) (c : Chip) (known : ℕ)
+      → MakesKnown (captionList extended ordinary) known (knownAfter (adv7194 own) c known (listEvents own (captionList extended ordinary)))
+  pub reads : (own : ℕ) (c : Chip) (known : ℕ) → length (c .registers) ≡ registerCount
+      → (let es = listEvents own (captionList extended ordinary) in
+      let left = boardOf (run (adv7194 own) c es .registers) (knownAfter (adv7194 own) c known es) in
+      ReadsBack left 0 extended × ReadsBack left 1 ordinary)
+  pub elsewhere : (used own : ℕ) (c : Chip) (known : ℕ) → used ≢ own → addressRight used ≡ true → addressRight own ≡ true
       → (noneAcknowledged (adv7194 own) c (listEvents used (captionList extended ordinary)) ≡ true)
-      × (run (adv7194 own) c (listEvents used (captionList extended ordinary)) .registers ≡ c .registers)
+      × ((run (adv7194 own) c (listEvents used (captionList extended ordinary)) .registers ≡ c .registers)
+      × (knownAfter (adv7194 own) c known (listEvents used (captionList extended ordinary)) ≡ known))

@@ -1,6 +1,7 @@
-// Reading a pair of captions back: the two characters that an image holds.
+// Reading a pair of captions back: the two characters that a board holds.
 ghost use mathlib.Core.Path.{_≡_};
 ghost use Rattle.refusals.specs.Order.{Exactly};
+ghost use Rattle.adv7194_bus.specs.Board.{boardOf};
 ghost use Rattle.adv7194_captions.specs.Reading.{captionReadRow, captionReadOrder, charactersIn, captionReading};
 ghost use Rattle.adv7194_caption_reading.specs.Answers.{readAs};
 use adv7194_bus::REGISTERS;
@@ -8,6 +9,7 @@ use adv7194_captions::EXTENDED;
 use adv7194_captions::FIELD;
 use adv7194_captions::PAIR;
 use adv7194_captions::is_odd;
+use bits::maps::has;
 use refusals::Refusal;
 
 // How many pairs there are: 0 the extended one, 1 the ordinary one.
@@ -22,10 +24,12 @@ pub enum CaptionsRead {
     Refused { refusal: Refusal, field: u8 },
 }
 
-// Reads a pair of characters, by the pair's number, from an image.
-pub fn read_captions(image: &[u8], pair: u32) -> CaptionsRead
-    ensures answer { λ r. ⌜ readAs r ≡ captionReading (now (image .entry)) pair ⌝ }
-    ensures exactly { λ r. ⌜ Exactly (captionReadRow (now (image .entry)) pair) captionReadOrder (charactersIn (now (image .entry)) pair) (readAs r) ⌝ }
+// Reads a pair of characters, by the pair's number, from a board: an image and the map of its known registers. The byte of a register that is not known
+// means nothing.
+pub fn read_captions(image: &[u8], known: u64, pair: u32) -> CaptionsRead
+    ensures answer { λ r. ⌜ readAs r ≡ captionReading (boardOf (now (image .entry)) known) pair ⌝ }
+    ensures exactly { λ r. ⌜ Exactly (captionReadRow (boardOf (now (image .entry)) known) pair) captionReadOrder (charactersIn (now (image .entry)) pair)
+        (readAs r) ⌝ }
 {
     if image.len() != REGISTERS as usize {
         return CaptionsRead::Refused {
@@ -40,6 +44,12 @@ pub fn read_captions(image: &[u8], pair: u32) -> CaptionsRead
         };
     }
     let at = EXTENDED as usize + PAIR * pair as usize;
+    if !(has(known, at as u64) & has(known, (at + 1) as u64)) {
+        return CaptionsRead::Refused {
+            refusal: Refusal::RegisterUnknown,
+            field: FIELD,
+        };
+    }
     let first = image[at];
     let second = image[at + 1];
     if !(is_odd(first) & is_odd(second)) {

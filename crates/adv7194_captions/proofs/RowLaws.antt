@@ -12,6 +12,8 @@ use Rattle.refusals.specs.Order.{firstOf, placesAt}
 use Rattle.packing.specs.Packing.{packed}
 use Rattle.planning.specs.Plan.{packingOf, leftBy, planAfter}
 use Rattle.adv7194_bus.specs.Kind.{registerCount}
+use Rattle.adv7194_bus.specs.declared.board.Board.{Board}
+use Rattle.adv7194_bus.specs.Board.{knows}
 use Rattle.adv7194_bus.specs.Address.{addressRight}
 use Rattle.adv7194_captions.specs.Characters.{isOdd}
 use Rattle.adv7194_captions.specs.Pairs.{captionField, pairsRight, captionList}
@@ -59,29 +61,39 @@ module _ (extended ordinary : List ℤ) (address : ℕ) (plan : List ℕ) where
 
 -- ---- reading
 
+-- both registers of a pair are known
+abbrev pub bothKnown : Board → ℕ → Bool
+bothKnown b pair = knows b (pairRegister pair) && knows b (suc (pairRegister pair))
+
 -- both bytes of a pair have an odd count of ones
 abbrev pub bothOdd : List ℕ → ℕ → Bool
 bothOdd image pair = isOdd (getD image (pairRegister pair) 0) && isOdd (getD image (suc (pairRegister pair)) 0)
 
-module _ (image : List ℕ) (pair : ℕ) where
+module _ (b : Board) (pair : ℕ) where
   -- row 1: the image isn't 54 bytes
-  pub wrong-length : (length image ≡ registerCount → ⊥) → captionReading image pair ≡ refusedAt 1 0
+  pub wrong-length : (length (b .registers) ≡ registerCount → ⊥) → captionReading b pair ≡ refusedAt 1 0
   unfolding captionReading captionReadOrder placesAt firstOf captionReadRow
-  wrong-length h = rw (ne-eqb (length image) registerCount h)
+  wrong-length h = rw (ne-eqb (length (b .registers)) registerCount h)
 
-  module _ (h : length image ≡ registerCount) where
+  module _ (h : length (b .registers) ≡ registerCount) where
     -- row 3 at the captions' field: there is no such pair
-    pub wrong-pair : pairCount ≤ pair → captionReading image pair ≡ refusedAt 3 captionField
+    pub wrong-pair : pairCount ≤ pair → captionReading b pair ≡ refusedAt 3 captionField
     unfolding captionReading captionReadOrder placesAt firstOf captionReadRow
-    wrong-pair p = rw (eq-eqb (length image) registerCount h, le-ltb pair pairCount p)
+    wrong-pair p = rw (eq-eqb (length (b .registers)) registerCount h, le-ltb pair pairCount p)
 
     module _ (p : pair < pairCount) where
-      -- row 4 there: an even count of ones
-      pub even-ones : bothOdd image pair ≡ false → captionReading image pair ≡ refusedAt 4 captionField
+      -- row 11 there: a register of the pair isn't known
+      pub unknown-pair : bothKnown b pair ≡ false → captionReading b pair ≡ refusedAt 11 captionField
       unfolding captionReading captionReadOrder placesAt firstOf captionReadRow
-      even-ones o = rw (eq-eqb (length image) registerCount h, lt-ltb pair pairCount p, o)
+      unknown-pair k = rw (eq-eqb (length (b .registers)) registerCount h, lt-ltb pair pairCount p, k)
 
-      -- no row holds
-      pub odd-ones : bothOdd image pair ≡ true → captionReading image pair ≡ good (charactersIn image pair)
-      unfolding captionReading captionReadOrder placesAt firstOf captionReadRow
-      odd-ones o = rw (eq-eqb (length image) registerCount h, lt-ltb pair pairCount p, o)
+      module _ (k : bothKnown b pair ≡ true) where
+        -- row 4 there: an even count of ones
+        pub even-ones : bothOdd (b .registers) pair ≡ false → captionReading b pair ≡ refusedAt 4 captionField
+        unfolding captionReading captionReadOrder placesAt firstOf captionReadRow
+        even-ones o = rw (eq-eqb (length (b .registers)) registerCount h, lt-ltb pair pairCount p, k, o)
+
+        -- no row holds
+        pub odd-ones : bothOdd (b .registers) pair ≡ true → captionReading b pair ≡ good (charactersIn (b .registers) pair)
+        unfolding captionReading captionReadOrder placesAt firstOf captionReadRow
+        odd-ones o = rw (eq-eqb (length (b .registers)) registerCount h, lt-ltb pair pairCount p, k, o)

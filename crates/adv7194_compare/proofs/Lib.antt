@@ -1,3 +1,4 @@
 pub mod DifferenceLaws
 pub mod EqualLaws
 pub mod CompareLaws
+pub mod ReadableLaws

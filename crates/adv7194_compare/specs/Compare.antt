@@ -5,12 +5,14 @@ use mathlib.Core.Bool.{Bool, true, false, cond, _&&_}
 use mathlib.Core.List.{List}
 use Prim.Native.Nat.{ℕ}
 use lib.Dec.{eqb}
+use lib.IntN.{ℤ}
 use lib.ListN.{length}
 use Rattle.refusals.specs.Refusal.{numberOf}
 use Rattle.refusals.specs.Verdict.{Verdict, good, refusedAt}
 use Rattle.adv7194_bus.specs.Kind.{registerCount}
 use Rattle.adv7194_table.specs.Fields.{numberCount}
-use Rattle.adv7194_settings.specs.Reading.{readOf}
+use Rattle.adv7194_settings.specs.Held.{settingsHeld}
+use Rattle.adv7194_settings.specs.Rows.{judgeOf}
 use Rattle.adv7194_compare.specs.declared.Compared.{Compared}
 use Rattle.adv7194_compare.specs.declared.Compared.the-variants.{Done, Refused}
 use Rattle.adv7194_compare.specs.Differences.{fieldsDiffering, registersDiffering, mapOf, Equal}
@@ -31,13 +33,21 @@ abbrev pub isGood : Verdict (Unit {0}) → Bool
 isGood (good u) = true
 isGood (refusedAt n f) = false
 
--- reading takes an image
-abbrev pub canBeRead : List ℕ → Bool
-canBeRead image = isGood (readOf image numberCount)
-
 -- an image has the right length
 abbrev pub whole : List ℕ → Bool
 whole image = eqb (length image) registerCount
+
+-- reading takes an image, of which every register is known: it has the right length, and nothing in it is at fault
+abbrev pub canBeRead : List ℕ → Bool
+canBeRead image = whole image && isGood (judgeOf image)
+
+-- reading takes it, and leaves its settings in so many lent numbers
+abbrev pub isTaken : List ℕ → ℕ → Bool
+isTaken image count = eqb count numberCount && canBeRead image
+
+-- the lent numbers then: its settings where it is taken
+abbrev pub takenInto : List ℕ → List ℤ → List ℤ
+takenInto image zs = cond (isTaken image (length zs)) (settingsHeld image) zs
 
 -- two images side by side, readable or not
 unfoldable pub compareBy : Bool → List ℕ → List ℕ → Verdict Comparison

@@ -2,9 +2,9 @@
 ghost use mathlib.Core.Path.{_≡_};
 ghost use mathlib.Core.Bool.{_&&_};
 ghost use lib.ListN.{length};
-ghost use Rattle.adv7194_settings.specs.Reading.{readOf, readLeft};
-ghost use Rattle.adv7194_compare.specs.Compare.{comparedAs, isGood, canBeRead, whole as wholeOf, compareBy, compareOf, OnlyEqual};
+ghost use Rattle.adv7194_compare.specs.Compare.{comparedAs, canBeRead, isTaken, takenInto, whole as wholeOf, compareBy, compareOf, OnlyEqual};
 use adv7194_bus::REGISTERS;
+use adv7194_bus::board::ALL_KNOWN;
 use adv7194_reading::Read;
 use adv7194_reading::read;
 pub use differences::LAST_FIELD;
@@ -66,10 +66,10 @@ fn compare_by(readable: bool, a: &[u8], b: &[u8]) -> Compared
 
 // Whether reading takes an image, whose settings are then left in the 49 lent numbers.
 pub fn taken(image: &[u8], numbers: &mut [i32]) -> bool
-    ensures answer { λ r. ⌜ r ≡ isGood (readOf (now (image .entry)) (length (now (numbers .entry)))) ⌝ }
-    ensures memory { λ r. ⌜ now (numbers .exit) ≡ readLeft (now (image .entry)) (now (numbers .entry)) ⌝ }
+    ensures answer { λ r. ⌜ r ≡ isTaken (now (image .entry)) (length (now (numbers .entry))) ⌝ }
+    ensures memory { λ r. ⌜ now (numbers .exit) ≡ takenInto (now (image .entry)) (now (numbers .entry)) ⌝ }
 {
-    let answer = read(image, numbers);
+    let answer = read(image, ALL_KNOWN, numbers);
     let Read::Done = answer else {
         return false;
     };

@@ -6,7 +6,7 @@ use mathlib.Core.List.{List, [], _∷_}
 use Prim.Native.Nat.{ℕ, zero, suc, _+_, _-_, _≤_, _<_}
 use native.Mathlib.Omega.{arith}
 use lib.Dec.{T}
-use lib.ListN.{length, getD}
+use lib.ListN.{length}
 use Rattle.rounding.proofs.First.{flag}
 use Rattle.rounding.proofs.Range.{below, below-at, imp, imp→, T→true}
 use Rattle.adv7194_table.specs.Fields.{timing, output, picture, dnr}
@@ -17,11 +17,12 @@ use Rattle.adv7194_bus.specs.Kind.{registerCount}
 use Rattle.least_cost.specs.Task.{Task}
 use Rattle.least_cost.specs.Plan.{Open, joins, joining, scan, extend, greedyPlan}
 use Rattle.least_cost.proofs.Attained.{Right, later}
+use Rattle.adv7194_least.specs.Aim.{Aim, must}
 use Rattle.adv7194_least.specs.Change.{settable, bridge, Change}
-use Rattle.adv7194_least.specs.Plan.{among, writable, differs, needed, taskFor, task, planOf}
+use Rattle.adv7194_least.specs.Plan.{may, needed, taskFor, task, byteOf, planOf}
 use Rattle.adv7194_least.proofs.Registers.{among?, among-in}
 use Rattle.adv7194_least.proofs.TaskLaws.{need-other}
-use Rattle.adv7194_least.proofs.Differing.{differs-writable, differs-settable}
+use Rattle.adv7194_least.proofs.Differing.{must-settable, permits}
 use Rattle.adv7194_least.proofs.Keeping.{right-fits}
 use Rattle.adv7194_least.proofs.Reached.{plan-right}
 
@@ -87,19 +88,10 @@ reachable r = settable r || bridge r
 abbrev nextTest : ℕ → Bool
 nextTest r = imp (reachable r && Near settable (suc r)) (reachable (suc r))
 
--- and the word's registers have such bits
-abbrev wordTest : ℕ → Bool
-wordTest r = imp (among 0x0c 0x0f r) (settable r)
-
 -- it passes
 steps : T (below nextTest registerCount)
 unfolding reachable settable fieldMask zeroMask maskWhere table singles timing output picture dnr
 steps = tt
-
--- and so does this
-word-fields : T (below wordTest registerCount)
-unfolding settable fieldMask zeroMask maskWhere table singles timing output picture dnr
-word-fields = tt
 
 -- what follows a reachable register in a transaction is reachable
 next-reachable : (r : ℕ) → r < registerCount → reachable r ≡ true → Near settable (suc r) ≡ true → reachable (suc r) ≡ true
@@ -131,18 +123,16 @@ near-more f g h x = split (flag (f x)) (flag (f (suc x)))
         let c : f (suc (suc x)) ≡ true = sym (rw (a, b)) ∙ n in
         rw (h (suc (suc x)) c, or-true (g (suc x))) (or-true (g x))
 
-module _ (image wanted : List ℕ) (χ : Change image wanted) where
+module _ (a : Aim) (χ : Change a) where
   -- a needed register has such a bit
-  needed-settable : (x : ℕ) → needed image wanted x ≡ true → settable x ≡ true
+  needed-settable : (x : ℕ) → needed a x ≡ true → settable x ≡ true
   needed-settable x n =
       ⊎-elim
-      (λ a.
-      T→true (settable x)
-      (imp→ (among 0x0c 0x0f x) (settable x) (below-at wordTest registerCount word-fields x (omega arith)) (among-in 0x0c 0x0f x (a .0) (a .1))))
-      (λ a. differs-settable image wanted χ x (sym (need-other (differs image wanted) x a) ∙ n) .1) (among? 0x0c 0x0f x)
+      (λ u. χ .fixed x (χ .word x (among-in 0x0c 0x0f x (u .0) (u .1))) .1)
+      (λ u. must-settable a χ x (sym (need-other (must a) x u) ∙ n) .1) (among? 0x0c 0x0f x)
 
   -- every register of a transaction of the plan is reachable
-  transaction-reachable : (t : Transaction) → Right (task image wanted) (λ r. getD wanted r 0) t → AllNear (needed image wanted) t → Reachable t
+  transaction-reachable : (t : Transaction) → Right (task a) (byteOf a) t → AllNear (needed a) t → Reachable t
   unfolding taskFor
   transaction-reachable t h n x u = rw (← at) (by-step (x - t .subaddress) (omega arith))
     where
@@ -150,7 +140,7 @@ module _ (image wanted : List ℕ) (χ : Change image wanted) where
       at = omega arith
 
       ends : end t ≤ registerCount
-      ends = right-fits (differs image wanted) (differs-writable image wanted χ) (λ r. getD wanted r 0) 0 t h .ends
+      ends = right-fits (must a) (may a) (permits a χ) (byteOf a) 0 t h .ends
 
       by-step : (d : ℕ) → d < size t → reachable (t .subaddress + d) ≡ true
       by-step zero g =
@@ -160,25 +150,25 @@ module _ (image wanted : List ℕ) (χ : Change image wanted) where
           let e : t .subaddress + suc d ≡ suc (t .subaddress + d) = omega arith in
           let m = ends in
           rw e (next-reachable (t .subaddress + d) (omega arith) (by-step d (omega arith))
-          (near-more (needed image wanted) settable needed-settable (suc (t .subaddress + d)) (n (suc (t .subaddress + d)) (omega arith) (omega arith))))
+          (near-more (needed a) settable needed-settable (suc (t .subaddress + d)) (n (suc (t .subaddress + d)) (omega arith) (omega arith))))
 
   -- of all its transactions
-  all-reachable : (ts : List Transaction) → Every (Right (task image wanted) (λ r. getD wanted r 0)) ts → Every (AllNear (needed image wanted)) ts
+  all-reachable : (ts : List Transaction) → Every (Right (task a) (byteOf a)) ts → Every (AllNear (needed a)) ts
       → Every Reachable ts
   all-reachable [] h n = tt
   all-reachable (t ∷ ts) h n = (transaction-reachable t (h .0) (n .0), all-reachable ts (h .1) (n .1))
 
   -- the plan goes on only so
-  plan-near : Every (AllNear (needed image wanted)) (planOf image wanted)
+  plan-near : Every (AllNear (needed a)) (planOf a)
   unfolding planOf greedyPlan taskFor
-  plan-near = near (task image wanted) writable (λ r. getD wanted r 0) registerCount 0 .0
+  plan-near = near (task a) (may a) (byteOf a) registerCount 0 .0
 
   -- so the plan touches only reachable registers
-  pub plan-reachable : Every Reachable (planOf image wanted)
-  plan-reachable = all-reachable (planOf image wanted) (plan-right image wanted χ) plan-near
+  pub plan-reachable : Every Reachable (planOf a)
+  plan-reachable = all-reachable (planOf a) (plan-right a χ) plan-near
 
   -- the plan touches only registers that have a field or a must-be-zero bit, and 03, 04 and 1C
-  pub plan-bridges : (r : ℕ) → Touched (planOf image wanted) r → (settable r ≡ true) ⊎ (bridge r ≡ true)
+  pub plan-bridges : (r : ℕ) → Touched (planOf a) r → (settable r ≡ true) ⊎ (bridge r ≡ true)
   plan-bridges r u = ⊎-elim inl (λ e. inr (other e)) (flag (settable r))
     where
       touched : (ts : List Transaction) → Every Reachable ts → Touched ts r → reachable r ≡ true
@@ -186,4 +176,4 @@ module _ (image wanted : List ℕ) (χ : Change image wanted) where
       touched (t ∷ ts) h (inr v) = touched ts (h .1) v
 
       other : settable r ≡ false → bridge r ≡ true
-      other e = not-settable r e (touched (planOf image wanted) plan-reachable u)
+      other e = not-settable r e (touched (planOf a) plan-reachable u)

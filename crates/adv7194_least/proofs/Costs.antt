@@ -1,71 +1,134 @@
 -- Demand 3: no list that keeps the rules and ends in the wanted image costs less than the plan, and no other ascending one costs as little.
 -- Assumes nothing.
-use mathlib.Core.Path.{_≡_, sym, ap, _∙_, subst}
-use mathlib.Core.Logic.{⊎-elim}
-use mathlib.Core.Bool.{true}
-use mathlib.Core.List.{List}
-use Prim.Native.Nat.{ℕ}
+use mathlib.Core.Path.{_≡_, refl, sym, ap, _∙_}
+use mathlib.Core.Logic.{inl, inr, ⊎-elim}
+use mathlib.Core.Bool.{Bool, true, false, false≢true}
+use mathlib.Core.List.{List, [], _∷_}
+use Prim.Native.Nat.{ℕ, zero, suc, _^_, _<_}
 use native.Mathlib.Omega.{arith}
-use lib.ListN.{length, getD}
-use Rattle.bus.specs.Transactions.{Transaction, Touched, Every, busBytes}
+use lib.ListN.{length, getD, set, length-set}
+use lib.Seq.{getD-set-same, getD-set-other}
+use Rattle.bus.specs.Transactions.{Transaction, Touches, Touched, Every, busBytes}
+use Rattle.bus.specs.Run.{after}
 use Rattle.bus.proofs.Play.{touched-or-same}
-use Rattle.adv7194_bus.specs.Kind.{adv7194}
+use Rattle.adv7194_bus.specs.Kind.{registerCount, adv7194}
+use Rattle.adv7194_bus.specs.Board.{knows}
 use Rattle.adv7194_bus.specs.Rules.{Rules}
+use Rattle.adv7194_settings.proofs.FitLaws.{set-bytes}
 use Rattle.least_cost.specs.Order.{NoDearer, Ascending, Holds}
 use Rattle.least_cost.specs.Task.{Allowed}
 use Rattle.least_cost.proofs.Cheapest.{map-every}
 use Rattle.least_cost.proofs.Ends.{Kept, ascending-holds}
+use Rattle.adv7194_least.specs.Aim.{Aim, must, compared}
 use Rattle.adv7194_least.specs.Change.{Change}
-use Rattle.adv7194_least.specs.Plan.{differs, task, planOf}
-use Rattle.adv7194_least.specs.Reaching.{idleAt, Reaches}
+use Rattle.adv7194_least.specs.Plan.{may, task, byteOf, planOf}
+use Rattle.adv7194_least.specs.Reaching.{idleAt, MayHold, Clear, Reaches}
 use Rattle.adv7194_least.specs.Demands.{Least, Only}
-use Rattle.adv7194_least.proofs.TaskLaws.{allowed, covers-task}
-use Rattle.adv7194_least.proofs.Differing.{not-both}
+use Rattle.adv7194_least.proofs.Registers.{writable-from}
+use Rattle.adv7194_least.proofs.TaskLaws.{rules-writable, allowed, covers-task}
+use Rattle.adv7194_least.proofs.Differing.{not-both, must-settable, must-compared}
 use Rattle.adv7194_least.proofs.Reached.{rules-kept, plan-cheapest}
 
-module _ (image wanted : List ℕ) where
-  -- lists that keep the rules are allowed
-  all-allowed : (us : List Transaction) → Every Rules us → Every (Allowed (task image wanted)) us
-  all-allowed us all = map-every Rules (Allowed (task image wanted)) (allowed (differs image wanted)) us all
+-- ---- a byte that is not the wanted one
 
-  -- a list that ends in the wanted image touches what differs
-  reaches-touches : (own pointer : ℕ) (us : List Transaction) → Reaches own pointer image wanted us
-      → (x : ℕ) → differs image wanted x ≡ true → Touched us x
-  reaches-touches own pointer us q x d =
-      ⊎-elim (λ t. t) (λ s. absurd (not-both image wanted x d (sym s ∙ ap (λ (m : List ℕ). getD m x 0) (q .ends))))
-      (touched-or-same (adv7194 own) us (idleAt pointer image) x)
+-- another byte
+abbrev other : ℕ → ℕ
+other zero = 1
+other (suc b) = 0
 
-  module _ (χ : Change image wanted) where
-    -- no list that keeps the rules and touches what differs costs less
-    pub touching-no-dearer : (us : List Transaction) → Every Rules us → ((x : ℕ) → differs image wanted x ≡ true → Touched us x)
-        → NoDearer (planOf image wanted) us
-    touching-no-dearer us all f =
-        plan-cheapest image wanted χ .least us (all-allowed us all) (covers-task (differs image wanted) us all f)
+-- it is a byte, and another
+other-byte : (b : ℕ) → other b < 2 ^ 8
+other-byte zero = omega arith
+other-byte (suc b) = omega arith
+
+other-not : (b : ℕ) → other b ≡ b → ⊥
+other-not zero e = omega arith
+other-not (suc b) e = omega arith
+
+-- ---- what a list's transactions hold
+
+-- data that are one function's values are another's, where the two agree on what is touched
+holds-as : (f g : ℕ → ℕ) (ts : List Transaction) → Every (Holds f) ts → ((x : ℕ) → Touched ts x → f x ≡ g x) → Every (Holds g) ts
+holds-as f g [] h e = tt
+holds-as f g (t ∷ ts) h e = (λ x u. h .0 x u ∙ e x (inl u), holds-as f g ts (h .1) (λ x u. e x (inr u)))
+
+module _ (a : Aim) where
+  -- a touched register is one of the chip's, and compared
+  pub touched-compared : (ts : List Transaction) → Every Rules ts → Every (Clear a) ts → (x : ℕ) → Touched ts x → (x < registerCount) × (compared a x ≡ true)
+  touched-compared (t ∷ ts) (h, hs) (c, cs) x (inl u) = (h .inside x u .0, c x u)
+  touched-compared (t ∷ ts) (h, hs) (c, cs) x (inr u) = touched-compared ts hs cs x u
+
+  -- a register of a transaction that keeps the rules and touches none that isn't compared may be written
+  clear-may : (t : Transaction) → Rules t → Clear a t → (x : ℕ) → Touches t x → may a x ≡ true
+  clear-may t h c x u = rw (writable-from x (rules-writable t h x u), c x u)
+
+  -- lists of those are allowed
+  all-allowed : (us : List Transaction) → Every Rules us → Every (Clear a) us → Every (Allowed (task a)) us
+  all-allowed [] hs cs = tt
+  all-allowed (t ∷ us) (h, hs) (c, cs) = (allowed (must a) (may a) t h (clear-may t h c), all-allowed us hs cs)
+
+  module _ (χ : Change a) where
+    -- the chip may hold the board's registers
+    pub board-held : MayHold (a .board) (a .board .registers)
+    board-held = record { size = χ .found .size; bytes = χ .found .bytes; agrees = λ r k. refl }
+
+    -- and the same with another byte in a register that isn't known
+    other-held : (r b : ℕ) → knows (a .board) r ≡ false → b < 2 ^ 8 → MayHold (a .board) (set (a .board .registers) r b)
+    other-held r b e h = record {
+      size = length-set (a .board .registers) r b ∙ χ .found .size;
+      bytes = set-bytes (a .board .registers) r b (χ .found .bytes) h;
+      agrees = λ x k. getD-set-other (a .board .registers) r x b 0 (λ p. false≢true (sym e ∙ ap (knows (a .board)) (sym p) ∙ k));
+    }
+
+    -- a list that ends in the wanted image, whatever the chip held, touches what must be written
+    reaches-touches : (own pointer : ℕ) (us : List Transaction) → Reaches own pointer a us → (x : ℕ) → must a x ≡ true → Touched us x
+    reaches-touches own pointer us q x m = split (knows (a .board) x) refl
+      where
+        from : (image : List ℕ) → MayHold (a .board) image → (getD image x 0 ≡ byteOf a x → ⊥) → Touched us x
+        from image h d =
+            ⊎-elim (λ t. t) (λ s. absurd (d (sym s ∙ q .ends image h x (must-settable a χ x m .0) (must-compared a χ x m))))
+            (touched-or-same (adv7194 own) us (idleAt pointer image) x)
+
+        split : (b : Bool) → knows (a .board) x ≡ b → Touched us x
+        split true e = from (a .board .registers) board-held (not-both (a .board .registers) (a .wanted) x (rw e at m))
+        split false e =
+            let s = χ .found .size in
+            let w = must-settable a χ x m .0 in
+            let b = other (byteOf a x) in
+            from (set (a .board .registers) x b) (other-held x b e (other-byte (byteOf a x)))
+            (λ p. other-not (byteOf a x) (sym (getD-set-same (a .board .registers) x b 0 (omega arith)) ∙ p))
+
+    -- no list that keeps the rules and touches what must be written costs less
+    pub touching-no-dearer : (us : List Transaction) → Every Rules us → Every (Clear a) us → ((x : ℕ) → must a x ≡ true → Touched us x)
+        → NoDearer (planOf a) us
+    touching-no-dearer us hs cs f = plan-cheapest a χ .least us (all-allowed us hs cs) (covers-task (must a) (may a) us hs f)
 
     -- demand 3 of the plan's numbers
-    pub plan-least : Least image wanted (length (planOf image wanted)) (busBytes (planOf image wanted))
+    pub plan-least : Least a (length (planOf a)) (busBytes (planOf a))
     unfolding Least NoDearer
-    plan-least own pointer us q = touching-no-dearer us (q .rules) (reaches-touches own pointer us q)
+    plan-least own pointer us q = touching-no-dearer us (q .rules) (q .clear) (reaches-touches own pointer us q)
 
     -- the plan is the only ascending list that costs no more
-    pub plan-only : Only image wanted (planOf image wanted)
+    pub plan-only : Only a (planOf a)
     unfolding Only
-    plan-only own pointer us a q h =
-        plan-cheapest image wanted χ .only us
+    plan-only own pointer us α q h =
+        plan-cheapest a χ .only us
         (record {
-          allowed = all-allowed us (q .rules);
-          covers = covers-task (differs image wanted) us (q .rules) (reaches-touches own pointer us q);
+          allowed = all-allowed us (q .rules) (q .clear);
+          covers = covers-task (must a) (may a) us (q .rules) (reaches-touches own pointer us q);
           holds = held;
-          ascending = a;
+          ascending = α;
         })
         h
       where
-        held : Every (Holds (λ x. getD wanted x 0)) us
+        held : Every (Holds (byteOf a)) us
         held =
             let n = χ .found .size in
-            subst (λ (w : List ℕ). Every (Holds (λ x. getD w x 0)) us) (q .ends)
-            (ascending-holds (adv7194 own) us (idleAt pointer image) 0 a (map-every Rules (Kept (adv7194 own)) (rules-kept own) us (q .rules)) (omega arith))
+            let c = idleAt pointer (a .board .registers) in
+            holds-as (λ x. getD (after (adv7194 own) c us .registers) x 0) (byteOf a) us
+            (ascending-holds (adv7194 own) us c 0 α (map-every Rules (Kept (adv7194 own)) (rules-kept own) us (q .rules)) (omega arith))
+            (λ x u. let r = touched-compared us (q .rules) (q .clear) x u in q .ends (a .board .registers) board-held x (r .0) (r .1))
 
     -- and it is ascending
-    pub plan-ascending : Ascending 0 (planOf image wanted)
-    plan-ascending = plan-cheapest image wanted χ .does .ascending
+    pub plan-ascending : Ascending 0 (planOf a)
+    plan-ascending = plan-cheapest a χ .does .ascending

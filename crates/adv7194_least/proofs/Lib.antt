@@ -4,8 +4,10 @@ pub mod Differing
 pub mod Keeping
 pub mod Reached
 pub mod Costs
+pub mod PackedPlan
 pub mod PlayedPlan
 pub mod Bridges
 pub mod Room
 pub mod Nothing
 pub mod WantedChange
+pub mod AllKnown

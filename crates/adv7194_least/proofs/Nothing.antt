@@ -1,45 +1,50 @@
--- Where nothing is wrong the plan is empty, and its packing is the byte 00. Assumes nothing.
+-- Where nothing is needed the plan is empty, and its packing is the byte 00. Assumes nothing.
 use mathlib.Core.Path.{_≡_, refl, sym, ap, _∙_}
-use mathlib.Core.Bool.{Bool, true, false, cond}
-use mathlib.Core.List.{List, [], _∷_}
+use mathlib.Core.Bool.{Bool, true, false, cond, false≢true}
+use mathlib.Core.List.{[], _∷_}
 use Prim.Native.Nat.{ℕ}
 use native.Mathlib.Omega.{arith}
-use lib.ListN.{getD}
 use Rattle.packing.specs.Packing.{packed}
 use Rattle.packing.proofs.PackedLaws.{nothing as nothing-packed}
 use Rattle.adv7194_bus.specs.Kind.{registerCount}
+use Rattle.adv7194_bus.specs.Board.{knows}
 use Rattle.least_cost.specs.Task.{Task}
 use Rattle.least_cost.specs.Plan.{Choice, joining, scan, greedyPlan}
 use Rattle.least_cost.proofs.Rounds.{scan-skips}
-use Rattle.adv7194_least.specs.Plan.{inWord, writable, needed, taskFor, task, planOf}
+use Rattle.adv7194_least.specs.Aim.{Aim, must}
+use Rattle.adv7194_least.specs.Plan.{inWord, may, needed, taskFor, task, byteOf, planOf}
 use Rattle.adv7194_least.proofs.Differing.{no-difference}
-
--- no register is needed
-none-needed : (image : List ℕ) (r : ℕ) → needed image image r ≡ false
-none-needed image r =
-    simp (no-difference image 0x0c, no-difference image 0x0d, no-difference image 0x0e, no-difference image 0x0f, no-difference image r) (either (inWord r))
-  where
-    either : (b : Bool) → cond b false false ≡ false
-    either true = refl
-    either false = refl
 
 -- past the last register the plan has no transaction
 scan-none : (p : Task) (goes : Choice) (want : ℕ → ℕ) (i : ℕ) → scan p goes want 0 i ≡ []
 unfolding scan
 scan-none p goes want i = refl
 
--- so there is no transaction
-no-transaction : (image : List ℕ) → planOf image image ≡ []
-unfolding planOf greedyPlan taskFor
-no-transaction image =
-    scan-skips (task image image) (joining (task image image) writable) image registerCount 0 0 registerCount (omega arith) (omega arith)
-    (λ x a b. none-needed image x)
-    ∙ scan-none (task image image) (joining (task image image) writable) (λ r. getD image r 0) registerCount
+-- nothing is needed where the board is as wanted, and knows the registers that are fixed
+pub none-must : (a : Aim) → a .board .registers ≡ a .wanted → ((r : ℕ) → a .fixes r ≡ true → knows (a .board) r ≡ true) → (r : ℕ) → must a r ≡ false
+none-must a e k r = by (knows (a .board) r) refl (a .fixes r) refl
+  where
+    by : (b : Bool) → knows (a .board) r ≡ b → (f : Bool) → a .fixes r ≡ f → must a r ≡ false
+    by true p f q = rw (p, ← e) (no-difference (a .board .registers) r)
+    by false p true q = absurd (false≢true (sym p ∙ k r q))
+    by false p false q = rw (p, q)
 
--- where the images are the same the plan is empty
-pub plan-empty : (image wanted : List ℕ) → image ≡ wanted → planOf image wanted ≡ []
-plan-empty image wanted e = ap (planOf image) (sym e) ∙ no-transaction image
+module _ (a : Aim) (right : (r : ℕ) → must a r ≡ false) where
+  -- no register is needed
+  none-needed : (r : ℕ) → needed a r ≡ false
+  none-needed r = simp (right 0x0c, right 0x0d, right 0x0e, right 0x0f, right r) (either (inWord r))
+    where
+      either : (b : Bool) → cond b false false ≡ false
+      either true = refl
+      either false = refl
 
--- and its packing is 00
-pub packed-empty : (image wanted : List ℕ) → image ≡ wanted → packed (planOf image wanted) ≡ 0x00 ∷ []
-packed-empty image wanted e = ap packed (plan-empty image wanted e) ∙ nothing-packed
+  -- where no register must be written the plan is empty
+  pub plan-empty : planOf a ≡ []
+  unfolding planOf greedyPlan taskFor
+  plan-empty =
+      scan-skips (task a) (joining (task a) (may a)) (a .wanted) registerCount 0 0 registerCount (omega arith) (omega arith) (λ x u v. none-needed x)
+      ∙ scan-none (task a) (joining (task a) (may a)) (byteOf a) registerCount
+
+  -- and its packing is 00
+  pub packed-empty : packed (planOf a) ≡ 0x00 ∷ []
+  packed-empty = ap packed plan-empty ∙ nothing-packed

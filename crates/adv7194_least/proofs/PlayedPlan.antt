@@ -1,78 +1,77 @@
--- Demand 2: the packed plan unpacks to the plan, is played with every byte acknowledged, and leaves the wanted image. Assumes nothing.
-use mathlib.Core.Path.{_≡_, refl, ap, _∙_}
-use mathlib.Core.Bool.{true, _&&_}
-use mathlib.Core.List.{List, [], _∷_}
-use Prim.Native.Nat.{ℕ}
-use native.Mathlib.Omega.{arith}
-use lib.Dec.{T, leb, le→leb}
+-- Demand 2: the packed plan unpacks to the plan and is acknowledged throughout, and ends in the wanted registers, whatever the unknown ones held; playing it
+-- leaves exactly the registers known or needed known, each with its wanted byte. Assumes nothing.
+use mathlib.Core.Path.{_≡_, refl, sym, ap, _∙_}
+use mathlib.Core.Bool.{Bool, true, false, _||_, false≢true}
+use Prim.Native.Nat.{ℕ, _<_}
 use lib.ListN.{length, getD}
-use Rattle.bits.proofs.FlagLaws.{both, holds}
-use Rattle.refusals.specs.Refusal.{accepted}
-use Rattle.bus.specs.Transactions.{Transaction, end, Every, busBytes}
-use Rattle.packing.specs.Packing.{packed, encodable, behind, arranged, ascending, wellFormed}
-use Rattle.unpacking.specs.Unpacking.{unpack}
-use Rattle.unpacking.proofs.Tests.{Encodable, encodable-from}
-use Rattle.unpacking.proofs.Exact.{round-trip, unpacks-packed}
+use Rattle.bits.proofs.FlagLaws.{holds, fails}
+use Rattle.bus.specs.Transactions.{Touched}
+use Rattle.bus.proofs.KnownLaws.{touchedBy, touched-agree}
+use Rattle.packing.specs.Packing.{packed}
 use Rattle.adv7194_bus.specs.Kind.{registerCount}
-use Rattle.adv7194_bus.proofs.RuleLaws.{agree-all}
+use Rattle.adv7194_bus.specs.Board.{knows}
 use Rattle.adv7194_bus.specs.Rules.{allKeepRules}
 use Rattle.adv7194_bus.specs.Address.{addressRight}
+use Rattle.adv7194_bus.proofs.RuleLaws.{agree-all}
 use Rattle.adv7194_playing.specs.declared.PlanKind.the-variants.{Settings}
-use Rattle.adv7194_playing.specs.Playing.{judged, acknowledgedBy, registersAfter}
-use Rattle.adv7194_playing.proofs.JudgedLaws.{by-list}
-use Rattle.least_cost.specs.Order.{Ascending}
-use Rattle.least_cost.proofs.Attained.{Right}
-use Rattle.least_cost.proofs.Cheapest.{map-every}
+use Rattle.adv7194_playing.specs.Playing.{playedBoard, registersAfter}
+use Rattle.adv7194_playing.proofs.WrittenLaws.{written-length}
+use Rattle.adv7194_playing.proofs.PlayedLaws.{played-judged, played-answer, played-registers, played-untouched, played-knows, played-past}
+use Rattle.adv7194_least.specs.Aim.{Aim, must, compared}
 use Rattle.adv7194_least.specs.Change.{Change}
-use Rattle.adv7194_least.specs.Plan.{differs, task, planOf}
-use Rattle.adv7194_least.specs.Demands.{Played, Counted}
-use Rattle.adv7194_least.proofs.Differing.{differs-writable}
-use Rattle.adv7194_least.proofs.Keeping.{right-encodable}
-use Rattle.adv7194_least.proofs.Reached.{plan-right, plan-inside, plan-rules, plan-reaches, plan-acknowledged}
-use Rattle.adv7194_least.proofs.Costs.{plan-ascending}
+use Rattle.adv7194_least.specs.Plan.{planOf}
+use Rattle.adv7194_least.specs.Played.{Leaves, Played}
+use Rattle.adv7194_least.proofs.Reached.{plan-rules, plan-clear, must-touched, plan-reaches, plan-acknowledged}
+use Rattle.adv7194_least.proofs.Costs.{touched-compared, board-held}
+use Rattle.adv7194_least.proofs.PackedPlan.{plan-unpacks}
 
--- encodable transactions that ascend pass the packing's test
-ascends : (free : ℕ) (ts : List Transaction) → Ascending free ts → Every Encodable ts → T (ascending free ts)
-unfolding arranged
-ascends free [] a e = tt
-ascends free (t ∷ ts) a e =
-    both (leb free (t .subaddress)) (encodable t && ascending (end t) ts) (le→leb free (t .subaddress) (a .0))
-    (both (encodable t) (ascending (end t) ts) (encodable-from t (e .0)) (ascends (end t) ts (a .1) (e .1)))
+module _ (a : Aim) (χ : Change a) where
+  -- the play call for settings takes the plan
+  plan-taken : allKeepRules (planOf a) ≡ true
+  plan-taken = holds (allKeepRules (planOf a)) (agree-all (planOf a) .1 (plan-rules a χ))
 
-module _ (image wanted : List ℕ) (χ : Change image wanted) where
-  -- the packed plan unpacks to the plan
-  pub plan-unpacks : unpack (packed (planOf image wanted)) ≡ accepted (planOf image wanted)
-  plan-unpacks =
-      let must = differs image wanted in
-      let fits = differs-writable image wanted χ in
-      let right : Transaction → Type 0 = Right (task image wanted) (λ r. getD wanted r 0) in
-      round-trip registerCount (omega arith) (planOf image wanted)
-      (ascends 0 (planOf image wanted) (plan-ascending image wanted χ)
-      (map-every right Encodable (right-encodable must fits (λ r. getD wanted r 0) (χ .wants .bytes)) (planOf image wanted) (plan-right image wanted χ)))
-      (plan-inside image wanted χ)
-      .0
+  -- a register that isn't compared is not touched
+  pub untouched : (r : ℕ) → compared a r ≡ false → Touched (planOf a) r → ⊥
+  untouched r e u = false≢true (sym e ∙ touched-compared a (planOf a) (plan-rules a χ) (plan-clear a χ) r u .1)
 
-  -- the plan is well-formed: its numbers fit the packing's fields
-  pub plan-formed : T (wellFormed (planOf image wanted))
-  plan-formed = unpacks-packed behind (packed (planOf image wanted)) (planOf image wanted) plan-unpacks .0
+  -- the registers known or touched are those that are compared
+  known-or-touched : (r : ℕ) → r < registerCount → (knows (a .board) r || touchedBy (planOf a) r) ≡ compared a r
+  known-or-touched r h = by (knows (a .board) r) refl (a .fixes r) refl
+    where
+      by : (k : Bool) → knows (a .board) r ≡ k → (f : Bool) → a .fixes r ≡ f → (knows (a .board) r || touchedBy (planOf a) r) ≡ compared a r
+      by true k f e = rw k
+      by false k true e =
+          let m : must a r ≡ true = rw (k, e) in
+          rw (k, e) (holds (touchedBy (planOf a) r) (touched-agree (planOf a) r .1 (must-touched a χ r h m)))
+      by false k false e =
+          let c : compared a r ≡ false = rw (k, e) in
+          rw (k, e) (fails (touchedBy (planOf a) r) (λ t. untouched r c (touched-agree (planOf a) r .0 t)))
 
-  -- playing accepts it
-  plan-judged : (own : ℕ) → addressRight own ≡ true → judged Settings image own own (packed (planOf image wanted)) ≡ accepted (planOf image wanted)
-  plan-judged own e =
-      by-list Settings image own own (packed (planOf image wanted)) (χ .found .size) e e (planOf image wanted) true plan-unpacks
-      (holds (allKeepRules (planOf image wanted)) (agree-all (planOf image wanted) .1 (plan-rules image wanted χ)))
+  module _ (own : ℕ) (right : addressRight own ≡ true) where
+    -- what playing the packed plan leaves
+    plan-leaves : Leaves a (playedBoard Settings (a .board) own own (packed (planOf a)))
+    plan-leaves = record {
+      size =
+          ap length (played-registers Settings (a .board) own (packed (planOf a)) (planOf a) (χ .found .size) right (plan-unpacks a χ) plan-taken)
+          ∙ written-length (a .board .registers) (planOf a);
+      known = λ r h.
+          played-knows Settings (a .board) own (packed (planOf a)) (planOf a) (χ .found .size) right (plan-unpacks a χ) plan-taken r ∙ known-or-touched r h;
+      wanted = λ r h c.
+          ap (λ j. getD (registersAfter (a .board .registers) own own j) r 0)
+          (played-judged Settings (a .board) own (packed (planOf a)) (planOf a) (χ .found .size) right (plan-unpacks a χ) plan-taken)
+          ∙ plan-reaches a χ own 0 .ends (a .board .registers) (board-held a χ) r h c;
+      others = λ r h c.
+          played-untouched Settings (a .board) own (packed (planOf a)) (planOf a) (χ .found .size) right (plan-unpacks a χ) plan-taken r (untouched r c);
+      past = played-past Settings (a .board) own (packed (planOf a)) (planOf a) (χ .found .size) right (plan-unpacks a χ) plan-taken;
+    }
 
   -- demand 2 of the packed plan
-  pub plan-played : Played image wanted (packed (planOf image wanted))
+  pub plan-played : Played a (packed (planOf a))
   plan-played = record {
-    list = planOf image wanted;
-    unpacks = plan-unpacks;
-    reaches = plan-reaches image wanted χ;
-    acknowledged = plan-acknowledged image wanted χ;
-    answer = λ own e. ap (acknowledgedBy image own own) (plan-judged own e) ∙ ap accepted (plan-acknowledged image wanted χ own 0);
-    leaves = λ own e. ap (registersAfter image own own) (plan-judged own e) ∙ plan-reaches image wanted χ own 0 .ends;
+    list = planOf a;
+    unpacks = plan-unpacks a χ;
+    reaches = plan-reaches a χ;
+    acknowledged = λ own pointer image m. plan-acknowledged a χ own pointer image;
+    answer = λ own e. played-answer Settings (a .board) own (packed (planOf a)) (planOf a) (χ .found .size) e (plan-unpacks a χ) plan-taken;
+    leaves = plan-leaves;
   }
-
-  -- its numbers are the plan's
-  pub plan-counted : (let ts = planOf image wanted in Counted (packed ts) (length (packed ts)) (length ts) (busBytes ts))
-  plan-counted = record { list = planOf image wanted; unpacks = plan-unpacks; size-is = refl; transactions-are = refl; bytes-are = refl }

@@ -1,92 +1,104 @@
--- The plan keeps the three rules, ends in the wanted image and is acknowledged throughout. Assumes nothing.
-use mathlib.Core.Path.{_≡_}
+-- The plan keeps the rules and touches only what is known or needed; it ends in the wanted image, whatever the unknown registers held, and is acknowledged
+-- throughout. Assumes nothing.
+use mathlib.Core.Path.{_≡_, refl, _∙_}
 use mathlib.Core.Logic.{_⊎_, inl, inr, ⊎-elim}
-use mathlib.Core.Bool.{true}
+use mathlib.Core.Bool.{Bool, true, false}
 use mathlib.Core.List.{List}
 use Prim.Native.Nat.{ℕ, _≤_, _<_}
 use native.Mathlib.Omega.{arith}
 use lib.ListN.{getD}
-use lib.Seq.{ext-getD}
 use borrow.Author.Tests.{ne-eqb}
 use Rattle.bus.specs.Transactions.{Transaction, end, Touched, Every}
 use Rattle.bus.specs.Run.{allAcknowledged, listEvents, after}
 use Rattle.bus.proofs.Acknowledged.{Fits, acknowledged-list}
 use Rattle.adv7194_bus.specs.Kind.{registerCount, readOnly, adv7194}
+use Rattle.adv7194_bus.specs.Board.{knows}
 use Rattle.adv7194_bus.specs.Rules.{Rules}
 use Rattle.least_cost.specs.Task.{Sound, Free}
 use Rattle.least_cost.proofs.Attained.{Right, planned}
 use Rattle.least_cost.proofs.Greedy.{plan-greedy}
 use Rattle.least_cost.proofs.Cheapest.{Cheapest, map-every, cheapest}
-use Rattle.least_cost.proofs.Ends.{Kept, length-after, ends-in}
+use Rattle.least_cost.proofs.Ends.{Kept, ends-in}
+use Rattle.adv7194_least.specs.Aim.{Aim, must, compared}
 use Rattle.adv7194_least.specs.Change.{Change}
-use Rattle.adv7194_least.specs.Plan.{writable, differs, taskFor, task, planOf}
-use Rattle.adv7194_least.specs.Reaching.{idleAt, Reaches}
+use Rattle.adv7194_least.specs.Plan.{writable, may, taskFor, task, byteOf, planOf}
+use Rattle.adv7194_least.specs.Reaching.{idleAt, MayHold, AsWanted, Clear, Reaches}
+use Rattle.adv7194_least.proofs.Registers.{both-true}
 use Rattle.adv7194_least.proofs.TaskLaws.{must-needed, sound, free}
-use Rattle.adv7194_least.proofs.Differing.{differs-or-same, differs-writable}
-use Rattle.adv7194_least.proofs.Keeping.{right-rules, right-fits}
+use Rattle.adv7194_least.proofs.Differing.{differs-or-same, permits}
+use Rattle.adv7194_least.proofs.Keeping.{right-may, right-rules, right-fits}
 
 -- what keeps the rules writes to registers that keep a byte
 pub rules-kept : (own : ℕ) (t : Transaction) → Rules t → Kept (adv7194 own) t
 rules-kept own t h x u = (h .inside x u .0, rw (ne-eqb x readOnly (h .inside x u .1)))
 
-module _ (image wanted : List ℕ) (χ : Change image wanted) where
-  -- the wanted bytes
-  abbrev want : ℕ → ℕ
-  want r = getD wanted r 0
-
+module _ (a : Aim) (χ : Change a) where
   -- the task of planning is sound, and no limit is in force
-  task-sound : Sound (task image wanted)
-  task-sound = sound (differs image wanted) (differs-writable image wanted χ)
+  task-sound : Sound (task a)
+  task-sound = sound (must a) (may a) (permits a χ)
 
-  task-free : Free (task image wanted) writable
-  task-free = free (differs image wanted) (differs-writable image wanted χ)
+  task-free : Free (task a) (may a)
+  task-free = free (must a) (may a) (permits a χ)
 
   -- the plan is the cheapest list that does the task
-  pub plan-cheapest : Cheapest (task image wanted) want (planOf image wanted)
+  pub plan-cheapest : Cheapest (task a) (byteOf a) (planOf a)
   unfolding planOf
-  plan-cheapest = cheapest (task image wanted) want task-sound writable task-free
+  plan-cheapest = cheapest (task a) (byteOf a) task-sound (may a) task-free
 
   -- each of its transactions is as a transaction of a plan is
-  pub plan-right : Every (Right (task image wanted) want) (planOf image wanted)
+  pub plan-right : Every (Right (task a) (byteOf a)) (planOf a)
   unfolding planOf
-  plan-right = rw (← (plan-greedy (task image wanted) task-sound writable task-free want)) (planned (task image wanted) want task-sound .right)
+  plan-right = rw (← (plan-greedy (task a) task-sound (may a) task-free (byteOf a))) (planned (task a) (byteOf a) task-sound .right)
+
+  -- so it is as they are
+  pub plan-each : (P : Transaction → Type 0) → ((t : Transaction) → Right (task a) (byteOf a) t → P t) → Every P (planOf a)
+  plan-each P f = map-every (Right (task a) (byteOf a)) P f (planOf a) plan-right
 
   -- it keeps the rules
-  pub plan-rules : Every Rules (planOf image wanted)
-  plan-rules =
-      map-every (Right (task image wanted) want) Rules (right-rules (differs image wanted) (differs-writable image wanted χ) want)
-      (planOf image wanted) plan-right
+  pub plan-rules : Every Rules (planOf a)
+  plan-rules = plan-each Rules (right-rules (must a) (may a) (permits a χ) (byteOf a))
+
+  -- it touches no unknown register that isn't needed
+  pub plan-clear : Every (Clear a) (planOf a)
+  plan-clear =
+      plan-each (Clear a)
+      (λ t h r u. both-true (writable r) (compared a r) (right-may (must a) (may a) (permits a χ) (byteOf a) t h r u) .1)
 
   -- and its data are for registers of the chip
-  pub plan-inside : Every (λ t. end t ≤ registerCount) (planOf image wanted)
-  plan-inside =
-      map-every (Right (task image wanted) want) (λ t. end t ≤ registerCount)
-      (λ t h. right-fits (differs image wanted) (differs-writable image wanted χ) want 0 t h .ends) (planOf image wanted) plan-right
+  pub plan-inside : Every (λ t. end t ≤ registerCount) (planOf a)
+  plan-inside = plan-each (λ t. end t ≤ registerCount) (λ t h. right-fits (must a) (may a) (permits a χ) (byteOf a) 0 t h .ends)
 
-  -- it is acknowledged throughout
-  pub plan-acknowledged : (own pointer : ℕ) → allAcknowledged (adv7194 own) (idleAt pointer image) (listEvents own (planOf image wanted)) ≡ true
-  plan-acknowledged own pointer =
-      acknowledged-list (adv7194 own) (planOf image wanted) (idleAt pointer image)
-      (map-every (Right (task image wanted) want) (Fits (adv7194 own)) (right-fits (differs image wanted) (differs-writable image wanted χ) want own)
-      (planOf image wanted) plan-right)
+  -- it is acknowledged throughout, whatever the chip holds
+  pub plan-acknowledged : (own pointer : ℕ) (image : List ℕ)
+      → allAcknowledged (adv7194 own) (idleAt pointer image) (listEvents own (planOf a)) ≡ true
+  plan-acknowledged own pointer image =
+      acknowledged-list (adv7194 own) (planOf a) (idleAt pointer image)
+      (plan-each (Fits (adv7194 own)) (right-fits (must a) (may a) (permits a χ) (byteOf a) own))
 
-  -- it touches every register that differs
-  touched-or-right : (r : ℕ) → r < registerCount → Touched (planOf image wanted) r ⊎ (getD image r 0 ≡ getD wanted r 0)
+  -- it touches every register that must be written
+  pub must-touched : (r : ℕ) → r < registerCount → must a r ≡ true → Touched (planOf a) r
   unfolding taskFor
-  touched-or-right r h =
-      ⊎-elim (λ d. inl (plan-cheapest .does .covers r h (must-needed (differs image wanted) r d))) inr (differs-or-same image wanted r)
+  must-touched r h m = plan-cheapest .does .covers r h (must-needed (must a) r m)
 
-  -- it ends in the wanted image
-  plan-ends : (own pointer : ℕ) → after (adv7194 own) (idleAt pointer image) (planOf image wanted) .registers ≡ wanted
-  plan-ends own pointer =
-      let a = χ .found .size in
-      let b = χ .wants .size in
-      let n = length-after (adv7194 own) (planOf image wanted) (idleAt pointer image) in
-      ext-getD 0 (after (adv7194 own) (idleAt pointer image) (planOf image wanted) .registers) wanted (omega arith)
-      (λ i g. ends-in (adv7194 own) want (planOf image wanted) (idleAt pointer image) i
-      (map-every Rules (Kept (adv7194 own)) (rules-kept own) (planOf image wanted) plan-rules)
-      (plan-cheapest .does .holds) (omega arith) (touched-or-right i (omega arith)))
+  -- so a compared register that it doesn't touch has its wanted byte
+  touched-or-right : (image : List ℕ) → MayHold (a .board) image → (r : ℕ) → r < registerCount → compared a r ≡ true
+      → Touched (planOf a) r ⊎ (getD image r 0 ≡ byteOf a r)
+  touched-or-right image m r h c = split (knows (a .board) r) refl
+    where
+      split : (b : Bool) → knows (a .board) r ≡ b → Touched (planOf a) r ⊎ (getD image r 0 ≡ byteOf a r)
+      split true e =
+          ⊎-elim (λ d. inl (must-touched r h (rw e d))) (λ s. inr (m .agrees r e ∙ s)) (differs-or-same (a .board .registers) (a .wanted) r)
+      split false e = let f : a .fixes r ≡ true = rw e at c in inl (must-touched r h (rw e f))
+
+  -- it ends in the wanted registers
+  plan-ends : (own pointer : ℕ) (image : List ℕ) → MayHold (a .board) image
+      → AsWanted a (after (adv7194 own) (idleAt pointer image) (planOf a) .registers)
+  plan-ends own pointer image m r h c =
+      let n = m .size in
+      ends-in (adv7194 own) (byteOf a) (planOf a) (idleAt pointer image) r
+      (map-every Rules (Kept (adv7194 own)) (rules-kept own) (planOf a) plan-rules)
+      (plan-cheapest .does .holds) (omega arith) (touched-or-right image m r h c)
 
   -- so it is one of the lists that demand 3 speaks of
-  pub plan-reaches : (own pointer : ℕ) → Reaches own pointer image wanted (planOf image wanted)
-  plan-reaches own pointer = record { rules = plan-rules; ends = plan-ends own pointer }
+  pub plan-reaches : (own pointer : ℕ) → Reaches own pointer a (planOf a)
+  plan-reaches own pointer = record { rules = plan-rules; clear = plan-clear; ends = plan-ends own pointer }

@@ -1,31 +1,37 @@
--- A plan never has more than 346 bits, 44 bytes, and one has that many. Assumes nothing.
-use mathlib.Core.Path.{_≡_, refl}
-use mathlib.Core.Logic.{inl, inr, ⊎-elim}
-use mathlib.Core.Bool.{Bool, true, false, cond, _||_}
+-- A plan never has more than 350 bits, 44 bytes, where no unknown register is fixed only in part. Assumes nothing.
+use mathlib.Core.Path.{_≡_, refl, sym, _∙_}
+use mathlib.Core.Logic.{_⊎_, inl, inr, ⊎-elim}
+use mathlib.Core.Bool.{Bool, true, false, cond, not, _&&_, false≢true}
 use mathlib.Core.List.{List, [], _∷_}
-use Prim.Native.Nat.{ℕ, zero, suc, _+_, _≤_, _<_}
+use Prim.Native.Nat.{ℕ, zero, suc, _+_, _-_, _≤_, _<_}
 use native.Mathlib.Omega.{arith}
-use lib.Dec.{T, leb, ltb, leb→le}
+use lib.Dec.{T, ltb}
 use lib.ListN.{length, replicate}
-use borrow.Author.Tests.{ltb-true, ltb-false}
-use Rattle.bits.proofs.FlagLaws.{first, second, either}
+use borrow.Author.Tests.{ltb-true, ltb-false, not-true}
+use Rattle.bits.proofs.FlagLaws.{first, second, holds}
+use Rattle.rounding.proofs.First.{flag}
 use Rattle.rounding.proofs.Range.{below, below-at, imp, imp→}
 use Rattle.adv7194_table.specs.Fields.{timing, output, picture, dnr}
 use Rattle.adv7194_table.specs.Table.{singles, table}
 use Rattle.adv7194_table.specs.Masks.{maskWhere, fieldMask, zeroMask}
-use Rattle.bus.specs.Transactions.{Transaction, size, end, Touched, Every, busBytes}
+use Rattle.bus.specs.Transactions.{Transaction, size, end, Touches, Every, busBytes}
 use Rattle.bus.specs.Cost.{dataCount}
 use Rattle.bus.proofs.CostLaws.{bytes-count}
+use Rattle.bus.proofs.KnownLaws.{touchedBy, touched-agree}
 use Rattle.packing.specs.Packing.{packedBits, packed}
 use Rattle.packing.proofs.PackedLaws.{packedBits-length, packed-length}
 use Rattle.adv7194_bus.specs.Kind.{registerCount}
 use Rattle.adv7194_bus.specs.Rules.{Rules, keepsRules, allKeepRules}
 use Rattle.adv7194_bus.proofs.RuleLaws.{agree-all}
 use Rattle.least_cost.specs.Order.{NoDearer, Ascending}
-use Rattle.adv7194_least.specs.Change.{settable, Change}
+use Rattle.least_cost.proofs.Attained.{later}
+use Rattle.adv7194_least.specs.Aim.{Aim, must, compared}
+use Rattle.adv7194_least.specs.Change.{settable, Change, Told}
 use Rattle.adv7194_least.specs.Plan.{among, planOf}
+use Rattle.adv7194_least.specs.Reaching.{Clear}
 use Rattle.adv7194_least.specs.Demands.{mostBits, mostBytes}
-use Rattle.adv7194_least.proofs.Differing.{differs-settable}
+use Rattle.adv7194_least.proofs.Registers.{both-true, among-true}
+use Rattle.adv7194_least.proofs.Differing.{must-settable}
 use Rattle.adv7194_least.proofs.Reached.{plan-inside}
 use Rattle.adv7194_least.proofs.Bridges.{reachable, Reachable, plan-reachable}
 use Rattle.adv7194_least.proofs.Costs.{touching-no-dearer, plan-ascending}
@@ -36,7 +42,7 @@ mostData = 38
 
 -- the most bus bytes
 abbrev mostCost : ℕ
-mostCost = 44
+mostCost = 45
 
 -- ---- the data are at most as many as the registers that can be touched
 
@@ -85,80 +91,144 @@ data-below (t ∷ ts) i h e r a =
       count-mono reachable i (t .subaddress) (a .0),
     )
 
--- ---- the bus bytes are at most those of three transactions that touch every register that can be set
+-- ---- the bus bytes are at most those of five transactions that touch every register that can be set, and no other
+
+-- 1A and 1B can be set
+settable-1a : settable 0x1a ≡ true
+unfolding settable fieldMask zeroMask maskWhere table singles timing output picture dnr
+settable-1a = refl
+
+settable-1b : settable 0x1b ≡ true
+unfolding settable fieldMask zeroMask maskWhere table singles timing output picture dnr
+settable-1b = refl
 
 -- a transaction of zeros
 abbrev stretch : ℕ → ℕ → Transaction
 stretch subaddress n = record { subaddress = subaddress; bytes = replicate n 0 }
 
--- the three
-stretches : List Transaction
-stretches = stretch 0x00 6 ∷ stretch 0x0c 5 ∷ stretch 0x19 27 ∷ []
+-- the five, with n of signalling's registers
+unfoldable stretches : ℕ → List Transaction
+stretches n = stretch 0x00 3 ∷ stretch 0x05 1 ∷ stretch 0x0c 5 ∷ stretch 0x19 n ∷ stretch 0x1d 23 ∷ []
 
--- they keep the rules
-stretches-rules : Every Rules stretches
-unfolding stretches allKeepRules keepsRules
-stretches-rules = agree-all stretches .0 tt
+-- a register that can be set and isn't one that signalling may leave as found
+unfoldable plain : ℕ → Bool
+plain r = settable r && not (among 0x1a 0x1b r)
+
+-- every register that a list touches is of a kind
+abbrev within : (ℕ → Bool) → List Transaction → Bool
+within kind [] = true
+within kind (t ∷ ts) = below (λ d. kind (t .subaddress + d)) (size t) && within kind ts
+
+-- a list keeps the rules, and touches all registers of a kind and no other
+record Serves (kind : ℕ → Bool) (ts : List Transaction) : Type 0 where
+  rules : T (allKeepRules ts)
+  inside : T (within kind ts)
+  all : T (below (λ r. imp (kind r) (touchedBy ts r)) registerCount)
+
+-- so do these
+serves-settable : Serves settable (stretches 3)
+unfolding stretches allKeepRules keepsRules settable fieldMask zeroMask maskWhere table singles timing output picture dnr
+serves-settable = record { rules = tt; inside = tt; all = tt }
+
+serves-plain : Serves plain (stretches 1)
+unfolding stretches plain allKeepRules keepsRules settable fieldMask zeroMask maskWhere table singles timing output picture dnr
+serves-plain = record { rules = tt; inside = tt; all = tt }
 
 -- their cost
-stretches-bytes : busBytes stretches ≡ mostCost
+stretches-bytes : (busBytes (stretches 3) ≤ mostCost) × (busBytes (stretches 1) ≤ mostCost)
 unfolding stretches busBytes
-stretches-bytes = refl
-
--- one test over the masks
-abbrev stretchTest : ℕ → Bool
-stretchTest r = imp (settable r) (among 0x00 0x05 r || (among 0x0c 0x10 r || among 0x19 0x33 r))
-
--- it passes
-stretched : T (below stretchTest registerCount)
-unfolding settable fieldMask zeroMask maskWhere table singles timing output picture dnr
-stretched = tt
-
--- they touch every register that can be set
-stretches-touch : (r : ℕ) → r < registerCount → settable r ≡ true → Touched stretches r
-unfolding stretches
-stretches-touch r h e =
-    ⊎-elim (λ a. inl (omega (arith, span 0x00 0x05 a)))
-    (λ b.
-    inr
-    (⊎-elim (λ a. inl (omega (arith, span 0x0c 0x10 a))) (λ a. inr (inl (omega (arith, span 0x19 0x33 a)))) (either (among 0x0c 0x10 r) (among 0x19 0x33 r) b)))
-    (either (among 0x00 0x05 r) (among 0x0c 0x10 r || among 0x19 0x33 r)
-    (imp→ (settable r) (among 0x00 0x05 r || (among 0x0c 0x10 r || among 0x19 0x33 r)) (below-at stretchTest registerCount stretched r h) e))
-  where
-    span : (a z : ℕ) → T (among a z r) → (a ≤ r) × (r ≤ z)
-    span a z t = (leb→le a r (first (leb a r) (leb r z) t), leb→le r z (second (leb a r) (leb r z) t))
+stretches-bytes = (omega arith, omega arith)
 
 -- what is no dearer has no more bus bytes
-no-more-bytes : (a b : List Transaction) → NoDearer a b → busBytes a ≤ busBytes b
+no-more-bytes : (ts us : List Transaction) → NoDearer ts us → busBytes ts ≤ busBytes us
 unfolding NoDearer
-no-more-bytes a b h = ⊎-elim (λ u. omega arith) (λ u. omega arith) h
+no-more-bytes ts us h = ⊎-elim (λ u. omega arith) (λ u. omega arith) h
 
--- ---- so a plan's bits are few
-
-module _ (image wanted : List ℕ) (χ : Change image wanted) where
+module _ (a : Aim) (χ : Change a) where
   -- the plan's data
-  few-data : dataCount (planOf image wanted) ≤ mostData
+  few-data : dataCount (planOf a) ≤ mostData
   unfolding count
   few-data =
-      let ascending = plan-ascending image wanted χ in
-      omega (arith, data-below (planOf image wanted) 0 (omega arith) (plan-inside image wanted χ) (plan-reachable image wanted χ) ascending)
+      let ascending = plan-ascending a χ in
+      omega (arith, data-below (planOf a) 0 (omega arith) (plan-inside a χ) (plan-reachable a χ) ascending)
 
-  -- the plan's bus bytes
-  few-bytes : busBytes (planOf image wanted) ≤ mostCost
-  few-bytes =
-      omega (
-        arith,
-        stretches-bytes,
-        no-more-bytes (planOf image wanted) stretches
-            (touching-no-dearer image wanted χ stretches stretches-rules
-            (λ x d. let q = differs-settable image wanted χ x d in stretches-touch x (q .0) (q .1))),
+  -- a list that touches only compared registers is clear
+  all-clear : (kind : ℕ → Bool) → ((r : ℕ) → r < registerCount → kind r ≡ true → compared a r ≡ true) → (ts : List Transaction)
+      → Every Rules ts → T (within kind ts) → Every (Clear a) ts
+  all-clear kind c [] h w = tt
+  all-clear kind c (t ∷ ts) h w =
+      let here = below (λ d. kind (t .subaddress + d)) (size t) in (
+        λ r u. c r (h .0 .inside r u .0) (of-kind r u (first here (within kind ts) w)),
+        all-clear kind c ts (h .1) (second here (within kind ts) w),
       )
+    where
+      of-kind : (r : ℕ) → Touches t r → T (below (λ d. kind (t .subaddress + d)) (size t)) → kind r ≡ true
+      of-kind r u k =
+          let e : t .subaddress + (r - t .subaddress) ≡ r = omega arith in
+          rw e at (holds (kind (t .subaddress + (r - t .subaddress))) (below-at (λ d. kind (t .subaddress + d)) (size t) k (r - t .subaddress) (omega arith)))
 
-  -- the plan's bits
-  pub plan-bits : length (packedBits (planOf image wanted)) ≤ mostBits
-  plan-bits = omega (arith, few-data, few-bytes, bytes-count (planOf image wanted), packedBits-length (planOf image wanted))
+  -- the plan has no more bytes than a list of all registers of a kind, where these are compared and what must be written is of the kind
+  no-more : (kind : ℕ → Bool) (ts : List Transaction) → Serves kind ts → ((r : ℕ) → r < registerCount → kind r ≡ true → compared a r ≡ true)
+      → ((r : ℕ) → must a r ≡ true → kind r ≡ true) → busBytes (planOf a) ≤ busBytes ts
+  no-more kind ts s c k =
+      let rules = agree-all ts .0 (s .rules) in
+      no-more-bytes (planOf a) ts
+      (touching-no-dearer a χ ts rules (all-clear kind c ts rules (s .inside))
+      (λ r e. touched-agree ts r .0 (imp→ (kind r) (touchedBy ts r) (below-at (λ x. imp (kind x) (touchedBy ts x)) registerCount (s .all) r
+      (must-settable a χ r e .0)) (k r e))))
 
-  -- the packed plan's bytes
-  pub plan-room : length (packed (planOf image wanted)) ≤ mostBytes
-  plan-room =
-      rw (packed-length (planOf image wanted)) (omega (arith, few-data, few-bytes, bytes-count (planOf image wanted)))
+  module _ (τ : Told a) where
+    -- 1A and 1B are not needed
+    abbrev Spare : Type 0
+    Spare = (must a 0x1a ≡ false) × (must a 0x1b ≡ false)
+
+    -- what is plain is compared
+    plain-compared : (r : ℕ) → r < registerCount → plain r ≡ true → compared a r ≡ true
+    unfolding plain
+    plain-compared r h e =
+        let q = both-true (settable r) (not (among 0x1a 0x1b r)) e in
+        ⊎-elim (λ c. c) (λ c. absurd (false≢true (sym (not-true (among 0x1a 0x1b r) (q .1)) ∙ τ r h (q .0) c .0))) (flag (compared a r))
+
+    -- what must be written is plain where 1A and 1B are not needed
+    must-plain : Spare → (r : ℕ) → must a r ≡ true → plain r ≡ true
+    unfolding plain
+    must-plain s r m = by (among 0x1a 0x1b r) refl
+      where
+        neither : (r ≡ 0x1a) ⊎ (0x1b ≤ r) → r ≤ 0x1b → ⊥
+        neither (inl p) q = false≢true (sym (s .0) ∙ rw p at m)
+        neither (inr p) q = let z : r ≡ 0x1b = omega arith in false≢true (sym (s .1) ∙ rw z at m)
+
+        by : (b : Bool) → among 0x1a 0x1b r ≡ b → plain r ≡ true
+        by true e = let u = among-true 0x1a 0x1b r e in absurd (neither (later 0x1a r (u .0)) (u .1))
+        by false e = rw (must-settable a χ r m .1, e)
+
+    -- either every register that can be set is compared, or 1A and 1B are not needed
+    all-compared : ((r : ℕ) → r < registerCount → settable r ≡ true → compared a r ≡ true) ⊎ Spare
+    all-compared = by (flag (compared a 0x1a)) (flag (compared a 0x1b))
+      where
+        by : (compared a 0x1a ≡ true) ⊎ (compared a 0x1a ≡ false) → (compared a 0x1b ≡ true) ⊎ (compared a 0x1b ≡ false)
+            → ((r : ℕ) → r < registerCount → settable r ≡ true → compared a r ≡ true) ⊎ Spare
+        by (inl x) (inl y) = inl (λ r h e. ⊎-elim (λ c. c) (λ c. spare r (τ r h e c .0)) (flag (compared a r)))
+          where
+            at : (r : ℕ) → (r ≡ 0x1a) ⊎ (0x1b ≤ r) → r ≤ 0x1b → compared a r ≡ true
+            at r (inl p) q = rw p x
+            at r (inr p) q = let z : r ≡ 0x1b = omega arith in rw z y
+
+            spare : (r : ℕ) → among 0x1a 0x1b r ≡ true → compared a r ≡ true
+            spare r e = let u = among-true 0x1a 0x1b r e in at r (later 0x1a r (u .0)) (u .1)
+        by (inl x) (inr y) = inr (τ 0x1b (omega arith) settable-1b y .1)
+        by (inr x) y = inr (τ 0x1a (omega arith) settable-1a x .1)
+
+    -- the plan's bus bytes
+    few-bytes : busBytes (planOf a) ≤ mostCost
+    few-bytes =
+        ⊎-elim (λ c. omega (arith, stretches-bytes .0, no-more settable (stretches 3) serves-settable c (λ r m. must-settable a χ r m .1)))
+        (λ s. omega (arith, stretches-bytes .1, no-more plain (stretches 1) serves-plain plain-compared (must-plain s))) all-compared
+
+    -- the plan's bits
+    pub plan-bits : length (packedBits (planOf a)) ≤ mostBits
+    plan-bits = omega (arith, few-data, few-bytes, bytes-count (planOf a), packedBits-length (planOf a))
+
+    -- the packed plan's bytes
+    pub plan-room : length (packed (planOf a)) ≤ mostBytes
+    plan-room = rw (packed-length (planOf a)) (omega (arith, few-data, few-bytes, bytes-count (planOf a)))

@@ -1,4 +1,5 @@
--- The task of planning is a sound one in which no limit is in force, and it allows whatever keeps the three rules. Assumes nothing.
+-- The task of planning is a sound one in which no limit is in force, and it allows whatever keeps the three rules and touches only registers that may be
+-- written. Assumes nothing.
 use mathlib.Core.Path.{_≡_, refl, sym, _∙_}
 use mathlib.Core.Logic.{_⊎_, inl, inr, ⊎-elim}
 use mathlib.Core.Bool.{Bool, true, false, _&&_, _||_, or-true}
@@ -12,7 +13,7 @@ use Rattle.adv7194_bus.specs.Rules.{Rules}
 use Rattle.least_cost.specs.Task.{Allowed, Covers, Stop, Sound, Free}
 use Rattle.least_cost.proofs.Attained.{later}
 use Rattle.adv7194_least.specs.Plan.{among, writable, wordIn, withWord, taskFor}
-use Rattle.adv7194_least.proofs.Registers.{both-true, among-true, among-in, among-out, among?, Writable, writable-facts, writable-from}
+use Rattle.adv7194_least.proofs.Registers.{both-true, among-true, among-in, among-out, among?, Writable, writable-facts}
 
 -- the registers of a transaction that keeps the rules may be written
 pub rules-writable : (t : Transaction) → Rules t → (x : ℕ) → Touches t x → Writable x
@@ -22,8 +23,15 @@ rules-writable t h x u = record {
   quiet = ⊎-elim (λ c. absurd (h .captions x u c)) (λ c. c) (among? 0x11 0x14 x);
 }
 
+-- a transaction with data does not end inside the word
+ends-outside : (t : Transaction) → Rules t → (x : ℕ) → Touches t x → (end t < 0x0d) ⊎ (0x0f < end t)
+ends-outside t h x u =
+    ⊎-elim
+    (λ a. let c = h .whole (end t - 1) (omega arith) (omega arith) 0x0f (omega arith) in absurd (omega arith))
+    (λ a. a) (among? 0x0d 0x0f (end t))
+
 module _ (must : ℕ → Bool) where
-  -- ---- which registers are needed, and where a transaction may end
+  -- ---- which registers are needed
 
   -- a register of the word is needed where one of them must be written, any other where it must be
   pub need-word : (x : ℕ) → 0x0c ≤ x → x ≤ 0x0f → withWord must x ≡ wordIn must
@@ -31,41 +39,6 @@ module _ (must : ℕ → Bool) where
 
   pub need-other : (x : ℕ) → (x < 0x0c) ⊎ (0x0f < x) → withWord must x ≡ must x
   need-other x h = rw (among-out 0x0c 0x0f x h)
-
-  -- a transaction may not end inside a needed word, and may end anywhere else
-  cut-false : (x : ℕ) → taskFor must .cut x ≡ false → ((0x0d ≤ x) × (x ≤ 0x0f)) × (wordIn must ≡ true)
-  unfolding taskFor
-  cut-false x e =
-      let q = both-true (among 0x0d 0x0f x) (wordIn must) (not-false (among 0x0d 0x0f x && wordIn must) e) in
-      (among-true 0x0d 0x0f x (q .0), q .1)
-
-  pub cut-inside : (x : ℕ) → 0x0d ≤ x → x ≤ 0x0f → wordIn must ≡ true → taskFor must .cut x ≡ false
-  unfolding taskFor
-  cut-inside x a b w = rw (among-in 0x0d 0x0f x a b, w)
-
-  cut-outside : (x : ℕ) → (x < 0x0d) ⊎ (0x0f < x) → taskFor must .cut x ≡ true
-  unfolding taskFor
-  cut-outside x h = rw (among-out 0x0d 0x0f x h)
-
-  -- ---- what keeps the rules is allowed
-
-  -- a transaction with data does not end inside the word
-  ends-outside : (t : Transaction) → Rules t → (x : ℕ) → Touches t x → (end t < 0x0d) ⊎ (0x0f < end t)
-  ends-outside t h x u =
-      ⊎-elim
-      (λ a. let c = h .whole (end t - 1) (omega arith) (omega arith) 0x0f (omega arith) in absurd (omega arith))
-      (λ a. a) (among? 0x0d 0x0f (end t))
-
-  -- what keeps the rules is allowed
-  pub allowed : (t : Transaction) → Rules t → Allowed (taskFor must) t
-  unfolding taskFor
-  allowed t h = record {
-    within = λ x u. h .inside x u .0;
-    takes = λ s u x v w. writable-from x (rules-writable t h x (omega arith));
-    ends = λ x u. cut-outside (end t) (ends-outside t h x u);
-  }
-
-  -- ---- what touches the registers that must be written, and keeps the rules, covers the task
 
   -- a register that must be written, in the word
   record Found : Type 0 where
@@ -111,10 +84,9 @@ module _ (must : ℕ → Bool) where
   whole-word (t ∷ ts) (h, hs) x y a b (inl u) = inl (h .whole y u b x a)
   whole-word (t ∷ ts) (h, hs) x y a b (inr u) = inr (whole-word ts hs x y a b u)
 
-  -- a list that keeps the rules and touches what must be written covers the task
-  pub covers-task : (ts : List Transaction) → Every Rules ts → ((x : ℕ) → must x ≡ true → Touched ts x) → Covers (taskFor must) ts
-  unfolding taskFor
-  covers-task ts all f x g n = split (among? 0x0c 0x0f x)
+  -- a list that keeps the rules and touches what must be written touches what is needed
+  pub touches-needed : (ts : List Transaction) → Every Rules ts → ((x : ℕ) → must x ≡ true → Touched ts x) → (x : ℕ) → withWord must x ≡ true → Touched ts x
+  touches-needed ts all f x n = split (among? 0x0c 0x0f x)
     where
       split : ((0x0c ≤ x) × (x ≤ 0x0f)) ⊎ ((x < 0x0c) ⊎ (0x0f < x)) → Touched ts x
       split (inl a) =
@@ -122,20 +94,59 @@ module _ (must : ℕ → Bool) where
           whole-word ts all x (q .at) a (q .from, q .to) (f (q .at) (q .is))
       split (inr a) = f x (sym (need-other x a) ∙ n)
 
-  -- ---- soundness, where only registers that may be written must be
+-- what a task is made from: registers that may be written, among them those that must be and the word's
+pub record Permits (must may : ℕ → Bool) : Type 0 where
+  pub writes : (x : ℕ) → may x ≡ true → writable x ≡ true
+  pub musts : (x : ℕ) → must x ≡ true → may x ≡ true
+  pub word : (x : ℕ) → 0x0c ≤ x → x ≤ 0x0f → may x ≡ true
 
-  module _ (fits : (x : ℕ) → must x ≡ true → writable x ≡ true) where
-    -- the word's registers may be written
-    word-writable : (x : ℕ) → 0x0c ≤ x → x ≤ 0x0f → writable x ≡ true
-    word-writable x a b = writable-from x (record { inside = omega arith; kept = omega arith; quiet = inl (omega arith) })
+module _ (must may : ℕ → Bool) where
+  -- ---- where a transaction may end
 
-    -- and so may every needed one
-    pub needed-writable : (x : ℕ) → withWord must x ≡ true → writable x ≡ true
-    needed-writable x n =
-        ⊎-elim (λ a. word-writable x (a .0) (a .1)) (λ a. fits x (sym (need-other x a) ∙ n)) (among? 0x0c 0x0f x)
+  -- a transaction may not end inside a needed word, and may end anywhere else
+  cut-false : (x : ℕ) → taskFor must may .cut x ≡ false → ((0x0d ≤ x) × (x ≤ 0x0f)) × (wordIn must ≡ true)
+  unfolding taskFor
+  cut-false x e =
+      let q = both-true (among 0x0d 0x0f x) (wordIn must) (not-false (among 0x0d 0x0f x && wordIn must) e) in
+      (among-true 0x0d 0x0f x (q .0), q .1)
+
+  pub cut-inside : (x : ℕ) → 0x0d ≤ x → x ≤ 0x0f → wordIn must ≡ true → taskFor must may .cut x ≡ false
+  unfolding taskFor
+  cut-inside x a b w = rw (among-in 0x0d 0x0f x a b, w)
+
+  cut-outside : (x : ℕ) → (x < 0x0d) ⊎ (0x0f < x) → taskFor must may .cut x ≡ true
+  unfolding taskFor
+  cut-outside x h = rw (among-out 0x0d 0x0f x h)
+
+  -- ---- what keeps the rules and touches only what may be written is allowed
+
+  pub allowed : (t : Transaction) → Rules t → ((x : ℕ) → Touches t x → may x ≡ true) → Allowed (taskFor must may) t
+  unfolding taskFor
+  allowed t h m = record {
+    within = λ x u. h .inside x u .0;
+    takes = λ s u x v w. m x (omega arith);
+    ends = λ x u. cut-outside (end t) (ends-outside t h x u);
+  }
+
+  -- and covers the task where it touches what must be written
+  pub covers-task : (ts : List Transaction) → Every Rules ts → ((x : ℕ) → must x ≡ true → Touched ts x) → Covers (taskFor must may) ts
+  unfolding taskFor
+  covers-task ts all f x g n = touches-needed must ts all f x n
+
+  -- ---- soundness
+
+  module _ (π : Permits must may) where
+    -- every needed register may be written
+    pub needed-may : (x : ℕ) → withWord must x ≡ true → may x ≡ true
+    needed-may x n =
+        ⊎-elim (λ a. π .word x (a .0) (a .1)) (λ a. π .musts x (sym (need-other must x a) ∙ n)) (among? 0x0c 0x0f x)
+
+    -- what may be written is one of the chip's registers, and no caption register
+    pub may-facts : (x : ℕ) → may x ≡ true → Writable x
+    may-facts x m = writable-facts x (π .writes x m)
 
     -- where a transaction from a needed register may end
-    stop-of : (i : ℕ) → withWord must i ≡ true → Stop (taskFor must) i
+    stop-of : (i : ℕ) → withWord must i ≡ true → Stop (taskFor must may) i
     unfolding taskFor
     stop-of i n = split (among? 0x0c 0x0f i)
       where
@@ -143,11 +154,11 @@ module _ (must : ℕ → Bool) where
         past (inl a) = inl (omega arith)
         past (inr a) = inr (omega arith)
 
-        split : ((0x0c ≤ i) × (i ≤ 0x0f)) ⊎ ((i < 0x0c) ⊎ (0x0f < i)) → Stop (taskFor must) i
+        split : ((0x0c ≤ i) × (i ≤ 0x0f)) ⊎ ((i < 0x0c) ⊎ (0x0f < i)) → Stop (taskFor must may) i
         split (inl a) = record {
           at = 0x10;
           after = omega arith;
-          takes = λ x u v. word-writable x (omega arith) (omega arith);
+          takes = λ x u v. π .word x (omega arith) (omega arith);
           cut = cut-outside 0x10 (inr (omega arith));
         }
         split (inr a) = record {
@@ -158,19 +169,19 @@ module _ (must : ℕ → Bool) where
         }
 
     -- the task is sound
-    pub sound : Sound (taskFor must)
+    pub sound : Sound (taskFor must may)
     unfolding taskFor
     sound = record {
-      need-in = λ x n. writable-facts x (needed-writable x n) .inside;
-      takes-in = λ s x e. writable-facts x e .inside;
+      need-in = λ x n. may-facts x (needed-may x n) .inside;
+      takes-in = λ s x e. may-facts x e .inside;
       cut-first = cut-outside 0 (inl (omega arith));
-      cut-before = λ x e. let q = cut-false (suc x) e in need-word x (omega arith) (omega arith) ∙ q .1;
-      cut-after = λ x e. let q = cut-false x e in need-word x (omega arith) (omega arith) ∙ q .1;
+      cut-before = λ x e. let q = cut-false (suc x) e in need-word must x (omega arith) (omega arith) ∙ q .1;
+      cut-after = λ x e. let q = cut-false x e in need-word must x (omega arith) (omega arith) ∙ q .1;
       small = omega arith;
       stop = stop-of;
     }
 
     -- and no limit is in force
-    pub free : Free (taskFor must) writable
+    pub free : Free (taskFor must may) may
     unfolding taskFor
-    free = record { takes = λ s i. refl; needed = needed-writable }
+    free = record { takes = λ s i. refl; needed = needed-may }

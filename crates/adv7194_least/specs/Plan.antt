@@ -6,10 +6,10 @@ use Prim.Native.Nat.{ℕ}
 use lib.Dec.{leb, ltb, eqb}
 use lib.ListN.{getD}
 use Rattle.bus.specs.Transactions.{Transaction}
-pub use Rattle.bus.specs.Registers.{differs}
 use Rattle.adv7194_bus.specs.Kind.{registerCount, readOnly}
 use Rattle.least_cost.specs.Task.{Task}
 use Rattle.least_cost.specs.Plan.{greedyPlan}
+use Rattle.adv7194_least.specs.Aim.{Aim, must, compared}
 
 -- register r is one of first to last
 abbrev pub among : ℕ → ℕ → ℕ → Bool
@@ -31,24 +31,32 @@ wordIn must = must 0x0c || (must 0x0d || (must 0x0e || must 0x0f))
 abbrev pub withWord : (ℕ → Bool) → ℕ → Bool
 withWord must r = cond (inWord r) (wordIn must) (must r)
 
--- the task of a planner that must write some registers: a transaction may take the registers that may be written, and may not end inside
--- the word where that is needed
-unfoldable pub taskFor : (ℕ → Bool) → Task
-taskFor must = record {
+-- the task of a planner that must write some registers and may write others: a transaction may take these, and may not end inside the word where that is
+-- needed
+unfoldable pub taskFor : (ℕ → Bool) → (ℕ → Bool) → Task
+taskFor must may = record {
   count = registerCount;
   need = withWord must;
-  takes = λ s r. writable r;
+  takes = λ s r. may r;
   cut = λ r. not (among 0x0d 0x0f r && wordIn must);
 }
 
+-- a list may write register r: a byte may be written there, and it is known or needed
+abbrev pub may : Aim → ℕ → Bool
+may a r = writable r && compared a r
+
 -- register r is needed, by itself or as one of the word's
-abbrev pub needed : List ℕ → List ℕ → ℕ → Bool
-needed image wanted r = withWord (differs image wanted) r
+abbrev pub needed : Aim → ℕ → Bool
+needed a r = withWord (must a) r
 
 -- the task of planning
-abbrev pub task : List ℕ → List ℕ → Task
-task image wanted = taskFor (differs image wanted)
+abbrev pub task : Aim → Task
+task a = taskFor (must a) (may a)
+
+-- the byte that is wanted in register r
+abbrev pub byteOf : Aim → ℕ → ℕ
+byteOf a r = getD (a .wanted) r 0
 
 -- the plan's transactions, with the wanted image's bytes
-unfoldable pub planOf : List ℕ → List ℕ → List Transaction
-planOf image wanted = greedyPlan (task image wanted) writable (λ r. getD wanted r 0)
+unfoldable pub planOf : Aim → List Transaction
+planOf a = greedyPlan (task a) (may a) (byteOf a)

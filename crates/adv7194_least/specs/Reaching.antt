@@ -1,20 +1,42 @@
--- Document 01, "The bus and its three rules": a list ends in the registers that an idle chip holding the starting image has after the
--- list's events, transaction after transaction.
+-- Document 01, "The bus and its three rules": a list ends in the registers that an idle chip holding the starting image has after the list's events,
+-- transaction after transaction. Document 02, P5: the starting image is what the chip holds in the known registers; a list ends in given registers only
+-- where it does so whatever the unknown ones held, those neither known nor needed left out of the comparison.
 use mathlib.Core.Path.{_≡_}
+use mathlib.Core.Bool.{true}
 use mathlib.Core.List.{List}
-use Prim.Native.Nat.{ℕ}
+use Prim.Native.Nat.{ℕ, _<_, _^_}
+use lib.ListN.{length, getD}
 use Rattle.bus.specs.declared.chip.Phase.the-variants.{Idle}
-use Rattle.bus.specs.Transactions.{Transaction, Every}
+use Rattle.bus.specs.Transactions.{Transaction, Touches, Every}
 use Rattle.bus.specs.Chip.{Chip}
 use Rattle.bus.specs.Run.{run, listEvents}
-use Rattle.adv7194_bus.specs.Kind.{adv7194}
+use Rattle.adv7194_bus.specs.declared.board.Board.{Board}
+use Rattle.adv7194_bus.specs.Board.{knows}
+use Rattle.adv7194_bus.specs.Kind.{registerCount, adv7194}
 use Rattle.adv7194_bus.specs.Rules.{Rules}
+use Rattle.adv7194_least.specs.Aim.{Aim, compared}
 
 -- an idle chip that holds an image, its pointer anywhere
 abbrev pub idleAt : ℕ → List ℕ → Chip
 idleAt pointer image = record { phase = Idle; pointer = pointer; registers = image }
 
--- a list keeps the three rules and, written to the chip's own address, ends in the wanted image
-pub record Reaches (own pointer : ℕ) (image wanted : List ℕ) (ts : List Transaction) : Type 0 where
+-- what a chip may hold of which a board is known: a byte a register, and the board's in those that are known
+pub record MayHold (b : Board) (image : List ℕ) : Type 0 where
+  pub size : length image ≡ registerCount
+  pub bytes : (r : ℕ) → getD image r 0 < 2 ^ 8
+  pub agrees : (r : ℕ) → knows b r ≡ true → getD image r 0 ≡ getD (b .registers) r 0
+
+-- registers are the wanted ones, where they are compared
+abbrev pub AsWanted : Aim → List ℕ → Type 0
+AsWanted a registers = (r : ℕ) → r < registerCount → compared a r ≡ true → getD registers r 0 ≡ getD (a .wanted) r 0
+
+-- a transaction touches no unknown register that isn't needed
+abbrev pub Clear : Aim → Transaction → Type 0
+Clear a t = (r : ℕ) → Touches t r → compared a r ≡ true
+
+-- a list keeps the three rules, touches no unknown register that isn't needed and, written to the chip's own address, ends in the wanted registers,
+-- whatever the unknown ones held
+pub record Reaches (own pointer : ℕ) (a : Aim) (ts : List Transaction) : Type 0 where
   pub rules : Every Rules ts
-  pub ends : run (adv7194 own) (idleAt pointer image) (listEvents own ts) .registers ≡ wanted
+  pub clear : Every (Clear a) ts
+  pub ends : (image : List ℕ) → MayHold (a .board) image → AsWanted a (run (adv7194 own) (idleAt pointer image) (listEvents own ts) .registers)

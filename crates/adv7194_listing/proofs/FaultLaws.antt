@@ -14,7 +14,8 @@ use Rattle.text.specs.Text.{space, hexByte}
 use Rattle.text.proofs.Numerals.{decimal-most}
 use Rattle.listing.specs.Lines.{refusedLine, countsLine}
 use Rattle.refusals.specs.declared.Refusal.{Refusal}
-use Rattle.refusals.specs.declared.Refusal.the-variants.{ImageLength, BusAddress, OutOfRange, Reserved, SquarePixelWithOversampling, PedestalWithPal, SignallingConflict, Disagreement, PlanBytes, PlanRoom}
+use Rattle.refusals.specs.declared.Refusal.the-variants.{ImageLength, BusAddress, OutOfRange, Reserved, SquarePixelWithOversampling, PedestalWithPal}
+use Rattle.refusals.specs.declared.Refusal.the-variants.{SignallingConflict, Disagreement, PlanBytes, PlanRoom, RegisterUnknown}
 use Rattle.refusals.specs.Refusal.{numberOf}
 use Rattle.field_table.specs.declared.row.Row.{Row}
 use Rattle.field_table.specs.Rows.{rowOf}
@@ -136,6 +137,7 @@ number-small SignallingConflict = omega arith
 number-small Disagreement = omega arith
 number-small PlanBytes = omega arith
 number-small PlanRoom = omega arith
+number-small RegisterUnknown = omega arith
 
 -- and so the line is short
 pub refused-most : (n f : ℕ) → n < 1000 → f < 1000 → length (refusedLine n f) ≤ 16

@@ -1,4 +1,4 @@
--- The text of an image by what its reading answers. Assumes nothing.
+-- The text of a board by what its reading answers. Assumes nothing.
 use mathlib.Core.Path.{_≡_, sym, ap, _∙_}
 use mathlib.Core.List.{List, _++_}
 use Prim.Native.Nat.{ℕ}
@@ -6,6 +6,7 @@ use lib.IntN.{ℤ}
 use lib.ListN.{length}
 use Rattle.listing.specs.Lines.{refusedLine}
 use Rattle.refusals.specs.Verdict.{good, refusedAt}
+use Rattle.adv7194_bus.specs.declared.board.Board.{Board}
 use Rattle.adv7194_table.specs.Fields.{numberCount}
 use Rattle.adv7194_table.specs.Table.{table}
 use Rattle.adv7194_settings.specs.Reading.{readOf, readLeft, leftBy}
@@ -13,15 +14,15 @@ use Rattle.adv7194_listing.specs.Faults.{faultText}
 use Rattle.adv7194_lines.specs.Lines.{linesOf}
 use Rattle.adv7194_listing.specs.Listing.{textBy, settingsText}
 
-module _ (image : List ℕ) (zs : List ℤ) (l : length zs ≡ numberCount) where
+module _ (b : Board) (zs : List ℤ) (l : length zs ≡ numberCount) where
   -- settings that were read
-  pub text-read : {left : List ℤ} → good tt ≡ readOf image (length zs) → left ≡ readLeft image zs → linesOf left table ≡ settingsText image
+  pub text-read : {left : List ℤ} → good tt ≡ readOf b (length zs) → left ≡ readLeft b zs → linesOf left table ≡ settingsText b
   unfolding settingsText
   text-read e m =
-      ap (λ (ys : List ℤ). linesOf ys table) (m ∙ ap (leftBy image zs) (sym e))
-      ∙ ap (textBy image) e ∙ ap (λ (n : ℕ). textBy image (readOf image n)) l
+      ap (λ (ys : List ℤ). linesOf ys table) (m ∙ ap (leftBy (b .registers) zs) (sym e))
+      ∙ ap (textBy (b .registers)) e ∙ ap (λ (n : ℕ). textBy (b .registers) (readOf b n)) l
 
   -- a refusal
-  pub text-refused : (n f : ℕ) → refusedAt n f ≡ readOf image (length zs) → refusedLine n f ++ faultText image n f ≡ settingsText image
+  pub text-refused : (n f : ℕ) → refusedAt n f ≡ readOf b (length zs) → refusedLine n f ++ faultText (b .registers) n f ≡ settingsText b
   unfolding settingsText
-  text-refused n f e = ap (textBy image) e ∙ ap (λ (k : ℕ). textBy image (readOf image k)) l
+  text-refused n f e = ap (textBy (b .registers)) e ∙ ap (λ (k : ℕ). textBy (b .registers) (readOf b k)) l

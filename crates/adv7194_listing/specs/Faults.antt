@@ -1,4 +1,4 @@
--- Document 01, "Refusals", in words: what is at fault in an image that is refused by row n at field f.
+-- Document 01, "Refusals", in words: what is at fault in an image that is refused by row n at field f. Document 02, P5: 11 where a register isn't known.
 use mathlib.Core.Bool.{cond}
 use mathlib.Core.List.{List, [], _∷_, _++_}
 use Prim.Native.Nat.{ℕ}
@@ -62,7 +62,8 @@ faultWords image n f =
     (cond (eqb n 5) (ascii "with square pixel")
     (cond (eqb n 6) (ascii "with PAL")
     (cond (eqb n 7) (conflictText (kindOf (getD image (signalling .register) 0)))
-    (cond (eqb n 8) (disagreementText f) []))))))
+    (cond (eqb n 8) (disagreementText f)
+    (cond (eqb n 11) (ascii "not known") [])))))))
 
 -- the line: `23 DNR input: reserved code 0`; at field 0 it has no number
 unfoldable pub faultText : List ℕ → ℕ → ℕ → List ℕ

@@ -152,6 +152,7 @@ fn put_words(line: &mut [u8], at: usize, image: &[u8], refusal: Refusal, field: 
         Refusal::PedestalWithPal => put(line, at, b"with PAL"),
         Refusal::SignallingConflict => put_conflict(line, at, byte_at(image, SIGNALLING_REGISTER)),
         Refusal::Disagreement => put_disagreement(line, at, field),
+        Refusal::RegisterUnknown => put(line, at, b"not known"),
         Refusal::BusAddress => at,
         Refusal::PlanBytes => at,
         Refusal::PlanRoom => at,

@@ -1,4 +1,4 @@
-// The text of an image: the settings that it holds, or why it is refused.
+// The text of a board: the settings that it holds, or why it is refused.
 mod faults;
 
 use adv7194_lines::lines::NUMBERS;
@@ -20,11 +20,12 @@ ghost use lib.ListN.{length};
 ghost use Rattle.text.specs.Line.{placeAfter, appended};
 ghost use Rattle.listing.specs.Lines.{refusedLine};
 ghost use Rattle.refusals.specs.Refusal.{numberOf};
+ghost use Rattle.adv7194_bus.specs.Board.{boardOf};
 ghost use Rattle.adv7194_names.specs.Put.{Put, textWidth};
 ghost use Rattle.adv7194_listing.specs.Faults.{faultText};
 ghost use Rattle.adv7194_listing.specs.Listing.{settingsText};
 
-// Room for the text of any image.
+// Room for the text of any board.
 pub const TEXT_WIDTH: usize = 4096;
 
 // Writes the two lines of a refusal, and answers the place after them.
@@ -39,26 +40,26 @@ fn refused_text(line: &mut [u8], image: &[u8], refusal: Refusal, field: u8) -> u
     fault_line(line, second, image, refusal, field)
 }
 
-// Writes the text of an image, and answers the place after it.
-fn compose(line: &mut [u8], image: &[u8]) -> usize
+// Writes the text of a board, and answers the place after it.
+fn compose(line: &mut [u8], image: &[u8], known: u64) -> usize
     requires { ⌜ textWidth ≤ length (now line) ⌝ }
-    ensures written { λ r. ⌜ Put textWidth (now (line .entry)) 0 (settingsText (now (image .entry))) (now (line .exit)) r ⌝ }
+    ensures written { λ r. ⌜ Put textWidth (now (line .entry)) 0 (settingsText (boardOf (now (image .entry)) known)) (now (line .exit)) r ⌝ }
 {
     let mut numbers = [0i32; NUMBERS];
-    let answer = read(image, &mut numbers);
+    let answer = read(image, known, &mut numbers);
     match answer {
         Read::Done => setting_lines(line, &numbers),
         Read::Refused { refusal, field } => refused_text(line, image, refusal, field),
     }
 }
 
-// Writes the text of an image at the front of a lent one, or nothing where it does not fit.
-pub fn settings_text(image: &[u8], out: &mut [u8]) -> Place
-    ensures answer { λ r. ⌜ r ≡ placeAfter (now (out .entry)) 0 (settingsText (now (image .entry))) ⌝ }
-    ensures memory { λ _. ⌜ now (out .exit) ≡ appended (now (out .entry)) 0 (settingsText (now (image .entry))) ⌝ }
-    ensures most { λ _. ⌜ length (settingsText (now (image .entry))) ≤ textWidth ⌝ }
+// Writes the text of a board at the front of a lent one, or nothing where it does not fit. The board is an image and the map of its known registers.
+pub fn settings_text(image: &[u8], known: u64, out: &mut [u8]) -> Place
+    ensures answer { λ r. ⌜ r ≡ placeAfter (now (out .entry)) 0 (settingsText (boardOf (now (image .entry)) known)) ⌝ }
+    ensures memory { λ _. ⌜ now (out .exit) ≡ appended (now (out .entry)) 0 (settingsText (boardOf (now (image .entry)) known)) ⌝ }
+    ensures most { λ _. ⌜ length (settingsText (boardOf (now (image .entry)) known)) ≤ textWidth ⌝ }
 {
     let mut composed = [0u8; TEXT_WIDTH];
-    let end = compose(&mut composed, image);
+    let end = compose(&mut composed, image, known);
     append(out, 0, &composed[0..end])
 }

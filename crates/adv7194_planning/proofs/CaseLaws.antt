@@ -6,28 +6,30 @@ use Prim.Native.Nat.{ℕ, _≤_, _<_}
 use lib.Dec.{T, eqb, leb, ltb}
 use lib.IntN.{ℤ}
 use lib.ListN.{length, drop}
-use borrow.Author.Tests.{eq-eqb, ne-eqb, lt-ltb, le-ltb, leb-true, leb-false}
-use Rattle.bits.proofs.FlagLaws.{first, second}
+use borrow.Author.Tests.{eq-eqb, ne-eqb, lt-ltb, le-ltb, leb-true, leb-false, not-true}
+use Rattle.bits.proofs.FlagLaws.{first, second, holds}
 use Rattle.refusals.specs.Verdict.{Verdict, good, refusedAt, after}
-use Rattle.refusals.specs.Order.{Place, firstOf, placesAt}
+use Rattle.refusals.specs.Order.{Place, firstOf, placesAt, placesOver}
 use Rattle.refusals.proofs.OrderLaws.{first-append}
-use Rattle.bus.specs.Transactions.{Transaction}
 use Rattle.packing.specs.Packing.{packed}
-use Rattle.planning.specs.Plan.{Counts, countsOf, packingOf, leftBy, planAfter}
+use Rattle.planning.specs.Plan.{Counts, countsOf, packingOf, leftBy}
 use Rattle.adv7194_bus.specs.Kind.{registerCount}
 use Rattle.adv7194_bus.specs.Address.{addressRight}
+use Rattle.adv7194_bus.specs.declared.board.Board.{Board}
 use Rattle.adv7194_table.specs.Fields.{numberCount, timing, output, picture, dnr}
 use Rattle.adv7194_table.specs.Table.{singles, table, orderOf}
+use Rattle.adv7194_table.specs.Registers.{fieldAmong, lowestIn, lowestField}
+use Rattle.adv7194_settings.specs.Known.{fixesSome, unknown}
 use Rattle.adv7194_settings.specs.Order.{placesOf, order}
 use Rattle.adv7194_settings.specs.Rows.{rowHolds, checkOf}
-use Rattle.adv7194_planning.specs.Rows.{listOf, rowPlanned, planOrder}
+use Rattle.adv7194_planning.specs.Rows.{listOf, rowPlanned, lastChecks, planOrder}
 use Rattle.adv7194_planning.specs.Planning.{planningOf, planLeft}
 
 -- ---- the settings' rows
 
--- a place that planning judges by the settings alone: it is at a field, and its row isn't the room's
+-- a place that planning judges by the settings alone: it is at a field, and its row is neither the room's nor the unknown registers'
 abbrev pub bySettings : ℕ → ℕ → Bool
-bySettings n f = not (eqb n 10) && not (eqb f 0)
+bySettings n f = not (eqb n 10) && (not (eqb n 11) && not (eqb f 0))
 
 -- some places are such
 abbrev pub allBySettings : List Place → Bool
@@ -39,104 +41,149 @@ pub order-by-settings : T (allBySettings order)
 unfolding order placesOf placesAt orderOf table singles timing output picture dnr
 order-by-settings = tt
 
-module _ (image : List ℕ) (zs : List ℤ) (address room : ℕ) where
-  -- a row holds there of what is handed to planning where it holds of the settings
-  same-row : (n f : ℕ) → T (bySettings n f) → rowPlanned image zs address room n f ≡ rowHolds zs n f
-  unfolding rowPlanned
-  same-row n f t = by (eqb f 0) refl (second (not (eqb n 10)) (not (eqb f 0)) t)
-    where
-      by : (a : Bool) → eqb f 0 ≡ a → T (not a) → rowPlanned image zs address room n f ≡ rowHolds zs n f
-      by true p t = absurd t
-      by false p t = rw p
+-- ---- the unknown registers' row
 
-  same-first : {A : Type 0} (ps : List Place) (a : A) → T (allBySettings ps) → firstOf (rowPlanned image zs address room) ps a ≡ firstOf (rowHolds zs) ps a
+-- register r is not known and fixed only in part
+abbrev pub unfixed : Board → List ℤ → ℕ → Bool
+unfixed b zs r = unknown b r && fixesSome zs r
+
+-- the lowest field that has such a register, or 0
+abbrev pub lowestUnfixed : Board → List ℤ → ℕ
+lowestUnfixed b zs = lowestField (unfixed b zs)
+
+-- some numbers are fields'
+abbrev allFields : List ℕ → Bool
+allFields [] = true
+allFields (f ∷ fs) = not (eqb f 0) && allFields fs
+
+-- those of the table are
+table-fields : T (allFields (orderOf table))
+unfolding orderOf table singles timing output picture dnr
+table-fields = tt
+
+module _ (b : Board) (zs : List ℤ) (address room : ℕ) where
+  -- a row holds of what is handed to planning where it holds of the settings
+  same-row : (n f : ℕ) → T (bySettings n f) → rowPlanned b zs address room n f ≡ rowHolds zs n f
+  unfolding rowPlanned
+  same-row n f t =
+      let own = not (eqb n 11) && not (eqb f 0) in
+      let q = second (not (eqb n 10)) own t in
+      rw (
+        not-true (eqb f 0) (holds (not (eqb f 0)) (second (not (eqb n 11)) (not (eqb f 0)) q)),
+        not-true (eqb n 11) (holds (not (eqb n 11)) (first (not (eqb n 11)) (not (eqb f 0)) q)),
+      )
+
+  same-first : {A : Type 0} (ps : List Place) (a : A) → T (allBySettings ps) → firstOf (rowPlanned b zs address room) ps a ≡ firstOf (rowHolds zs) ps a
   unfolding firstOf
   same-first [] a t = refl
   same-first (p ∷ ps) a t =
       let own = bySettings (p .row) (p .field) in
       rw (same-row (p .row) (p .field) (first own (allBySettings ps) t), same-first ps a (second own (allBySettings ps) t))
 
-  -- ---- the cases
+  -- row 11 is given at the lowest field that has such a register
+  by-register : (fs : List ℕ) → T (allFields fs) → (let f = lowestIn (unfixed b zs) fs in
+      firstOf (rowPlanned b zs address room) (placesOver 11 fs) (tt {0}) ≡ cond (eqb f 0) (good tt) (refusedAt 11 f))
+  unfolding firstOf placesOver rowPlanned lowestIn
+  by-register [] t = refl
+  by-register (f ∷ fs) t =
+      by (fieldAmong (unfixed b zs) f) refl (not-true (eqb f 0) (holds (not (eqb f 0)) (first (not (eqb f 0)) (allFields fs) t)))
+      (by-register fs (second (not (eqb f 0)) (allFields fs) t))
+    where
+      by : (x : Bool) → fieldAmong (unfixed b zs) f ≡ x → eqb f 0 ≡ false
+          → (let g = lowestIn (unfixed b zs) fs in
+          firstOf (rowPlanned b zs address room) (placesOver 11 fs) (tt {0}) ≡ cond (eqb g 0) (good tt) (refusedAt 11 g))
+          → (let g = lowestIn (unfixed b zs) (f ∷ fs) in
+          firstOf (rowPlanned b zs address room) (placesOver 11 (f ∷ fs)) (tt {0}) ≡ cond (eqb g 0) (good tt) (refusedAt 11 g))
+      by true p e ih = rw (p, e)
+      by false p e ih = rw (p, e) ih
 
-  abbrev list : List Transaction
-  list = listOf image zs
+  -- ---- the cases
 
   -- row 10, or the numbers of the list
   abbrev byRoom : Verdict Counts
-  byRoom = cond (ltb room (length (packed list))) (refusedAt 10 0) (good (countsOf list))
+  byRoom = cond (ltb room (length (packed (listOf b zs)))) (refusedAt 10 0) (good (countsOf (listOf b zs)))
 
-  -- the settings' rows, and then the room
-  settings-then-room : firstOf (rowPlanned image zs address room) (order ++ placesAt (10 ∷ []) 0) (countsOf list) ≡ after (checkOf zs) byRoom
-  unfolding checkOf firstOf rowPlanned placesAt
-  settings-then-room =
-      first-append (rowPlanned image zs address room) order (placesAt (10 ∷ []) 0) (countsOf list)
-      ∙ ap (λ (v : Verdict (Unit {0})). after v byRoom) (same-first order (tt {0}) order-by-settings)
+  -- what is answered of settings that pass the check: rows 11 and 10
+  abbrev pub lastVerdict : Verdict Counts
+  lastVerdict = firstOf (rowPlanned b zs address room) lastChecks (countsOf (listOf b zs))
+
+  last-is : lastVerdict ≡ after (cond (eqb (lowestUnfixed b zs) 0) (good (tt {0})) (refusedAt 11 (lowestUnfixed b zs))) byRoom
+  unfolding firstOf rowPlanned placesAt
+  last-is =
+      first-append (rowPlanned b zs address room) (placesOver 11 (orderOf table)) (placesAt (10 ∷ []) 0) (countsOf (listOf b zs))
+      ∙ ap (λ (v : Verdict (Unit {0})). after v byRoom) (by-register (orderOf table) table-fields)
+
+  -- row 11: an unknown register is fixed only in part
+  pub wrong-register : (lowestUnfixed b zs ≡ 0 → ⊥) → lastVerdict ≡ refusedAt 11 (lowestUnfixed b zs)
+  wrong-register h = last-is ∙ rw (ne-eqb (lowestUnfixed b zs) 0 h)
+
+  module _ (u : lowestUnfixed b zs ≡ 0) where
+    -- the room is left to judge
+    by-room : lastVerdict ≡ byRoom
+    by-room = last-is ∙ rw (eq-eqb (lowestUnfixed b zs) 0 u)
+
+    -- row 10: the lent plan is shorter than the packed plan
+    pub wrong-room : room < length (packed (listOf b zs)) → lastVerdict ≡ refusedAt 10 0
+    wrong-room l = by-room ∙ rw (lt-ltb room (length (packed (listOf b zs))) l)
+
+    -- no row holds
+    pub no-row : length (packed (listOf b zs)) ≤ room → lastVerdict ≡ good (countsOf (listOf b zs))
+    no-row l = by-room ∙ rw (le-ltb room (length (packed (listOf b zs))) l)
+
+    -- so packing the list answers it
+    pub packing : packingOf (listOf b zs) room ≡ lastVerdict
+    packing = by (leb (length (packed (listOf b zs))) room) refl
+      where
+        by : (x : Bool) → leb (length (packed (listOf b zs))) room ≡ x → packingOf (listOf b zs) room ≡ lastVerdict
+        by true p = rw p (sym (no-row (leb-true (length (packed (listOf b zs))) room p)))
+        by false p = rw p (sym (wrong-room (leb-false (length (packed (listOf b zs))) room p)))
+
+  -- the settings' rows, and then those
+  settings-then : firstOf (rowPlanned b zs address room) (order ++ lastChecks) (countsOf (listOf b zs)) ≡ after (checkOf zs) lastVerdict
+  unfolding checkOf
+  settings-then =
+      first-append (rowPlanned b zs address room) order lastChecks (countsOf (listOf b zs))
+      ∙ ap (λ (v : Verdict (Unit {0})). after v lastVerdict) (same-first order (tt {0}) order-by-settings)
 
   -- row 1: the image isn't 54 bytes
-  pub wrong-length : (length image ≡ registerCount → ⊥) → planningOf image zs address room ≡ refusedAt 1 0
+  pub wrong-length : (length (b .registers) ≡ registerCount → ⊥) → planningOf b zs address room ≡ refusedAt 1 0
   unfolding planningOf planOrder placesAt firstOf rowPlanned
-  wrong-length h = rw (ne-eqb (length image) registerCount h)
+  wrong-length h = rw (ne-eqb (length (b .registers)) registerCount h)
 
-  module _ (h : length image ≡ registerCount) where
+  module _ (h : length (b .registers) ≡ registerCount) where
     -- row 2: the address
-    pub wrong-address : addressRight address ≡ false → planningOf image zs address room ≡ refusedAt 2 0
+    pub wrong-address : addressRight address ≡ false → planningOf b zs address room ≡ refusedAt 2 0
     unfolding planningOf planOrder placesAt firstOf rowPlanned
-    wrong-address e = rw (eq-eqb (length image) registerCount h, e)
+    wrong-address e = rw (eq-eqb (length (b .registers)) registerCount h, e)
 
     module _ (e : addressRight address ≡ true) where
       -- row 3 at field 0: the settings aren't 49 numbers
-      pub wrong-count : (length zs ≡ numberCount → ⊥) → planningOf image zs address room ≡ refusedAt 3 0
+      pub wrong-count : (length zs ≡ numberCount → ⊥) → planningOf b zs address room ≡ refusedAt 3 0
       unfolding planningOf planOrder placesAt firstOf rowPlanned
-      wrong-count c = rw (eq-eqb (length image) registerCount h, e, ne-eqb (length zs) numberCount c)
+      wrong-count c = rw (eq-eqb (length (b .registers)) registerCount h, e, ne-eqb (length zs) numberCount c)
 
       module _ (c : length zs ≡ numberCount) where
-        -- the settings are left to judge, and then the room
-        right-so-far : planningOf image zs address room ≡ after (checkOf zs) byRoom
+        -- the settings are left to judge, and then rows 11 and 10
+        right-so-far : planningOf b zs address room ≡ after (checkOf zs) lastVerdict
         unfolding planningOf planOrder placesAt firstOf rowPlanned
-        right-so-far = rw (eq-eqb (length image) registerCount h, e, eq-eqb (length zs) numberCount c) settings-then-room
+        right-so-far = rw (eq-eqb (length (b .registers)) registerCount h, e, eq-eqb (length zs) numberCount c) settings-then
 
         -- rows 3 to 7: the settings
-        pub wrong-settings : (n f : ℕ) → checkOf zs ≡ refusedAt n f → planningOf image zs address room ≡ refusedAt n f
-        wrong-settings n f k = right-so-far ∙ ap (λ (v : Verdict (Unit {0})). after v byRoom) k
+        pub wrong-settings : (n f : ℕ) → checkOf zs ≡ refusedAt n f → planningOf b zs address room ≡ refusedAt n f
+        wrong-settings n f k = right-so-far ∙ ap (λ (v : Verdict (Unit {0})). after v lastVerdict) k
 
-        module _ (k : checkOf zs ≡ good tt) where
-          -- the room is left to judge
-          by-room : planningOf image zs address room ≡ byRoom
-          by-room = right-so-far ∙ ap (λ (v : Verdict (Unit {0})). after v byRoom) k
-
-          -- row 10: the lent plan is shorter than the packed plan
-          pub wrong-room : room < length (packed list) → planningOf image zs address room ≡ refusedAt 10 0
-          wrong-room l = by-room ∙ rw (lt-ltb room (length (packed list)) l)
-
-          -- no row holds
-          pub no-row : length (packed list) ≤ room → planningOf image zs address room ≡ good (countsOf list)
-          no-row l = by-room ∙ rw (le-ltb room (length (packed list)) l)
+        -- rows 11 and 10 are left to judge
+        pub passed : checkOf zs ≡ good tt → planningOf b zs address room ≡ lastVerdict
+        passed k = right-so-far ∙ ap (λ (v : Verdict (Unit {0})). after v lastVerdict) k
 
 -- ---- what is left
 
-module _ (image : List ℕ) (zs : List ℤ) (address : ℕ) (plan : List ℕ) where
+module _ (b : Board) (zs : List ℤ) (address : ℕ) (plan : List ℕ) where
   -- a refusal leaves the lent plan
-  pub refuse : (n f : ℕ) → planningOf image zs address (length plan) ≡ refusedAt n f
-      → (refusedAt n f ≡ planningOf image zs address (length plan)) × (plan ≡ planLeft image zs address plan)
-  refuse n f e = (sym e, sym (ap (leftBy (listOf image zs) plan) e))
+  pub refuse : (n f : ℕ) → planningOf b zs address (length plan) ≡ refusedAt n f → plan ≡ planLeft b zs address plan
+  refuse n f e = sym (ap (leftBy (listOf b zs) plan) e)
 
   -- a plan leaves its packed bytes and what was past them
-  pub accept : planningOf image zs address (length plan) ≡ good (countsOf (listOf image zs))
-      → planLeft image zs address plan ≡ packed (listOf image zs) ++ drop (length (packed (listOf image zs))) plan
-  accept e = ap (leftBy (listOf image zs) plan) e
-
-  -- what packing the list answers and leaves is what planning does, where the room is left to judge
-  pub packing : length image ≡ registerCount → addressRight address ≡ true → length zs ≡ numberCount → checkOf zs ≡ good tt
-      → (packingOf (listOf image zs) (length plan) ≡ planningOf image zs address (length plan))
-      × (planAfter (listOf image zs) plan ≡ planLeft image zs address plan)
-  packing h e c k = by (leb (length (packed (listOf image zs))) (length plan)) refl
-    where
-      by : (b : Bool) → leb (length (packed (listOf image zs))) (length plan) ≡ b
-          → (packingOf (listOf image zs) (length plan) ≡ planningOf image zs address (length plan))
-          × (planAfter (listOf image zs) plan ≡ planLeft image zs address plan)
-      by true p =
-          let v = no-row image zs address (length plan) h e c k (leb-true (length (packed (listOf image zs))) (length plan) p) in
-          (rw p (sym v), rw p (sym (accept v)))
-      by false p =
-          let v = wrong-room image zs address (length plan) h e c k (leb-false (length (packed (listOf image zs))) (length plan) p) in
-          (rw p (sym v), rw p (refuse 10 0 v .1))
+  pub accept : planningOf b zs address (length plan) ≡ good (countsOf (listOf b zs))
+      → planLeft b zs address plan ≡ packed (listOf b zs) ++ drop (length (packed (listOf b zs))) plan
+  accept e = ap (leftBy (listOf b zs) plan) e

@@ -1,64 +1,66 @@
 -- Demands 1, 2 and 3 of whatever planning answers and leaves. Assumes nothing.
 use mathlib.Core.Path.{_≡_, refl, sym, ap, _∙_, subst}
+use mathlib.Core.Bool.{not}
 use mathlib.Core.List.{List}
 use Prim.Native.Nat.{ℕ, _^_, _<_}
 use native.Mathlib.Omega.{arith}
 use lib.IntN.{ℤ}
 use lib.ListN.{length, getD, take, drop}
 use lib.Seq.{take-append-seam}
-use lib.Dec.{T}
+use lib.Dec.{T, eqb}
 use Rattle.refusals.specs.Verdict.{Verdict, good, refusedAt}
+use Rattle.refusals.specs.Order.{Exactly}
+use Rattle.refusals.proofs.OrderLaws.{exactly}
 use Rattle.bus.specs.Transactions.{busBytes}
 use Rattle.packing.specs.Packing.{packed}
 use Rattle.planning.specs.Plan.{Counts, countsOf, done}
-use Rattle.adv7194_bus.specs.Kind.{registerCount}
+use Rattle.adv7194_bus.specs.declared.board.Board.{Board}
 use Rattle.adv7194_settings.specs.Wanted.{wantedBy}
 use Rattle.adv7194_settings.specs.Demand.{Demanded}
 use Rattle.adv7194_settings.proofs.DemandLaws.{demanded}
-use Rattle.adv7194_least.specs.Change.{Change}
-use Rattle.adv7194_least.specs.Demands.{Played, Counted, Least, Only, mostBytes}
-use Rattle.adv7194_least.proofs.WantedChange.{settings-change}
-use Rattle.adv7194_least.proofs.PlayedPlan.{plan-played, plan-counted}
+use Rattle.adv7194_least.specs.Aim.{aimOf}
+use Rattle.adv7194_least.specs.Change.{Change, Told}
+use Rattle.adv7194_least.specs.Played.{Played}
+use Rattle.adv7194_least.specs.Demands.{Counted, Least, Only, mostBytes}
+use Rattle.adv7194_least.proofs.WantedChange.{settings-change, settings-told}
+use Rattle.adv7194_least.proofs.PackedPlan.{plan-counted}
+use Rattle.adv7194_least.proofs.PlayedPlan.{plan-played}
 use Rattle.adv7194_least.proofs.Costs.{plan-least, plan-only}
 use Rattle.adv7194_least.proofs.Room.{plan-room}
-use Rattle.adv7194_planning.specs.Rows.{listOf}
+use Rattle.adv7194_planning.specs.Rows.{listOf, rowPlanned, planOrder}
 use Rattle.adv7194_planning.specs.Planning.{planningOf, planLeft}
-use Rattle.adv7194_planning.specs.Judges.{Judges, image-fault, address-fault, count-fault, settings-fault, room-fault, no-fault}
-use Rattle.adv7194_planning.proofs.CaseLaws.{bySettings, accept}
-use Rattle.adv7194_planning.proofs.ExactLaws.{settings-row, exactly}
+use Rattle.adv7194_planning.proofs.CaseLaws.{unfixed, accept}
+use Rattle.adv7194_planning.proofs.Outcomes.{none-among, Passed, Outcome, early, short, planned, outcome}
 
 -- all that planning promises of an answer, and of what it leaves of the lent plan
-abbrev pub Clauses : List ℕ → List ℤ → ℕ → List ℕ → List ℕ → Verdict Counts → Type 0
-Clauses image zs address plan after v =
-    (v ≡ planningOf image zs address (length plan))
-    × ((after ≡ planLeft image zs address plan)
+abbrev pub Clauses : Board → List ℤ → ℕ → List ℕ → List ℕ → Verdict Counts → Type 0
+Clauses board zs address plan after v =
+    (v ≡ planningOf board zs address (length plan))
+    × ((after ≡ planLeft board zs address plan)
     × (((l t b : ℕ) → v ≡ done l t b → Counted (take l after) l t b)
-    × (((l t b : ℕ) → v ≡ done l t b → Demanded image zs (wantedBy image zs))
-    × (((l t b : ℕ) → v ≡ done l t b → Played image (wantedBy image zs) (take l after))
-    × (((l t b : ℕ) → v ≡ done l t b → Least image (wantedBy image zs) t b)
-    × (((l t b : ℕ) → v ≡ done l t b → Only image (wantedBy image zs) (listOf image zs))
+    × (((l t b : ℕ) → v ≡ done l t b → Demanded (board .registers) zs (wantedBy (board .registers) zs))
+    × (((l t b : ℕ) → v ≡ done l t b → Played (aimOf board zs) (take l after))
+    × (((l t b : ℕ) → v ≡ done l t b → Least (aimOf board zs) t b)
+    × (((l t b : ℕ) → v ≡ done l t b → Only (aimOf board zs) (listOf board zs))
     × (((f : ℕ) → v ≡ refusedAt 10 f → length plan < mostBytes)
-    × Judges image zs address (length plan) v)))))))
+    × Exactly (rowPlanned board zs address (length plan)) planOrder (countsOf (listOf board zs)) v)))))))
 
--- what an answered plan tells: the image has a byte a register, and the numbers are the list's
-record Answered (image : List ℕ) (zs : List ℤ) (v : Verdict Counts) (l t b : ℕ) : Type 0 where
-  long : length image ≡ registerCount
-  verdict : v ≡ good (countsOf (listOf image zs))
-  size : l ≡ length (packed (listOf image zs))
-  transactions : t ≡ length (listOf image zs)
-  cost : b ≡ busBytes (listOf image zs)
+-- what an answered plan tells: all before the room has passed, and the numbers are the list's
+record Answered (board : Board) (zs : List ℤ) (v : Verdict Counts) (l t b : ℕ) : Type 0 where
+  passed : Passed board zs
+  verdict : v ≡ good (countsOf (listOf board zs))
+  size : l ≡ length (packed (listOf board zs))
+  transactions : t ≡ length (listOf board zs)
+  cost : b ≡ busBytes (listOf board zs)
 
-module _ (image : List ℕ) (zs : List ℤ) (address room : ℕ) where
-  planned : (v : Verdict Counts) → Judges image zs address room v → (l t b : ℕ) → v ≡ done l t b → Answered image zs v l t b
-  planned _ (image-fault h) l t b e = let z : _≡_ {A = ℕ} 0 1 = cc in absurd (omega arith)
-  planned _ (address-fault h a) l t b e = let z : _≡_ {A = ℕ} 0 1 = cc in absurd (omega arith)
-  planned _ (count-fault h a c) l t b e = let z : _≡_ {A = ℕ} 0 1 = cc in absurd (omega arith)
-  planned _ (settings-fault h a c w) l t b e = let z : _≡_ {A = ℕ} 0 1 = cc in absurd (omega arith)
-  planned _ (room-fault h a c w k) l t b e = let z : _≡_ {A = ℕ} 0 1 = cc in absurd (omega arith)
-  planned _ (no-fault h a c w k) l t b e =
-      let same : countsOf (listOf image zs) ≡ record { length = l; transactions = t; busBytes = b } = cc in
+module _ (board : Board) (zs : List ℤ) (room : ℕ) where
+  is-planned : (v : Verdict Counts) → Outcome board zs room v → (l t b : ℕ) → v ≡ done l t b → Answered board zs v l t b
+  is-planned _ (early h) l t b e = let z : _≡_ {A = ℕ} 0 1 = cc in absurd (omega arith)
+  is-planned _ (short p h) l t b e = let z : _≡_ {A = ℕ} 0 1 = cc in absurd (omega arith)
+  is-planned _ (planned p) l t b e =
+      let same : countsOf (listOf board zs) ≡ record { length = l; transactions = t; busBytes = b } = cc in
       record {
-        long = h;
+        passed = p;
         verdict = refl;
         size = sym (ap (λ (n : Counts). n .length) same);
         transactions = sym (ap (λ (n : Counts). n .transactions) same);
@@ -66,67 +68,72 @@ module _ (image : List ℕ) (zs : List ℤ) (address room : ℕ) where
       }
 
   -- where the room is refused, it is too short for the list
-  too-short : (v : Verdict Counts) → Judges image zs address room v → (f : ℕ) → v ≡ refusedAt 10 f
-      → (length image ≡ registerCount) × (room < length (packed (listOf image zs)))
-  too-short _ (image-fault h) f e = let z : _≡_ {A = ℕ} 1 10 = cc in absurd (omega arith)
-  too-short _ (address-fault h a) f e = let z : _≡_ {A = ℕ} 2 10 = cc in absurd (omega arith)
-  too-short _ (count-fault h a c) f e = let z : _≡_ {A = ℕ} 3 10 = cc in absurd (omega arith)
-  too-short _ (settings-fault {n} {f = g} h a c w) f e = let z : n ≡ 10 = cc in absurd (subst (λ (k : ℕ). T (bySettings k g)) z (settings-row zs n g w))
-  too-short _ (room-fault h a c w l) f e = (h, l)
-  too-short _ (no-fault h a c w l) f e = let z : _≡_ {A = ℕ} 0 1 = cc in absurd (omega arith)
+  is-short : (v : Verdict Counts) → Outcome board zs room v → (f : ℕ) → v ≡ refusedAt 10 f → Passed board zs × (room < length (packed (listOf board zs)))
+  is-short _ (early {n} h) f e = let z : n ≡ 10 = cc in absurd (subst (λ (k : ℕ). T (not (eqb k 10))) z h)
+  is-short _ (short p h) f e = (p, h)
+  is-short _ (planned p) f e = let z : _≡_ {A = ℕ} 0 1 = cc in absurd (omega arith)
 
-module _ (image : List ℕ) (zs : List ℤ) (bytes : (r : ℕ) → getD image r 0 < 2 ^ 8) where
-  -- what settings mean is a change of the image
-  pub change : length image ≡ registerCount → Change image (wantedBy image zs)
-  change h = settings-change image zs (record { size = h; bytes = bytes })
+module _ (board : Board) (zs : List ℤ) (bytes : (r : ℕ) → getD (board .registers) r 0 < 2 ^ 8) where
+  -- what settings mean is a change of the board
+  pub change : Passed board zs → Change (aimOf board zs)
+  change p = settings-change board zs (record { size = p .long; bytes = bytes })
 
-  module _ (address : ℕ) (plan after : List ℕ) (v : Verdict Counts) (answer : v ≡ planningOf image zs address (length plan))
-      (memory : after ≡ planLeft image zs address plan) where
-    judged : Judges image zs address (length plan) v
-    judged = exactly image zs address (length plan) v .0 (sym answer)
+  -- in which every register with a field is known or fixed
+  pub told : Passed board zs → Told (aimOf board zs)
+  told p = settings-told board zs (record { size = p .long; bytes = bytes }) (none-among (unfixed board zs) (p .fixed))
+
+  module _ (address : ℕ) (plan after : List ℕ) (v : Verdict Counts) (answer : v ≡ planningOf board zs address (length plan))
+      (memory : after ≡ planLeft board zs address plan) where
+    came : Outcome board zs (length plan) v
+    came = subst (Outcome board zs (length plan)) (sym answer) (outcome board zs address (length plan))
 
     module _ (l t b : ℕ) (e : v ≡ done l t b) where
-      answered : Answered image zs v l t b
-      answered = planned image zs address (length plan) v judged l t b e
+      answered : Answered board zs v l t b
+      answered = is-planned board zs (length plan) v came l t b e
 
       -- the bytes answered are the packed plan
-      left : take l after ≡ packed (listOf image zs)
+      left : take l after ≡ packed (listOf board zs)
       left =
-          let list = listOf image zs in
+          let list = listOf board zs in
           ap (λ (k : ℕ). take k after) (answered .size)
-          ∙ ap (take (length (packed list))) (memory ∙ accept image zs address plan (sym answer ∙ answered .verdict))
+          ∙ ap (take (length (packed list))) (memory ∙ accept board zs address plan (sym answer ∙ answered .verdict))
           ∙ take-append-seam (packed list) (drop (length (packed list)) plan)
 
       -- the numbers are those of the list that the bytes unpack to
       pub counted : Counted (take l after) l t b
       unfolding listOf
-      counted = rw (left, answered .size, answered .transactions, answered .cost) (plan-counted image (wantedBy image zs) (change (answered .long)))
+      counted = rw (left, answered .size, answered .transactions, answered .cost) (plan-counted (aimOf board zs) (change (answered .passed)))
 
       -- demand 2: the wanted image, bit by bit
-      pub wanted : Demanded image zs (wantedBy image zs)
-      wanted = demanded image zs (answered .long)
+      pub wanted : Demanded (board .registers) zs (wantedBy (board .registers) zs)
+      wanted = demanded (board .registers) zs (answered .passed .long)
 
       -- and that the plan leads to it
-      pub played : Played image (wantedBy image zs) (take l after)
+      pub played : Played (aimOf board zs) (take l after)
       unfolding listOf
-      played = rw left (plan-played image (wantedBy image zs) (change (answered .long)))
+      played = rw left (plan-played (aimOf board zs) (change (answered .passed)))
 
       -- demand 3
-      pub least : Least image (wantedBy image zs) t b
+      pub least : Least (aimOf board zs) t b
       unfolding listOf
-      least = rw (answered .transactions, answered .cost) (plan-least image (wantedBy image zs) (change (answered .long)))
+      least = rw (answered .transactions, answered .cost) (plan-least (aimOf board zs) (change (answered .passed)))
 
-      pub only : Only image (wantedBy image zs) (listOf image zs)
+      pub only : Only (aimOf board zs) (listOf board zs)
       unfolding listOf
-      only = plan-only image (wantedBy image zs) (change (answered .long))
+      only = plan-only (aimOf board zs) (change (answered .passed))
 
     -- a lent plan that is too short is shorter than any plan needs
     pub room : (f : ℕ) → v ≡ refusedAt 10 f → length plan < mostBytes
     unfolding listOf
     room f e =
-        let q = too-short image zs address (length plan) v judged f e in
-        omega (arith, q .1, plan-room image (wantedBy image zs) (change (q .0)))
+        let q = is-short board zs (length plan) v came f e in
+        omega (arith, q .1, plan-room (aimOf board zs) (change (q .0)) (told (q .0)))
+
+    -- each row is given exactly when
+    judged : Exactly (rowPlanned board zs address (length plan)) planOrder (countsOf (listOf board zs)) v
+    unfolding planningOf
+    judged = exactly (rowPlanned board zs address (length plan)) planOrder (countsOf (listOf board zs)) answer
 
     -- all that planning promises
-    pub clauses : Clauses image zs address plan after v
+    pub clauses : Clauses board zs address plan after v
     clauses = (answer, (memory, (counted, (wanted, (played, (least, (only, (room, judged))))))))

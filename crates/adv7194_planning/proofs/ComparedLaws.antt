@@ -13,6 +13,7 @@ use borrow.Author.Tests.{leb-true, leb-false, ltb-true, ltb-false}
 use Rattle.rounding.proofs.Range.{below, below-at, imp, imp→, T→true}
 use Rattle.bits.specs.Maps.{has}
 use Rattle.bits.proofs.SetLaws.{has-or}
+use Rattle.bus.specs.Registers.{differs}
 use Rattle.planning.specs.Registers.{differsIn}
 use Rattle.planning.proofs.ShiftLaws.{has-past, has-shl, has-below}
 use Rattle.planning.proofs.RoundLaws.{span-size}
@@ -20,9 +21,8 @@ use Rattle.adv7194_bus.specs.Kind.{registerCount}
 use Rattle.adv7194_table.specs.Fields.{timing, output, picture, dnr}
 use Rattle.adv7194_table.specs.Table.{singles, table}
 use Rattle.adv7194_table.specs.Masks.{maskWhere, fieldMask, zeroMask, fieldMasks}
-use Rattle.adv7194_least.specs.Change.{settable, Change}
-use Rattle.adv7194_least.specs.Plan.{differs}
-use Rattle.adv7194_least.proofs.Differing.{differs-settable}
+use Rattle.adv7194_least.specs.Change.{settable}
+use Rattle.adv7194_planning.specs.Aims.{Comparable}
 
 -- ---- one part
 
@@ -34,19 +34,9 @@ part start end l = take (end - start) (drop start l)
 abbrev inPart : ℕ → ℕ → ℕ → Bool
 inPart start end r = leb start r && ltb r end
 
-module _ (masks : List ℕ) {image wanted : List ℕ} (full : length masks ≡ registerCount) (χ : Change image wanted)
-    (start end : ℕ) (ordered : start ≤ end) (ends : end ≤ registerCount) where
+module _ (masks : List ℕ) {image wanted : List ℕ} (χ : Comparable image wanted) (start end : ℕ) (ordered : start ≤ end) (ends : end ≤ registerCount) where
   sized : (l : List ℕ) → length l ≡ registerCount → length (part start end l) ≡ end - start
   sized l e = span-size l start end ordered (omega arith)
-
-  -- the same parts of the table and of two images have one length, of at most 64
-  pub comparable : (length (part start end masks) ≡ length (part start end wanted)) × (length (part start end image) ≡ length (part start end wanted))
-      × (length (part start end wanted) ≤ 64)
-  comparable =
-      let a = sized masks full in
-      let b = sized image (χ .found .size) in
-      let d = sized wanted (χ .wants .size) in
-      (a ∙ sym d, b ∙ sym d, omega arith)
 
   -- m is the map of the registers of a part that have a bit and where two images differ, the part's first register the lowest
   module _ (m : ℕ) (compared : (j : ℕ) → has m j ≡ differsIn (part start end masks) (part start end image) (part start end wanted) j) where
@@ -59,7 +49,7 @@ module _ (masks : List ℕ) {image wanted : List ℕ} (full : length masks ≡ r
     past : (j : ℕ) → end - start ≤ j → has m j ≡ false
     past j h =
         let none : (l : List ℕ) → length l ≡ end - start → getD l j 0 ≡ 0 = λ l e. List·getD-eq-default l 0 (omega arith) in
-        compared j ∙ rw (none (part start end image) (sized image (χ .found .size)), none (part start end wanted) (sized wanted (χ .wants .size)))
+        compared j ∙ rw (none (part start end image) (sized image (χ .found)), none (part start end wanted) (sized wanted (χ .wants)))
         (and-false (not (eqb (getD (part start end masks) j 0) 0)))
 
     -- the map, moved up to its place
@@ -106,11 +96,6 @@ settable-compared : T (below comparedTest registerCount)
 unfolding settable fieldMasks fieldMask zeroMask maskWhere table singles timing output picture dnr
 settable-compared = tt
 
--- the table has an entry a register
-pub table-size : length fieldMasks ≡ registerCount
-unfolding fieldMasks
-table-size = refl
-
 -- what is true only where a bit is and in a half is true in one of them
 some-half : (a b m d : Bool) → (d ≡ true → ((a || b) && m) ≡ true) → ((a && (m && d)) || (b && (m && d))) ≡ d
 some-half true b true d f = by b d
@@ -129,11 +114,11 @@ some-half false true m d f = by m d f
 some-half false false m true f = f refl
 some-half false false m false f = refl
 
-module _ (image wanted : List ℕ) (χ : Change image wanted) where
+module _ (image wanted : List ℕ) (χ : Comparable image wanted) where
   -- so is every register that differs
   differs-compared : (i : ℕ) → differs image wanted i ≡ true → (inHalf i && hasField i) ≡ true
   differs-compared i d =
-      let q = differs-settable image wanted χ i d in
+      let q = χ .settable-only i d in
       T→true (inHalf i && hasField i)
       (imp→ (settable i) (inHalf i && hasField i) (below-at comparedTest registerCount settable-compared i (q .0)) (q .1))
 
@@ -146,6 +131,6 @@ module _ (image wanted : List ℕ) (χ : Change image wanted) where
       let e : low ≡ (low * 2 ^ 0) % 2 ^ 64 = omega arith in
       has-or low ((high * 2 ^ 0x1b) % 2 ^ 64) i
       ∙ ap₂ (λ (x y : Bool). x || y)
-      (ap (λ (x : ℕ). has x i) e ∙ moved fieldMasks table-size χ 0 0x1b (omega arith) (omega arith) low l i)
-      (moved fieldMasks table-size χ 0x1b registerCount (omega arith) (omega arith) high h i)
+      (ap (λ (x : ℕ). has x i) e ∙ moved fieldMasks χ 0 0x1b (omega arith) (omega arith) low l i)
+      (moved fieldMasks χ 0x1b registerCount (omega arith) (omega arith) high h i)
       ∙ some-half (inPart 0 0x1b i) (inPart 0x1b registerCount i) (hasField i) (differs image wanted i) (differs-compared i)

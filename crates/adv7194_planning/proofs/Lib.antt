@@ -1,6 +1,8 @@
-pub mod CaseLaws
-pub mod ExactLaws
 pub mod RegisterMaps
-pub mod Clauses
-pub mod MapPlan
+pub mod FixedMaps
 pub mod ComparedLaws
+pub mod MapPlan
+pub mod CaseLaws
+pub mod Outcomes
+pub mod KnownLaws
+pub mod Clauses

@@ -1,19 +1,20 @@
--- A map against a test on registers, and the needed registers as a map. Assumes nothing.
-use mathlib.Core.Path.{_≡_, refl, sym, ap, _∙_}
+-- A map against a test on registers, and the maps of the registers that must and may be written and that are needed. Assumes nothing.
+use mathlib.Core.Path.{_≡_, refl, sym, ap, ap₂, _∙_}
 use mathlib.Core.Logic.{inr}
-use mathlib.Core.Bool.{Bool, true, false, cond, not, _&&_, _||_, or-true, or-false}
+use mathlib.Core.Bool.{Bool, true, false, cond, not, _&&_, _||_, and-true, and-false, or-true, or-false}
 use Prim.Native.Nat.{ℕ, _^_, _≤_, _<_}
 use native.Mathlib.Omega.{arith}
 use lib.Bits.{bitAnd, bitOr, and-le-l}
 use lib.Count.{trailingZeros}
 use lib.Dec.{T, ltb, lit<}
-use borrow.Author.Tests.{ltb-true, ltb-false}
+use borrow.Author.Tests.{ltb-true, ltb-false, le-ltb}
 use Rattle.rounding.proofs.Range.{below, below-at}
-use Rattle.bits.specs.Maps.{has}
+use Rattle.bits.specs.Maps.{has, complement}
 use Rattle.bits.proofs.MapLaws.{least}
 use Rattle.bits.proofs.SetLaws.{has-and, has-or}
-use Rattle.planning.proofs.ShiftLaws.{has-past}
-use Rattle.adv7194_least.specs.Plan.{inWord, wordIn, withWord}
+use Rattle.planning.proofs.ShiftLaws.{has-past, has-not}
+use Rattle.adv7194_bus.specs.Kind.{registerCount}
+use Rattle.adv7194_least.specs.Plan.{writable, inWord, wordIn, withWord}
 use Rattle.adv7194_least.proofs.Registers.{both-true, among-true, among-out}
 use Rattle.adv7194_least.proofs.TaskLaws.{need-word, must-needed}
 
@@ -45,6 +46,48 @@ wordMap = 0xF000
 
 word-is : (i : ℕ) → has wordMap i ≡ inWord i
 word-is = map-is wordMap inWord (lit< tt) tt (λ i h. among-out 0x0c 0x0f i (inr (omega arith)))
+
+-- the registers that a byte may be written to
+writable-is : (i : ℕ) → has 0x2F_FFFF_FFE1_FFFF i ≡ writable i
+writable-is = map-is 0x2F_FFFF_FFE1_FFFF writable (lit< tt) tt (λ i h. rw (le-ltb i registerCount (omega arith)))
+
+-- ---- by which registers are known
+
+-- in a map and not in another
+has-without : (m k i : ℕ) → m < 2 ^ 64 → k < 2 ^ 64 → has (bitAnd m (complement k)) i ≡ (not (has k i) && has m i)
+has-without m k i hm hk = has-and m (complement k) i ∙ split (ltb i 64) refl
+  where
+    turned : (x y : Bool) → (x && not y) ≡ (not y && x)
+    turned true y = sym (and-true (not y))
+    turned false y = sym (and-false (not y))
+
+    split : (b : Bool) → ltb i 64 ≡ b → (has m i && has (complement k) i) ≡ (not (has k i) && has m i)
+    split true e = ap (λ (b : Bool). has m i && b) (has-not 64 k i hk (ltb-true i 64 e)) ∙ turned (has m i) (has k i)
+    split false e = rw (has-past 64 m i hm (ltb-false i 64 e)) (sym (and-false (not (has k i))))
+
+-- not known and fixed only in part
+pub unfixed-has : (partly known : ℕ) → partly < 2 ^ 64 → known < 2 ^ 64
+    → (i : ℕ) → has (bitAnd partly (complement known)) i ≡ (not (has known i) && has partly i)
+unfixed-has partly known hp hk i = has-without partly known i hp hk
+
+-- known ones that changed, and others that are fixed
+pub must-has : (changed known fixed : ℕ) → known < 2 ^ 64 → fixed < 2 ^ 64
+    → (i : ℕ) → has (bitOr (bitAnd changed known) (bitAnd fixed (complement known))) i ≡ cond (has known i) (has changed i) (has fixed i)
+must-has changed known fixed hk hf i =
+    has-or (bitAnd changed known) (bitAnd fixed (complement known)) i
+    ∙ ap₂ (λ (x y : Bool). x || y) (has-and changed known i) (has-without fixed known i hf hk)
+    ∙ by (has known i) (has changed i) (has fixed i)
+  where
+    by : (k c f : Bool) → ((c && k) || (not k && f)) ≡ cond k c f
+    by true true f = refl
+    by true false f = refl
+    by false true f = refl
+    by false false f = refl
+
+-- those that may be written and are known or fixed
+pub allowed-has : (known fixed i : ℕ) → has (bitAnd 0x2F_FFFF_FFE1_FFFF (bitOr known fixed)) i ≡ (writable i && (has known i || has fixed i))
+allowed-has known fixed i =
+    has-and 0x2F_FFFF_FFE1_FFFF (bitOr known fixed) i ∙ ap₂ (λ (x y : Bool). x && y) (writable-is i) (has-or known fixed i)
 
 -- ---- the needed registers
 

@@ -1,3 +1,3 @@
+pub mod Aims
 pub mod Rows
 pub mod Planning
-pub mod Judges

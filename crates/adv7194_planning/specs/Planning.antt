@@ -7,12 +7,13 @@ use lib.ListN.{length}
 use Rattle.refusals.specs.Verdict.{Verdict}
 use Rattle.refusals.specs.Order.{firstOf}
 use Rattle.planning.specs.Plan.{Counts, countsOf, leftBy}
+use Rattle.adv7194_bus.specs.declared.board.Board.{Board}
 use Rattle.adv7194_planning.specs.Rows.{listOf, rowPlanned, planOrder}
 
 -- planning: row n at field f where it is the first of the checking order that holds; else the numbers of the packed list
-unfoldable pub planningOf : List ℕ → List ℤ → ℕ → ℕ → Verdict Counts
-planningOf image zs address room = firstOf (rowPlanned image zs address room) planOrder (countsOf (listOf image zs))
+unfoldable pub planningOf : Board → List ℤ → ℕ → ℕ → Verdict Counts
+planningOf b zs address room = firstOf (rowPlanned b zs address room) planOrder (countsOf (listOf b zs))
 
 -- the lent plan that planning leaves
-abbrev pub planLeft : List ℕ → List ℤ → ℕ → List ℕ → List ℕ
-planLeft image zs address plan = leftBy (listOf image zs) plan (planningOf image zs address (length plan))
+abbrev pub planLeft : Board → List ℤ → ℕ → List ℕ → List ℕ
+planLeft b zs address plan = leftBy (listOf b zs) plan (planningOf b zs address (length plan))

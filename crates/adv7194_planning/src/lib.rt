@@ -1,24 +1,34 @@
-// Planning: the fewest register writes that turn an image into what settings mean, packed into a lent plan.
+// Planning: the fewest register writes that turn a board into what settings mean, packed into a lent plan.
 ghost use mathlib.Core.Path.{_≡_};
 ghost use Prim.Native.Nat.{ℕ, _<_};
 ghost use lib.ListN.{length, take};
 ghost use Rattle.refusals.specs.Verdict.{refusedAt};
-ghost use Rattle.planning.specs.Plan.{packingOf, planAfter, done, answerOf};
+ghost use Rattle.refusals.specs.Order.{firstOf, Exactly};
+ghost use Rattle.planning.specs.Plan.{countsOf, packingOf, leftBy, planAfter, done, answerOf};
+ghost use Rattle.adv7194_bus.specs.Board.{boardOf};
 ghost use Rattle.adv7194_settings.specs.Wanted.{wantedBy};
 ghost use Rattle.adv7194_settings.specs.Demand.{Demanded};
+ghost use Rattle.adv7194_least.specs.Aim.{aimOf};
 ghost use Rattle.adv7194_least.specs.Change.{Change};
 ghost use Rattle.adv7194_least.specs.Plan.{planOf};
-ghost use Rattle.adv7194_least.specs.Demands.{Played, Counted, Least, Only, mostBytes};
-ghost use Rattle.adv7194_planning.specs.Rows.{listOf};
-ghost use Rattle.adv7194_planning.specs.Judges.{Judges};
+ghost use Rattle.adv7194_least.specs.Played.{Played};
+ghost use Rattle.adv7194_least.specs.Demands.{Counted, Least, Only, mostBytes};
+ghost use Rattle.adv7194_planning.specs.Aims.{aimBy, Ready};
+ghost use Rattle.adv7194_planning.specs.Rows.{listOf, rowPlanned, lastChecks, planOrder};
 ghost use Rattle.adv7194_planning.specs.Planning.{planningOf, planLeft};
+use crate::registers::allowed_registers;
 use crate::registers::changed_registers;
+use crate::registers::fixed_registers;
+use crate::registers::must_registers;
 use crate::registers::needed_registers;
-use crate::registers::writable_registers;
+use crate::registers::partly_fixed_registers;
+use crate::registers::unfixed_registers;
 use adv7194_bus::REGISTERS;
 use adv7194_bus::address_right;
-use adv7194_bus::image::copied;
+use adv7194_bus::board::Board;
+use adv7194_bus::board::board_of;
 use adv7194_settings::NUMBERS;
+use adv7194_table::lowest_field;
 use adv7194_wanted::want;
 use field_table::Checked;
 use planning::plan::NO_FIELD;
@@ -28,28 +38,49 @@ use refusals::Refusal;
 
 mod registers;
 
-// Plans the change from an image to a wanted one, into the lent plan.
-fn plan_change(image: &[u8], wanted: &[u8], plan: &mut [u8]) -> Planned
-    requires { ⌜ Change (now image) (now wanted) ⌝ }
-    ensures answer { λ r. ⌜ answerOf r ≡ packingOf (planOf (now (image .entry)) (now (wanted .entry))) (length (now (plan .entry))) ⌝ }
-    ensures memory { λ r. ⌜ now (plan .exit) ≡ planAfter (planOf (now (image .entry)) (now (wanted .entry))) (now (plan .entry)) ⌝ }
+// Plans the change from a board to a wanted image, of which every bit of the registers of a map is fixed, into the lent plan.
+fn plan_change(board: Board, fixed: u64, wanted: &[u8], plan: &mut [u8]) -> Planned
+    requires { ⌜ Change (aimBy board (now wanted) fixed) ⌝ }
+    ensures answer { λ r. ⌜ answerOf r ≡ packingOf (planOf (aimBy board (now (wanted .entry)) fixed)) (length (now (plan .entry))) ⌝ }
+    ensures memory { λ r. ⌜ now (plan .exit) ≡ planAfter (planOf (aimBy board (now (wanted .entry)) fixed)) (now (plan .entry)) ⌝ }
 {
-    let needed = needed_registers(changed_registers(image, wanted));
-    let writable = writable_registers();
-    pack(plan, needed, writable, wanted)
+    let registers = board.registers;
+    let known = board.known;
+    let must = must_registers(changed_registers(&registers, wanted), known, fixed);
+    let needed = needed_registers(must);
+    let allowed = allowed_registers(known, fixed);
+    pack(plan, needed, allowed, wanted)
 }
 
-// Plans the settings over an image, for the chip at a bus address, into the lent plan.
-pub fn plan(image: &[u8], numbers: &[i32], address: u32, plan: &mut [u8]) -> Planned
-    ensures answer { λ r. ⌜ answerOf r ≡ planningOf (now (image .entry)) (now (numbers .entry)) address (length (now (plan .entry))) ⌝ }
-    ensures memory { λ r. ⌜ now (plan .exit) ≡ planLeft (now (image .entry)) (now (numbers .entry)) address (now (plan .entry)) ⌝ }
+// Plans settings that pass the check over a board, with the image that they want, into the lent plan.
+fn plan_board(board: Board, numbers: &[i32], wanted: &[u8], plan: &mut [u8]) -> Planned
+    requires { ⌜ Ready board (now numbers) (now wanted) ⌝ }
+    ensures answer { λ r. ⌜ ((address : ℕ) → answerOf r ≡ firstOf (rowPlanned board (now (numbers .entry)) address (length (now (plan .entry)))) lastChecks (countsOf (listOf board (now (numbers .entry))))) ⌝ }
+    ensures memory { λ r. ⌜ now (plan .exit) ≡ leftBy (listOf board (now (numbers .entry))) (now (plan .entry)) (answerOf r) ⌝ }
+{
+    let unfixed = unfixed_registers(partly_fixed_registers(numbers), board.known);
+    let field = lowest_field(unfixed);
+    if field != NO_FIELD {
+        return Planned::Refused {
+            refusal: Refusal::RegisterUnknown,
+            field,
+        };
+    }
+    plan_change(board, fixed_registers(numbers), wanted, plan)
+}
+
+// Plans the settings over an image of which the registers in a map are known, for the chip at a bus address, into the lent plan.
+pub fn plan(image: &[u8], known: u64, numbers: &[i32], address: u32, plan: &mut [u8]) -> Planned
+    ensures answer { λ r. ⌜ answerOf r ≡ planningOf (boardOf (now (image .entry)) known) (now (numbers .entry)) address (length (now (plan .entry))) ⌝ }
+    ensures memory { λ r. ⌜ now (plan .exit) ≡ planLeft (boardOf (now (image .entry)) known) (now (numbers .entry)) address (now (plan .entry)) ⌝ }
     ensures counted { λ r. ⌜ ((l t b : ℕ) → answerOf r ≡ done l t b → Counted (take l (now (plan .exit))) l t b) ⌝ }
     ensures demanded { λ r. ⌜ ((l t b : ℕ) → answerOf r ≡ done l t b → Demanded (now (image .entry)) (now (numbers .entry)) (wantedBy (now (image .entry)) (now (numbers .entry)))) ⌝ }
-    ensures played { λ r. ⌜ ((l t b : ℕ) → answerOf r ≡ done l t b → Played (now (image .entry)) (wantedBy (now (image .entry)) (now (numbers .entry))) (take l (now (plan .exit)))) ⌝ }
-    ensures least { λ r. ⌜ ((l t b : ℕ) → answerOf r ≡ done l t b → Least (now (image .entry)) (wantedBy (now (image .entry)) (now (numbers .entry))) t b) ⌝ }
-    ensures only { λ r. ⌜ ((l t b : ℕ) → answerOf r ≡ done l t b → Only (now (image .entry)) (wantedBy (now (image .entry)) (now (numbers .entry))) (listOf (now (image .entry)) (now (numbers .entry)))) ⌝ }
+    ensures played { λ r. ⌜ ((l t b : ℕ) → answerOf r ≡ done l t b → Played (aimOf (boardOf (now (image .entry)) known) (now (numbers .entry))) (take l (now (plan .exit)))) ⌝ }
+    ensures least { λ r. ⌜ ((l t b : ℕ) → answerOf r ≡ done l t b → Least (aimOf (boardOf (now (image .entry)) known) (now (numbers .entry))) t b) ⌝ }
+    ensures only { λ r. ⌜ ((l t b : ℕ) → answerOf r ≡ done l t b → Only (aimOf (boardOf (now (image .entry)) known) (now (numbers .entry))) (listOf (boardOf (now (image .entry)) known) (now (numbers .entry)))) ⌝ }
     ensures room { λ r. ⌜ ((f : ℕ) → answerOf r ≡ refusedAt 10 f → length (now (plan .entry)) < mostBytes) ⌝ }
-    ensures judged { λ r. ⌜ Judges (now (image .entry)) (now (numbers .entry)) address (length (now (plan .entry))) (answerOf r) ⌝ }
+    ensures judged { λ r. ⌜ Exactly (rowPlanned (boardOf (now (image .entry)) known) (now (numbers .entry)) address (length (now (plan .entry)))) planOrder
+        (countsOf (listOf (boardOf (now (image .entry)) known) (now (numbers .entry)))) (answerOf r) ⌝ }
 {
     if image.len() != REGISTERS as usize {
         return Planned::Refused {
@@ -69,9 +100,10 @@ pub fn plan(image: &[u8], numbers: &[i32], address: u32, plan: &mut [u8]) -> Pla
             field: NO_FIELD,
         };
     }
-    let mut wanted = copied(image);
+    let board = board_of(image, known);
+    let mut wanted = board.registers;
     match want(numbers, &mut wanted) {
         Checked::Refused { refusal, field } => Planned::Refused { refusal, field },
-        Checked::Good => plan_change(image, &wanted, plan),
+        Checked::Good => plan_board(board, numbers, &wanted, plan),
     }
 }

@@ -1,17 +1,43 @@
 // The registers that a plan has to write, and those that it may.
 ghost use mathlib.Core.Path.{_≡_};
+ghost use mathlib.Core.Bool.{cond, not, _&&_, _||_};
 ghost use Prim.Native.Nat.{ℕ};
+ghost use lib.ListN.{length};
 ghost use Rattle.bits.specs.Maps.{has};
-ghost use Rattle.adv7194_least.specs.Change.{Change};
-ghost use Rattle.adv7194_least.specs.Plan.{writable, differs, withWord};
+ghost use Rattle.bus.specs.Registers.{differs};
+ghost use Rattle.field_table.specs.Blocks.{is};
+ghost use Rattle.adv7194_table.specs.Fields.{numberCount};
+ghost use Rattle.adv7194_table.specs.Blocks.{signalling};
+ghost use Rattle.adv7194_signalling.specs.Signalling.{numberOf};
+ghost use Rattle.adv7194_settings.specs.Codes.{numbersIn};
+ghost use Rattle.adv7194_settings.specs.Known.{fixesAll, fixesSome};
+ghost use Rattle.adv7194_least.specs.Plan.{writable, withWord};
+ghost use Rattle.adv7194_planning.specs.Aims.{Comparable, Passing};
 use adv7194_bus::BARRED;
 use adv7194_bus::REGISTERS;
 use adv7194_bus::WORD;
+use adv7194_table::blocks::SIGNALLING;
+use adv7194_table::blocks::block_of;
 use adv7194_table::field_masks;
 use planning::maps::differing;
 
 // The map of the registers that a byte may be written to: all but the barred ones.
 const WRITABLE: u64 = ((1 << REGISTERS) - 1) & !BARRED;
+
+// The registers of which any settings and the must-be-zero bits fix every bit: 05, 0C to 10, 1D to 33.
+const FIXED: u64 = 0xF_FFFF_E001_F020;
+
+// Those of which settings that send signalling do as well: 19 to 1B.
+const SIGNALS: u64 = 0xE00_0000;
+
+// The registers of which any settings fix only some bits: 00 to 02.
+const PARTLY: u64 = 0x7;
+
+// The one of which settings without signalling do as well: 19.
+const KIND: u64 = 0x200_0000;
+
+// The kind of signalling that is none.
+const OFF: i32 = 0;
 
 // The registers are compared in two halves, each short enough for the compiler to write out: it then leaves out those without a bit.
 const HALF: usize = 0x1B;
@@ -20,7 +46,7 @@ const END: usize = REGISTERS as usize;
 
 // The registers where a wanted image differs from the starting one. The table of field masks decides which are compared: no others are set.
 pub fn changed_registers(image: &[u8], wanted: &[u8]) -> u64
-    requires { ⌜ Change (now image) (now wanted) ⌝ }
+    requires { ⌜ Comparable (now image) (now wanted) ⌝ }
     ensures answer { λ r. ⌜ ((i : ℕ) → has r i ≡ differs (now (image .entry)) (now (wanted .entry)) i) ⌝ }
 {
     let masks = field_masks();
@@ -29,19 +55,64 @@ pub fn changed_registers(image: &[u8], wanted: &[u8]) -> u64
     low | (high << HALF)
 }
 
-// The registers that a plan may write.
-pub fn writable_registers() -> u64
-    ensures answer { λ r. ⌜ ((i : ℕ) → has r i ≡ writable i) ⌝ }
+// Whether settings send signalling: its kind, the first of its numbers, isn't off.
+fn sends(numbers: &[i32]) -> bool
+    requires { ⌜ length (now numbers) ≡ numberCount ⌝ }
+    ensures answer { λ r. ⌜ r ≡ not (is 0 (numberOf (numbersIn (now (numbers .entry)) signalling) 0)) ⌝ }
 {
-    WRITABLE
+    let kind = block_of(SIGNALLING).index;
+    numbers[kind] != OFF
 }
 
-// The registers needed where some differ: those, and the whole word where one of its registers is among them.
-pub fn needed_registers(differing: u64) -> u64
-    ensures answer { λ r. ⌜ ((i : ℕ) → has r i ≡ withWord (has differing) i) ⌝ }
+// The registers of which settings that pass the check and the must-be-zero bits fix every bit.
+pub fn fixed_registers(numbers: &[i32]) -> u64
+    requires { ⌜ Passing (now numbers) ⌝ }
+    ensures answer { λ r. ⌜ ((i : ℕ) → has r i ≡ fixesAll (now (numbers .entry)) i) ⌝ }
 {
-    if differing & WORD == 0 {
-        return differing;
+    if sends(numbers) {
+        return FIXED | SIGNALS;
     }
-    differing | WORD
+    FIXED
+}
+
+// Those of which they fix only some bits.
+pub fn partly_fixed_registers(numbers: &[i32]) -> u64
+    requires { ⌜ Passing (now numbers) ⌝ }
+    ensures answer { λ r. ⌜ ((i : ℕ) → has r i ≡ fixesSome (now (numbers .entry)) i) ⌝ }
+{
+    if sends(numbers) {
+        return PARTLY;
+    }
+    PARTLY | KIND
+}
+
+// The registers that must be written: known ones that differ, and others that are fixed in whole.
+pub fn must_registers(changed: u64, known: u64, fixed: u64) -> u64
+    ensures answer { λ r. ⌜ ((i : ℕ) → has r i ≡ cond (has known i) (has changed i) (has fixed i)) ⌝ }
+{
+    (changed & known) | (fixed & !known)
+}
+
+// The registers that a plan may write: no barred one, and none that is neither known nor fixed in whole.
+pub fn allowed_registers(known: u64, fixed: u64) -> u64
+    ensures answer { λ r. ⌜ ((i : ℕ) → has r i ≡ (writable i && (has known i || has fixed i))) ⌝ }
+{
+    WRITABLE & (known | fixed)
+}
+
+// The registers needed where some must be written: those, and the whole word where one of its registers is among them.
+pub fn needed_registers(must: u64) -> u64
+    ensures answer { λ r. ⌜ ((i : ℕ) → has r i ≡ withWord (has must) i) ⌝ }
+{
+    if must & WORD == 0 {
+        return must;
+    }
+    must | WORD
+}
+
+// The registers that are not known and of which settings fix only some bits.
+pub fn unfixed_registers(partly: u64, known: u64) -> u64
+    ensures answer { λ r. ⌜ ((i : ℕ) → has r i ≡ (not (has known i) && has partly i)) ⌝ }
+{
+    partly & !known
 }

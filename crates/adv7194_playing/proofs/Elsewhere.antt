@@ -1,5 +1,5 @@
--- At a wrong address nothing is stored and a plan isn't acknowledged; the empty plan, which sends no byte, is. Assumes nothing.
-use mathlib.Core.Path.{_≡_, refl, sym, ap, _∙_}
+-- At a wrong address nothing is stored, none becomes known and a plan isn't acknowledged; the empty plan, which sends no byte, is. Assumes nothing.
+use mathlib.Core.Path.{_≡_, refl, sym, ap, ap₂, _∙_}
 use mathlib.Core.Logic.{_≢_}
 use mathlib.Core.Bool.{true}
 use mathlib.Core.List.{List, [], _∷_}
@@ -14,11 +14,13 @@ use Rattle.bus.specs.Chip.{Kind, Chip, fresh}
 use Rattle.bus.specs.Run.{allAcknowledged, listEvents}
 use Rattle.bus.proofs.Play.{list-elsewhere}
 use Rattle.bus.proofs.Acknowledged.{unacknowledged-elsewhere}
+use Rattle.bus.proofs.KnownLaws.{known-elsewhere}
 use Rattle.unpacking.specs.Unpacking.{counted}
 use Rattle.adv7194_bus.specs.Kind.{adv7194}
+use Rattle.adv7194_bus.specs.Board.{boardOf}
 use Rattle.adv7194_bus.specs.Address.{addressRight}
 use Rattle.adv7194_bus.proofs.AddressLaws.{right-address}
-use Rattle.adv7194_playing.specs.Playing.{acknowledgedBy, registersAfter}
+use Rattle.adv7194_playing.specs.Playing.{acknowledgedBy, boardAfter}
 
 -- no byte, none unacknowledged
 nothing-sent : (κ : Kind) (c : Chip) (used : ℕ) → allAcknowledged κ c (listEvents used []) ≡ true
@@ -30,10 +32,11 @@ module _ (image : List ℕ) (used own : ℕ) (wrong : used ≢ own) (e : address
   not-read : used ≢ own + 1
   not-read p = omega (arith, right-address used e .1, right-address own f .1)
 
-  -- nothing is stored, whatever the judgement
-  pub nothing-stored : (j : Judged (List Transaction)) → registersAfter image used own j ≡ image
-  nothing-stored (accepted ts) = list-elsewhere (adv7194 own) used wrong not-read ts (fresh image)
-  nothing-stored (refused n) = refl
+  -- nothing is stored and none becomes known, whatever the judgement
+  pub nothing-stored : (known : ℕ) (j : Judged (List Transaction)) → boardAfter (boardOf image known) used own j ≡ boardOf image known
+  nothing-stored known (accepted ts) =
+      ap₂ boardOf (list-elsewhere (adv7194 own) used wrong not-read ts (fresh image)) (known-elsewhere (adv7194 own) used wrong not-read ts (fresh image) known)
+  nothing-stored known (refused n) = refl
 
   -- only the empty list is acknowledged
   only-empty : (ts : List Transaction) → allAcknowledged (adv7194 own) (fresh image) (listEvents used ts) ≡ eqb (length ts) 0

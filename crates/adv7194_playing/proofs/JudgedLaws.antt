@@ -9,14 +9,15 @@ use Rattle.refusals.specs.Refusal.{Judged, accepted, refused}
 use Rattle.bus.specs.Transactions.{Transaction}
 use Rattle.unpacking.specs.Unpacking.{unpack}
 use Rattle.adv7194_bus.specs.Kind.{registerCount}
+use Rattle.adv7194_bus.specs.Board.{boardOf}
 use Rattle.adv7194_bus.specs.Address.{addressRight}
 use Rattle.adv7194_playing.specs.declared.PlanKind.{PlanKind}
-use Rattle.adv7194_playing.specs.Playing.{takes, judgedAs, judged, acknowledgedBy, registersAfter}
+use Rattle.adv7194_playing.specs.Playing.{takes, judgedAs, judged, acknowledgedBy, boardAfter}
 
--- a refusal, which leaves the image
-pub refuse : (image : List ℕ) (used own : ℕ) (j : Judged (List Transaction)) (n : ℕ) → j ≡ refused n
-    → (refused n ≡ acknowledgedBy image used own j) × (image ≡ registersAfter image used own j)
-refuse image used own j n e = (sym (ap (acknowledgedBy image used own) e), sym (ap (registersAfter image used own) e))
+-- a refusal, which leaves the board
+pub refuse : (image : List ℕ) (known used own : ℕ) (j : Judged (List Transaction)) (n : ℕ) → j ≡ refused n
+    → (refused n ≡ acknowledgedBy image used own j) × (boardOf image known ≡ boardAfter (boardOf image known) used own j)
+refuse image known used own j n e = (sym (ap (acknowledgedBy image used own) e), sym (ap (boardAfter (boardOf image known) used own) e))
 
 -- what a list that was unpacked is judged as, by whether it is taken
 pub by-taken : (kind : PlanKind) {j : Judged (List Transaction)} {ts : List Transaction} {b : Bool} → j ≡ accepted ts → takes kind ts ≡ b

@@ -4,3 +4,4 @@ pub mod Rows
 pub mod Elsewhere
 pub mod WrittenLaws
 pub mod WrittenRun
+pub mod PlayedLaws

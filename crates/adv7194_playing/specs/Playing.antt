@@ -1,5 +1,6 @@
 -- Document 01, "Refusals": playing takes the address used and the chip's own, checks 1, 2 for either, then 9, and answers the image and whether
--- every byte was acknowledged. A refusal writes nothing. Document 02, P4: another play call takes just the plans of captions, by 1, 2, 9.
+-- every byte was acknowledged. A refusal writes nothing. Document 02, P4: another play call takes just the plans of captions, by 1, 2, 9. P5: the image
+-- goes with its known registers, and playing answers which are known after it.
 use mathlib.Core.Path.{_≡_}
 use mathlib.Core.Logic.{_⊎_}
 use mathlib.Core.Bool.{Bool, cond, _&&_}
@@ -11,8 +12,11 @@ use Rattle.refusals.specs.Refusal.{Judged, accepted, refused, numberOf}
 use Rattle.bus.specs.Transactions.{Transaction, Every}
 use Rattle.bus.specs.Chip.{fresh}
 use Rattle.bus.specs.Run.{run, allAcknowledged, listEvents}
+use Rattle.bus.specs.Known.{knownAfter}
 use Rattle.unpacking.specs.Unpacking.{unpack}
 use Rattle.adv7194_bus.specs.Kind.{registerCount, adv7194}
+use Rattle.adv7194_bus.specs.declared.board.Board.{Board}
+use Rattle.adv7194_bus.specs.Board.{boardOf}
 use Rattle.adv7194_bus.specs.Address.{AddressFault, addressRight}
 use Rattle.adv7194_bus.specs.Rules.{Rules, allKeepRules}
 use Rattle.adv7194_captions.specs.Plans.{Captions as CaptionsOf, areCaptions}
@@ -65,15 +69,29 @@ abbrev pub registersAfter : List ℕ → ℕ → ℕ → Judged (List Transactio
 registersAfter image used own (accepted ts) = run (adv7194 own) (fresh image) (listEvents used ts) .registers
 registersAfter image used own (refused n) = image
 
--- what playing answers
-abbrev pub playOf : PlanKind → List ℕ → ℕ → ℕ → List ℕ → Judged Bool
-playOf kind image used own plan = acknowledgedBy image used own (judged kind image used own plan)
+-- its known registers after them: a stored byte makes its register known
+abbrev pub knownLeft : List ℕ → ℕ → ℕ → ℕ → Judged (List Transaction) → ℕ
+knownLeft image known used own (accepted ts) = knownAfter (adv7194 own) (fresh image) known (listEvents used ts)
+knownLeft image known used own (refused n) = known
 
--- the image that playing leaves
-abbrev pub playedImage : PlanKind → List ℕ → ℕ → ℕ → List ℕ → List ℕ
-playedImage kind image used own plan = registersAfter image used own (judged kind image used own plan)
+-- the board after the same events: its registers with those that are known
+abbrev pub boardAfter : Board → ℕ → ℕ → Judged (List Transaction) → Board
+boardAfter b used own j = boardOf (registersAfter (b .registers) used own j) (knownLeft (b .registers) (b .known) used own j)
+
+-- what playing answers
+abbrev pub playOf : PlanKind → Board → ℕ → ℕ → List ℕ → Judged Bool
+playOf kind b used own plan = acknowledgedBy (b .registers) used own (judged kind (b .registers) used own plan)
+
+-- the board that playing leaves
+abbrev pub playedBoard : PlanKind → Board → ℕ → ℕ → List ℕ → Board
+playedBoard kind b used own plan = boardAfter b used own (judged kind (b .registers) used own plan)
 
 -- the answer as document 01 has it
 abbrev pub answerOf : Played → Judged Bool
-answerOf (Done b) = accepted b
+answerOf (Done b known) = accepted b
 answerOf (Refused r) = refused (numberOf r)
+
+-- the known registers after an answer: as they were after a refusal
+abbrev pub knownOf : ℕ → Played → ℕ
+knownOf known (Done b after) = after
+knownOf known (Refused r) = known

@@ -2,20 +2,21 @@
 ghost use mathlib.Core.Path.{_≡_};
 ghost use mathlib.Core.Bool.{true};
 ghost use lib.ListN.{length};
-ghost use Rattle.unpacking.specs.Unpacking.{unpack, counted, answerOf as checkedOf};
+ghost use Rattle.unpacking.specs.Unpacking.{unpack, counted};
 ghost use Rattle.adv7194_bus.specs.Kind.{registerCount};
+ghost use Rattle.adv7194_bus.specs.Board.{boardOf};
 ghost use Rattle.adv7194_bus.specs.Address.{addressRight};
 ghost use Rattle.adv7194_playing.specs.Kinds.{needsTransaction, takesHeader, takesData, pairFrom, PairThere};
-ghost use Rattle.adv7194_playing.specs.Playing.{judgedAs, acknowledgedBy, registersAfter, playOf, playedImage, answerOf};
-ghost use Rattle.adv7194_playing.specs.Written.{Written};
+ghost use Rattle.adv7194_playing.specs.Playing.{judgedAs, acknowledgedBy, boardAfter, playOf, playedBoard, answerOf, knownOf};
+ghost use Rattle.adv7194_playing.specs.Written.{Written, countOf, mapOf};
 use adv7194_bus::REGISTERS;
 use adv7194_bus::address_right;
+use adv7194_bus::board::marked;
 use adv7194_bus::image::copied;
 use adv7194_bus::keeps_rules;
 use adv7194_captions::at_pair;
 use adv7194_captions::is_odd;
 use refusals::Refusal;
-use unpacking::Checked;
 use unpacking::places::copy_data;
 use unpacking::steps::Order;
 use unpacking::steps::Step;
@@ -30,9 +31,15 @@ pub enum PlanKind {
     Captions,
 }
 
-// What playing answers: whether every byte was acknowledged, or a refusal.
+// What playing answers: whether every byte was acknowledged, and the map of the registers known after it; or a refusal, which makes none known.
 pub enum Played {
-    Done(bool),
+    Done { acknowledged: bool, known: u64 },
+    Refused(Refusal),
+}
+
+// What a walk over a plan answers: how many transactions there are, and the map with their registers in it; or a refusal.
+enum Walk {
+    Taken { transactions: u8, known: u64 },
     Refused(Refusal),
 }
 
@@ -71,23 +78,28 @@ fn takes_data(kind: PlanKind, registers: &[u8], subaddress: u8) -> bool
     }
 }
 
-// Writes the data of every transaction of a plan into registers, as long as its bytes keep the packing and this kind takes the transactions, and answers
-// how many there are; the registers are no image of a chip's where the plan is refused.
-fn write_plan(kind: PlanKind, plan: &[u8], registers: &mut [u8]) -> Checked
+// Writes the data of every transaction of a plan into registers and marks these in the map, as long as its bytes keep the packing and this kind takes the
+// transactions, and answers how many there are; the registers are no image of a chip's where the plan is refused.
+fn write_plan(kind: PlanKind, plan: &[u8], registers: &mut [u8], known: u64) -> Walk
     requires { ⌜ length (now registers) ≡ registerCount ⌝ }
-    ensures answer { λ r. ⌜ checkedOf r ≡ counted (judgedAs kind (unpack (now (plan .entry)))) ⌝ }
-    ensures memory { λ r. ⌜ Written (judgedAs kind (unpack (now (plan .entry)))) (now (registers .entry)) (now (registers .exit)) ⌝ }
+    ensures answer { λ r. ⌜ countOf r ≡ counted (judgedAs kind (unpack (now (plan .entry)))) ⌝ }
+    ensures memory { λ r. ⌜
+        Written (judgedAs kind (unpack (now (plan .entry)))) (boardOf (now (registers .entry)) known) (boardOf (now (registers .exit)) (mapOf known r)) ⌝ }
 {
     let mut cursor = begin(plan, Order::Ascending);
     let mut transactions: u8 = 0;
+    let mut map = known;
     loop {
         match next(plan, cursor) {
-            Step::Fault => return Checked::Refused(Refusal::PlanBytes),
+            Step::Fault => return Walk::Refused(Refusal::PlanBytes),
             Step::End => {
                 if (transactions == 0) & needs_transaction(kind) {
-                    return Checked::Refused(Refusal::PlanBytes);
+                    return Walk::Refused(Refusal::PlanBytes);
                 }
-                return Checked::WellFormed(transactions);
+                return Walk::Taken {
+                    transactions,
+                    known: map,
+                };
             }
             Step::Transaction {
                 subaddress,
@@ -96,12 +108,13 @@ fn write_plan(kind: PlanKind, plan: &[u8], registers: &mut [u8]) -> Checked
                 after,
             } => {
                 if !takes_header(kind, subaddress, count) {
-                    return Checked::Refused(Refusal::PlanBytes);
+                    return Walk::Refused(Refusal::PlanBytes);
                 }
                 copy_data(plan, data, registers, subaddress, count);
                 if !takes_data(kind, registers, subaddress) {
-                    return Checked::Refused(Refusal::PlanBytes);
+                    return Walk::Refused(Refusal::PlanBytes);
                 }
+                map = marked(map, subaddress, count);
                 cursor = after;
                 transactions += 1;
             }
@@ -109,30 +122,57 @@ fn write_plan(kind: PlanKind, plan: &[u8], registers: &mut [u8]) -> Checked
     }
 }
 
-// Plays a packed plan once image and addresses are checked: its data are written into a copy of the image, and the image becomes that copy where the
-// plan is accepted and was sent to the chip's own address.
-fn play_checked(kind: PlanKind, image: &mut [u8], used: u32, own: u32, plan: &[u8]) -> Played
+// Plays a packed plan once image and addresses are checked: its data are written into a copy of the image; where the plan is accepted and was sent to
+// the chip's own address, the image becomes that copy, and the registers written are known.
+fn play_checked(
+    kind: PlanKind,
+    image: &mut [u8],
+    known: u64,
+    used: u32,
+    own: u32,
+    plan: &[u8],
+) -> Played
     requires { ⌜ (length (now image) ≡ registerCount) × (addressRight used ≡ true) × (addressRight own ≡ true) ⌝ }
     ensures answer { λ r. ⌜ answerOf r ≡ acknowledgedBy (now (image .entry)) used own (judgedAs kind (unpack (now (plan .entry)))) ⌝ }
-    ensures memory { λ r. ⌜ now (image .exit) ≡ registersAfter (now (image .entry)) used own (judgedAs kind (unpack (now (plan .entry)))) ⌝ }
+    ensures memory { λ r. ⌜
+        boardOf (now (image .exit)) (knownOf known r)
+        ≡ boardAfter (boardOf (now (image .entry)) known) used own (judgedAs kind (unpack (now (plan .entry)))) ⌝ }
 {
     let mut registers = copied(image);
-    match write_plan(kind, plan, &mut registers) {
-        Checked::Refused(refusal) => Played::Refused(refusal),
-        Checked::WellFormed(transactions) => {
+    match write_plan(kind, plan, &mut registers, known) {
+        Walk::Refused(refusal) => Played::Refused(refusal),
+        Walk::Taken {
+            transactions,
+            known: written,
+        } => {
             if used != own {
-                return Played::Done(transactions == 0);
+                return Played::Done {
+                    acknowledged: transactions == 0,
+                    known,
+                };
             }
             bytes::copy(&registers, image);
-            Played::Done(true)
+            Played::Done {
+                acknowledged: true,
+                known: written,
+            }
         }
     }
 }
 
-// Plays a packed plan of this kind, sent at the address used, against a fresh chip of its own address that holds the image.
-pub fn play(kind: PlanKind, image: &mut [u8], used: u32, own: u32, plan: &[u8]) -> Played
-    ensures answer { λ r. ⌜ answerOf r ≡ playOf kind (now (image .entry)) used own (now (plan .entry)) ⌝ }
-    ensures memory { λ r. ⌜ now (image .exit) ≡ playedImage kind (now (image .entry)) used own (now (plan .entry)) ⌝ }
+// Plays a packed plan of this kind, sent at the address used, against a fresh chip of its own address that holds the image, of which the registers in
+// the map are known.
+pub fn play(
+    kind: PlanKind,
+    image: &mut [u8],
+    known: u64,
+    used: u32,
+    own: u32,
+    plan: &[u8],
+) -> Played
+    ensures answer { λ r. ⌜ answerOf r ≡ playOf kind (boardOf (now (image .entry)) known) used own (now (plan .entry)) ⌝ }
+    ensures memory { λ r. ⌜
+        boardOf (now (image .exit)) (knownOf known r) ≡ playedBoard kind (boardOf (now (image .entry)) known) used own (now (plan .entry)) ⌝ }
 {
     if image.len() != REGISTERS as usize {
         return Played::Refused(Refusal::ImageLength);
@@ -143,5 +183,5 @@ pub fn play(kind: PlanKind, image: &mut [u8], used: u32, own: u32, plan: &[u8]) 
     if !address_right(own) {
         return Played::Refused(Refusal::BusAddress);
     }
-    play_checked(kind, image, used, own, plan)
+    play_checked(kind, image, known, used, own, plan)
 }

@@ -1,9 +1,13 @@
 // What reading answers.
 ghost use mathlib.Core.Path.{_≡_};
 ghost use Rattle.field_table.specs.Answers.{checkedAs};
+ghost use Rattle.adv7194_settings.specs.Reading.{withUnknown};
 ghost use Rattle.adv7194_reading.specs.Answers.{readAs};
 use field_table::Checked;
 use refusals::Refusal;
+
+// The field of a refusal where none applies.
+pub(crate) const NO_FIELD: u8 = 0;
 
 // The settings are in the lent numbers, or a refusal with its field.
 pub enum Read {
@@ -18,5 +22,23 @@ pub(crate) fn answer(judged: Checked) -> Read
     match judged {
         Checked::Good => Read::Done,
         Checked::Refused { refusal, field } => Read::Refused { refusal, field },
+    }
+}
+
+// The verdict on an image of which a field is the first with an unknown register, 0 where none is: a fault of an earlier field comes first.
+pub(crate) fn with_unknown(judged: Checked, unknown: u8) -> Checked
+    ensures answer { λ r. ⌜ checkedAs r ≡ withUnknown unknown (checkedAs judged) ⌝ }
+{
+    if unknown == NO_FIELD {
+        return judged;
+    }
+    if let Checked::Refused { refusal, field } = judged {
+        if field < unknown {
+            return Checked::Refused { refusal, field };
+        }
+    }
+    Checked::Refused {
+        refusal: Refusal::RegisterUnknown,
+        field: unknown,
     }
 }

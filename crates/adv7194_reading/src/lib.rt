@@ -1,7 +1,8 @@
-// An image judged and read: the settings that it holds, as 49 numbers.
+// A board judged and read: the settings that it holds, as 49 numbers.
 ghost use mathlib.Core.Path.{_≡_};
 ghost use lib.ListN.{length};
 ghost use Rattle.refusals.specs.Order.{Exactly};
+ghost use Rattle.adv7194_bus.specs.Board.{boardOf};
 ghost use Rattle.adv7194_settings.specs.Reading.{rowRead, readOrder, readOf, readLeft};
 ghost use Rattle.adv7194_reading.specs.Answers.{readAs};
 
@@ -9,8 +10,11 @@ mod answers;
 mod reading;
 
 use adv7194_bus::REGISTERS;
+use adv7194_table::lowest_field;
+use answers::NO_FIELD;
 pub use answers::Read;
 use answers::answer;
+use answers::with_unknown;
 use field_table::Checked;
 use reading::read_first;
 use reading::read_last;
@@ -18,9 +22,6 @@ use refusals::Refusal;
 
 // How many numbers settings are.
 const NUMBERS: usize = 49;
-
-// The field of a refusal where none applies.
-const NO_FIELD: u8 = 0;
 
 // Numbers copied into as many others.
 fn copy(from: &[i32], to: &mut [i32])
@@ -35,11 +36,12 @@ fn copy(from: &[i32], to: &mut [i32])
     }
 }
 
-// The settings of an image, left in the 49 lent numbers; on a refusal these are as they were.
-pub fn read(image: &[u8], numbers: &mut [i32]) -> Read
-    ensures answer { λ r. ⌜ readAs r ≡ readOf (now (image .entry)) (length (now (numbers .entry))) ⌝ }
-    ensures memory { λ r. ⌜ now (numbers .exit) ≡ readLeft (now (image .entry)) (now (numbers .entry)) ⌝ }
-    ensures exactly { λ r. ⌜ Exactly (rowRead (now (image .entry)) (length (now (numbers .entry)))) readOrder tt (readAs r) ⌝ }
+// The settings of a board, left in the 49 lent numbers; on a refusal these are as they were. The board is an image and the map of its known registers; the
+// byte of a register that is not known means nothing.
+pub fn read(image: &[u8], known: u64, numbers: &mut [i32]) -> Read
+    ensures answer { λ r. ⌜ readAs r ≡ readOf (boardOf (now (image .entry)) known) (length (now (numbers .entry))) ⌝ }
+    ensures memory { λ r. ⌜ now (numbers .exit) ≡ readLeft (boardOf (now (image .entry)) known) (now (numbers .entry)) ⌝ }
+    ensures exactly { λ r. ⌜ Exactly (rowRead (boardOf (now (image .entry)) known) (length (now (numbers .entry)))) readOrder tt (readAs r) ⌝ }
 {
     if image.len() != REGISTERS as usize {
         return Read::Refused {
@@ -55,7 +57,8 @@ pub fn read(image: &[u8], numbers: &mut [i32]) -> Read
     }
     let mut held = [0i32; NUMBERS];
     let first = read_first(image, &mut held);
-    let judged = read_last(first, image, &mut held);
+    let last = read_last(first, image, &mut held);
+    let judged = with_unknown(last, lowest_field(!known));
     let Checked::Good = judged else {
         return answer(judged);
     };

@@ -1,12 +1,12 @@
 -- Whole registers of an image: bytes that are there, curves that are coded as their bytes. Assumes nothing.
-use mathlib.Core.Path.{_≡_, refl, sym, ap, ap₂, _∙_}
+use mathlib.Core.Path.{_≡_, refl, sym, ap₂, _∙_}
 use mathlib.Core.List.{List, [], _∷_}
 use Prim.Native.Nat.{ℕ, zero, suc, _<_}
 use native.Mathlib.Omega.{arith}
 use lib.ListN.{length, getD}
 use Rattle.bits.specs.Fields.{field}
 use Rattle.refusals.specs.Refusal.{accepted}
-use Rattle.field_table.specs.Blocks.{is, bytesFrom, byteWrites}
+use Rattle.field_table.specs.Blocks.{bytesFrom, byteWrites}
 use Rattle.field_table.proofs.ApartLaws.{AllThere}
 use Rattle.adv7194_gamma.proofs.SettingLaws.{curve-back}
 use Rattle.adv7194_gamma.specs.Curve.{curveCodes, curveNumbers}

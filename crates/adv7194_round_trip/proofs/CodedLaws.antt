@@ -14,7 +14,7 @@ use Rattle.bits.specs.Fields.{field}
 use Rattle.bits.specs.Bytes.{sameBytes}
 use Rattle.bits.proofs.SameLaws.{same-bytes, same-self}
 use Rattle.refusals.specs.Refusal.{Judged, accepted, refused, codeIn}
-use Rattle.field_table.specs.Coding.{Field, encode, decode}
+use Rattle.field_table.specs.Coding.{Field, encode}
 use Rattle.field_table.specs.Walk.{given, held, settingIn, codingOf, readingOf}
 use Rattle.field_table.specs.Blocks.{numbersFrom, bytesFrom, byteWrites}
 use Rattle.field_table.proofs.ApartLaws.{AllThere}

@@ -2,6 +2,9 @@
 use crate::calls;
 use crate::chip;
 use crate::codings;
+use crate::flags;
+use crate::flags::Flags;
+use crate::flags::Given;
 use crate::print;
 use crate::tokens;
 use crate::tokens::Tokens;
@@ -29,7 +32,7 @@ const CODE: u64 = 0x636F_6465;
 const SETTING: u64 = 0x73_6574_7469_6E67;
 
 // Answers a record of planning or playing, if it is one.
-fn with_plan(tokens: Tokens, word: u64, image: &mut [u8]) -> bool {
+fn with_plan(tokens: Tokens, word: u64, image: &mut [u8], flags: Flags) -> bool {
     let held = tokens.held;
     let numbers = tokens.numbers;
     let mut plan = [0u8; MOST_BYTES];
@@ -38,36 +41,36 @@ fn with_plan(tokens: Tokens, word: u64, image: &mut [u8]) -> bool {
         return false;
     }
     if word == PLAN {
-        return calls::plan(held, numbers, image, &mut plan[0..n]);
+        return calls::plan(held, numbers, image, flags.known, &mut plan[0..n]);
     }
     if numbers != 3 {
         return false;
     }
     if word == PLAYCAP {
-        return calls::play_captions(held[1], held[2], image, &plan[0..n]);
+        return calls::play_captions(held[1], held[2], image, flags, &plan[0..n]);
     }
-    calls::play(held[1], held[2], image, &plan[0..n])
+    calls::play(held[1], held[2], image, flags, &plan[0..n])
 }
 
 // Answers a record with an image, if it is one.
-fn with_image(tokens: Tokens, word: u64, image: &mut [u8]) -> bool {
+fn with_image(tokens: Tokens, word: u64, image: &mut [u8], flags: Flags) -> bool {
     if (word == READ) & (tokens.numbers == 1) & (tokens.middle == tokens.count) {
-        return calls::read(image);
+        return calls::read(image, flags.known);
     }
     if word == READCAP {
         if (tokens.numbers != 2) | (tokens.middle != tokens.count) {
             return false;
         }
         let held = tokens.held;
-        return calls::read_captions(held[1], image);
+        return calls::read_captions(held[1], image, flags.known);
     }
     if word == READ {
         return false;
     }
     if word == EVENTS {
-        return chip::events(tokens, image);
+        return chip::events(tokens, image, flags);
     }
-    with_plan(tokens, word, image)
+    with_plan(tokens, word, image, flags)
 }
 
 // Whether an operation has an image.
@@ -109,12 +112,8 @@ fn coding(word: u64, count: usize, numbers: usize, field: u64, token: u64) -> bo
     false
 }
 
-// Answers a line; whether it is a record.
-fn record(text: &[u8]) -> bool {
-    let tokens = tokens::split(text);
-    if !tokens.good {
-        return false;
-    }
+// Answers a record other than of flags, where these are known; whether it is one.
+fn record(tokens: Tokens, flags: Flags) -> bool {
     let held = tokens.held;
     let word = held[0];
     if word == CAPTION {
@@ -128,7 +127,7 @@ fn record(text: &[u8]) -> bool {
     if MOST_BYTES < n {
         return false;
     }
-    with_image(tokens, word, &mut image[0..n])
+    with_image(tokens, word, &mut image[0..n], flags)
 }
 
 // Whether a line asks for nothing.
@@ -139,12 +138,35 @@ fn is_blank(text: &[u8]) -> bool {
     text[0] == b'#'
 }
 
-// Answers a line.
-pub(crate) fn answer(text: &[u8]) {
-    if !is_blank(text) {
-        if !record(text) {
-            print::text(b"NOT A RECORD");
-        }
+// What is answered to a line that is no record.
+fn no_record() {
+    print::text(b"NOT A RECORD");
+}
+
+// Answers a line that asks for something; the flags after it.
+fn line(text: &[u8], flags: Flags) -> Flags {
+    let tokens = tokens::split(text);
+    if !tokens.good {
+        no_record();
+        return flags;
     }
+    if let Given::Map(known) = flags::given_by(tokens) {
+        print::verdict(0, 0);
+        return Flags { known, given: true };
+    }
+    if !record(tokens, flags) {
+        no_record();
+    }
+    flags
+}
+
+// Answers a line; the flags after it.
+pub(crate) fn answer(text: &[u8], flags: Flags) -> Flags {
+    let after = if is_blank(text) {
+        flags
+    } else {
+        line(text, flags)
+    };
     print::text(b"\n");
+    after
 }

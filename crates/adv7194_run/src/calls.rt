@@ -1,7 +1,9 @@
 // The calls of the C interface.
+use crate::flags::Flags;
 use crate::print;
 use crate::tokens;
 use adv7194_answers::plan_numbers::PlanAnswer;
+use adv7194_answers::play_numbers::PlayAnswer;
 
 // The most settings of a record, and where they begin.
 const MOST_SETTINGS: usize = 64;
@@ -28,8 +30,14 @@ fn settings(held: [u64; 192]) -> [i32; 64] {
     settings
 }
 
-// Planning: the word and numbers, the image and the lent plan.
-pub(crate) fn plan(held: [u64; 192], numbers: usize, image: &[u8], plan: &mut [u8]) -> bool {
+// Planning: the word and numbers, the image with its known registers and the lent plan.
+pub(crate) fn plan(
+    held: [u64; 192],
+    numbers: usize,
+    image: &[u8],
+    known: u64,
+    plan: &mut [u8],
+) -> bool {
     if numbers < 2 {
         return false;
     }
@@ -40,6 +48,7 @@ pub(crate) fn plan(held: [u64; 192], numbers: usize, image: &[u8], plan: &mut [u
     let settings = settings(held);
     let answer = adv7194_c::adv7194_plan(
         image,
+        known,
         &settings[0..count],
         tokens::unsigned(held[1]),
         plan,
@@ -86,36 +95,48 @@ pub(crate) fn plan_captions(held: [u64; 192], numbers: usize, plan: &mut [u8]) -
 }
 
 // Playing.
-pub(crate) fn play(used: u64, own: u64, image: &mut [u8], plan: &[u8]) -> bool {
+pub(crate) fn play(used: u64, own: u64, image: &mut [u8], flags: Flags, plan: &[u8]) -> bool {
     let answer = adv7194_c::adv7194_play(
         image,
+        flags.known,
         tokens::unsigned(used),
         tokens::unsigned(own),
         plan,
     );
-    print::verdict(answer.refusal, answer.field);
-    print::decimal(answer.acknowledged);
-    print::bytes(image);
+    played(answer, flags.given, image);
     true
 }
 
 // Playing captions.
-pub(crate) fn play_captions(used: u64, own: u64, image: &mut [u8], plan: &[u8]) -> bool {
+pub(crate) fn play_captions(
+    used: u64,
+    own: u64,
+    image: &mut [u8],
+    flags: Flags,
+    plan: &[u8],
+) -> bool {
     let answer = adv7194_c::adv7194_play_captions(
         image,
+        flags.known,
         tokens::unsigned(used),
         tokens::unsigned(own),
         plan,
     );
-    print::verdict(answer.refusal, answer.field);
-    print::decimal(answer.acknowledged);
-    print::bytes(image);
+    played(answer, flags.given, image);
     true
 }
 
+// What playing answers, and the image after it; its known registers too where flags were given.
+fn played(answer: PlayAnswer, given: bool, image: &[u8]) {
+    print::verdict(answer.refusal, answer.field);
+    print::decimal(answer.acknowledged);
+    print::bytes(image);
+    print::known(given, answer.known);
+}
+
 // Reading a pair of captions.
-pub(crate) fn read_captions(pair: u64, image: &[u8]) -> bool {
-    let answer = adv7194_c::adv7194_read_captions(image, tokens::unsigned(pair));
+pub(crate) fn read_captions(pair: u64, image: &[u8], known: u64) -> bool {
+    let answer = adv7194_c::adv7194_read_captions(image, known, tokens::unsigned(pair));
     print::verdict(answer.refusal, answer.field);
     print::decimal(answer.first);
     print::decimal(answer.second);
@@ -123,9 +144,9 @@ pub(crate) fn read_captions(pair: u64, image: &[u8]) -> bool {
 }
 
 // Reading.
-pub(crate) fn read(image: &[u8]) -> bool {
+pub(crate) fn read(image: &[u8], known: u64) -> bool {
     let mut settings = [0i32; SETTINGS];
-    let answer = adv7194_c::adv7194_read(image, &mut settings);
+    let answer = adv7194_c::adv7194_read(image, known, &mut settings);
     print::verdict(answer.refusal, answer.field);
     print::numbers(&settings);
     true

@@ -1,7 +1,9 @@
 // The chip at bus events.
+use crate::flags::Flags;
 use crate::print;
 use crate::tokens::BYTE;
 use crate::tokens::Tokens;
+use adv7194_bus::board::known_after;
 use adv7194_bus::image::copied;
 use bus::chip;
 use bus::chip::Acknowledge;
@@ -24,6 +26,12 @@ const START: u64 = 0x153;
 const STOP: u64 = 0x150;
 
 const READ: u64 = 0x152;
+
+// A chip's state after events, and the map of its known registers.
+struct After {
+    state: State,
+    known: u64,
+}
 
 // The event of a token.
 fn event(token: u64) -> Event {
@@ -68,30 +76,36 @@ fn one(state: State, token: u64, own: u8, registers: &mut [u8; 54]) -> State {
     next
 }
 
-// The events of a record at a fresh chip: its state after them.
-fn all(tokens: Tokens, own: u8, registers: &mut [u8; 54]) -> State {
+// The events of a record at a fresh chip: its state and the known registers after them.
+fn all(tokens: Tokens, own: u8, known: u64, registers: &mut [u8; 54]) -> After {
     let held = tokens.held;
     let count = tokens.count;
     let mut state = chip::fresh();
+    let mut map = known;
     let mut i = tokens.second;
     while i < count {
-        state = one(state, held[i % MOST], own, registers);
+        let token = held[i % MOST];
+        map = known_after(state, event(token), map);
+        state = one(state, token, own, registers);
         i += 1;
     }
-    state
+    After { state, known: map }
 }
 
-// The events of a record at a chip with these registers: what came of each, the pointer and the phase after them, and the registers.
-fn run(tokens: Tokens, own: u8, registers: &mut [u8; 54]) {
+// The events of a record at a chip with these registers: what came of each, the pointer and the phase after them, and the registers; those that are known
+// too where flags were given.
+fn run(tokens: Tokens, own: u8, flags: Flags, registers: &mut [u8; 54]) {
     print::verdict(0, 0);
-    let state = all(tokens, own, registers);
+    let after = all(tokens, own, flags.known, registers);
+    let state = after.state;
     let phase = state.phase;
     print::marked((state.pointer % 256) as u8, letter(phase));
     print::bytes(registers);
+    print::known(flags.given, after.known);
 }
 
 // Answers a record of events, if the image has all registers.
-pub(crate) fn events(tokens: Tokens, image: &[u8]) -> bool {
+pub(crate) fn events(tokens: Tokens, image: &[u8], flags: Flags) -> bool {
     let held = tokens.held;
     if (tokens.numbers != 2) | (OWN_LIMIT <= held[1]) {
         return false;
@@ -100,6 +114,6 @@ pub(crate) fn events(tokens: Tokens, image: &[u8]) -> bool {
         return false;
     }
     let mut registers = copied(image);
-    run(tokens, (held[1] % 256) as u8, &mut registers);
+    run(tokens, (held[1] % 256) as u8, flags, &mut registers);
     true
 }

@@ -12,38 +12,39 @@
 //                                           N one read and not acknowledged. For each the byte that the master reads with + acknowledged, - not
 //                                           acknowledged, . not asked; then the pointer, the phase (I idle, A awaits the address, S the subaddress,
 //                                           D data, T sends) and the image
+//   known:FLAGS..                           which registers are known in the records after it: eight bytes, the highest first, bit r for register r; all
+//                                           are where no line says so
 //   code FIELD SETTING, setting FIELD:CODE  the code of a field's setting, the setting of its code
 //
-// What is answered stands after `ok`; a refusal is `REFUSED number field`. A line that is no record is answered `NOT A RECORD`, an empty line and a
+// What is answered stands after `ok`; a refusal is `REFUSED number field`. Where a line gave flags, `play`, `playcap` and `events` end in `known` and
+// the flags after the call, eight bytes likewise. A line that is no record is answered `NOT A RECORD`, an empty line and a
 // comment, which begins with #, by an empty line.
 mod answers;
 mod calls;
 mod chip;
 mod codings;
+mod flags;
 mod lines;
 mod print;
 mod tokens;
 
+use flags::all_known;
 use lines::read_line;
 
 // Room for a line and its end.
 const LINE_WIDTH: usize = 1024;
 
-// Answers the next line; whether there was one.
-fn answer() -> bool {
-    let mut line = [0u8; LINE_WIDTH];
-    let n = read_line(&mut line);
-    if n == 0 {
-        return false;
-    }
-    answers::answer(&line[0..n - 1]);
-    true
-}
-
 // A proved loop has to end, and nothing says that the input does: turns are counted down from a number that no run uses up.
 fn main() {
+    let mut flags = all_known();
     let mut turns = u64::MAX;
-    while turns > 0 && answer() {
+    while turns > 0 {
+        let mut line = [0u8; LINE_WIDTH];
+        let n = read_line(&mut line);
+        if n == 0 {
+            return;
+        }
+        flags = answers::answer(&line[0..n - 1], flags);
         turns -= 1;
     }
 }

@@ -2,6 +2,11 @@
 use libc::STDOUT_FILENO;
 use text::Place;
 
+// How many bytes a map of registers is, and where the highest begins.
+const MAP_BYTES: u32 = 8;
+
+const HIGHEST_BYTE: u32 = 56;
+
 // Text as it stands.
 pub(crate) fn text(words: &[u8]) {
     io::write_all(STDOUT_FILENO, words);
@@ -52,6 +57,19 @@ pub(crate) fn bytes(list: &[u8]) {
     let mut i = 0;
     while i < list.len() {
         byte(list[i]);
+        i += 1;
+    }
+}
+
+// A map of known registers, where flags were given: its bytes, the highest first.
+pub(crate) fn known(given: bool, map: u64) {
+    if !given {
+        return;
+    }
+    text(b" known");
+    let mut i = 0;
+    while i < MAP_BYTES {
+        byte(((map >> (HIGHEST_BYTE - 8 * i)) % 256) as u8);
         i += 1;
     }
 }

@@ -160,7 +160,7 @@ all-fit zs = by (writesOf zs table) (writes-fit zs)
 -- ---- the wanted image
 
 -- bytes with one more byte among them
-set-bytes : (l : List ℕ) (r v : ℕ) → Bytes l → v < 2 ^ 8 → Bytes (set l r v)
+pub set-bytes : (l : List ℕ) (r v : ℕ) → Bytes l → v < 2 ^ 8 → Bytes (set l r v)
 set-bytes l r v b h i = split (eqb i r) refl (ltb r (length l)) refl
   where
     split : (x : Bool) → eqb i r ≡ x → (y : Bool) → ltb r (length l) ≡ y → getD (set l r v) i 0 < 2 ^ 8

@@ -2,3 +2,5 @@ pub mod BlockBytes
 pub mod FitLaws
 pub mod EntryLaws
 pub mod DemandLaws
+pub mod FixedLaws
+pub mod ReadingLaws

@@ -1,6 +1,7 @@
 pub mod Codes
 pub mod Wanted
 pub mod Demand
+pub mod Known
 pub mod Held
 pub mod Order
 pub mod Rows

@@ -59,9 +59,13 @@ all-small : (r : ℕ) → r < registerCount → maskWhere (λ e. true) table r �
 unfolding below maskWhere table singles timing output picture dnr
 all-small r h = leb→le _ 0xFF (at-below registerCount (λ r. leb (maskWhere (λ e. true) table r) 0xFF) tt r h)
 
-pub own-small : (n r : ℕ) → r < registerCount → ownMask n r ≤ 0xFF
+-- a field's are among all
+pub own-all : (n r : ℕ) → ownMask n r ≤ maskWhere (λ e. true) table r
 unfolding ownMask
-own-small n r h = let a = some-all (λ e. eqb (fieldOf e) n) table r in let b = all-small r h in omega arith
+own-all n r = some-all (λ e. eqb (fieldOf e) n) table r
+
+pub own-small : (n r : ℕ) → r < registerCount → ownMask n r ≤ 0xFF
+own-small n r h = let a = own-all n r in let b = all-small r h in omega arith
 
 pub fields-small : (r : ℕ) → r < registerCount → fieldMask r + zeroMask r ≤ 0xFF
 unfolding fieldMask zeroMask
@@ -69,8 +73,8 @@ fields-small r h = let a = both-all mustBeZero table r in let b = all-small r h 
 
 -- no field has a bit of the read-only register
 pub none-read-only : (n : ℕ) → ownMask n readOnly ≡ 0
-unfolding ownMask maskWhere table singles timing output picture dnr
-none-read-only n = let a = some-all (λ e. eqb (fieldOf e) n) table readOnly in omega arith
+unfolding maskWhere table singles timing output picture dnr
+none-read-only n = let a = own-all n readOnly in omega arith
 
 -- ---- the masks as lists
 

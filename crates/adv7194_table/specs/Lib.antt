@@ -3,3 +3,4 @@ pub mod Blocks
 pub mod Table
 pub mod Masks
 pub mod RawCodes
+pub mod Registers

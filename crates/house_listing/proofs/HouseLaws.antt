@@ -1,7 +1,8 @@
 -- What the text of the house setting is: an image that isn't 54 bytes is refused, any other is planned; and the text is short. Assumes nothing.
-use mathlib.Core.Path.{_≡_, refl, ap}
+use mathlib.Core.Path.{_≡_, refl, ap, _∙_}
 use mathlib.Core.Bool.{Bool, true, false}
-use mathlib.Core.List.{List}
+use mathlib.Core.Logic.{_⊎_, inl, inr, ⊎-elim}
+use mathlib.Core.List.{List, [], _∷_}
 use Prim.Native.Nat.{ℕ, _≤_, _^_, _<_}
 use native.Mathlib.Omega.{arith}
 use lib.Dec.{eqb}
@@ -9,8 +10,10 @@ use lib.ListN.{length, getD}
 use borrow.Author.Tests.{eqb-true, eqb-false}
 use Rattle.refusals.specs.Verdict.{good}
 use Rattle.refusals.specs.Order.{firstOf, placesAt}
-use Rattle.bus.specs.Transactions.{busBytes}
+use Rattle.bus.specs.Transactions.{Transaction, busBytes}
+use Rattle.bus.specs.Cost.{dataCount}
 use Rattle.bus.proofs.CostLaws.{bytes-count}
+use Rattle.packing.specs.Packing.{packedBits}
 use Rattle.packing.proofs.PackedLaws.{packedBits-length}
 use Rattle.text.proofs.Numerals.{decimal-most}
 use Rattle.text.specs.Text.{leading, decimal}
@@ -29,13 +32,16 @@ use Rattle.adv7194_signalling.specs.Signalling.{signallingCodes}
 use Rattle.adv7194_settings.specs.Order.{placesOf, order}
 use Rattle.adv7194_settings.specs.Rows.{someOf, rowHolds, checkOf}
 use Rattle.adv7194_settings.specs.House.{house}
-use Rattle.adv7194_settings.specs.Wanted.{wantedBy}
-use Rattle.adv7194_least.specs.Demands.{mostBytes}
+use Rattle.adv7194_settings.proofs.ReadingLaws.{none-unknown}
+use Rattle.adv7194_least.specs.Aim.{aimOf}
+use Rattle.adv7194_least.specs.Demands.{mostBits, mostBytes}
 use Rattle.adv7194_least.proofs.Room.{plan-bits, plan-room}
 use Rattle.adv7194_planning.specs.Rows.{listOf}
-use Rattle.adv7194_planning.proofs.CaseLaws.{wrong-length, no-row}
-use Rattle.adv7194_planning.proofs.Clauses.{change}
-use Rattle.house_listing.specs.HouseText.{houseTextIn, houseText}
+use Rattle.adv7194_planning.proofs.CaseLaws.{wrong-length, passed, no-row}
+use Rattle.adv7194_planning.proofs.Outcomes.{Passed}
+use Rattle.adv7194_planning.proofs.KnownLaws.{none-unfixed}
+use Rattle.adv7194_planning.proofs.Clauses.{change, told}
+use Rattle.house_listing.specs.HouseText.{boardIn, houseTextIn, houseText}
 
 -- the most bytes of a text
 abbrev pub mostText : ℕ
@@ -59,37 +65,50 @@ house-count = refl
 -- an image that isn't 54 bytes is refused so
 pub not-an-image : (image : List ℕ) → (length image ≡ registerCount → ⊥) → houseText image ≡ refusedLine 1 0
 unfolding houseTextIn
-not-an-image image h = ap (answerText (listOf image house)) (wrong-length image house boardAddress mostBytes h)
+not-an-image image h = ap (answerText (listOf (boardIn image) house)) (wrong-length (boardIn image) house boardAddress mostBytes h)
 
 -- that line
 refused-length : length (refusedLine 1 0) ≡ 12
 unfolding countsLine decimal leading
 refused-length = refl
 
+-- a list has a transaction, or no data
+some-or-none : (ts : List Transaction) → (0 < length ts) ⊎ (dataCount ts ≡ 0)
+unfolding dataCount
+some-or-none [] = inr refl
+some-or-none (t ∷ ts) = inl (omega arith)
+
+-- the text of a list of at most so many bits is short
+text-short : (ts : List Transaction) → length (packedBits ts) ≤ mostBits → length (planText ts) ≤ mostText
+text-short ts bits =
+    let tens = decimal-most 1 (length ts) (omega (arith, bits, packedBits-length ts, bytes-count ts)) in
+    let cost = decimal-most 1 (busBytes ts) (omega (arith, bits, packedBits-length ts, bytes-count ts)) in
+    let text = text-length ts in
+    let first = first-length (length ts) (busBytes ts) in
+    let packing = packedBits-length ts in
+    let count = bytes-count ts in
+    ⊎-elim (λ h. omega arith) (λ h. omega arith) (some-or-none ts)
+
 module _ (image : List ℕ) (bytes : (r : ℕ) → getD image r 0 < 2 ^ 8) (h : length image ≡ registerCount) where
+  -- all before the room passes
+  all-passed : Passed (boardIn image) house
+  all-passed = record { long = h; fixed = none-unfixed (boardIn image) house (none-unknown image) }
+
   -- any other image is planned
-  pub an-image : houseText image ≡ planText (listOf image house)
+  pub an-image : houseText image ≡ planText (listOf (boardIn image) house)
   unfolding houseTextIn listOf
   an-image =
-      ap (answerText (listOf image house))
-      (no-row image house boardAddress mostBytes h refl house-count house-good (plan-room image (wantedBy image house) (change image house bytes h)))
+      let room = plan-room (aimOf (boardIn image) house) (change (boardIn image) house bytes all-passed) (told (boardIn image) house bytes all-passed) in
+      ap (answerText (listOf (boardIn image) house))
+      (passed (boardIn image) house boardAddress mostBytes h refl house-count house-good
+      ∙ no-row (boardIn image) house boardAddress mostBytes (all-passed .fixed) room)
 
   -- a plan's text is short
-  planned-short : length (planText (listOf image house)) ≤ mostText
+  planned-short : length (planText (listOf (boardIn image) house)) ≤ mostText
   unfolding listOf
   planned-short =
-      let ts = listOf image house in
-      let bits = plan-bits image (wantedBy image house) (change image house bytes h) in
-      omega (
-        arith,
-        text-length ts,
-        first-length (length ts) (busBytes ts),
-        decimal-most 1 (length ts) (omega (arith, bits, packedBits-length ts, bytes-count ts)),
-        decimal-most 1 (busBytes ts) (omega (arith, bits, packedBits-length ts, bytes-count ts)),
-        bits,
-        packedBits-length ts,
-        bytes-count ts,
-      )
+      text-short (listOf (boardIn image) house)
+      (plan-bits (aimOf (boardIn image) house) (change (boardIn image) house bytes all-passed) (told (boardIn image) house bytes all-passed))
 
 -- no text is longer
 pub short : (image : List ℕ) → ((r : ℕ) → getD image r 0 < 2 ^ 8) → length (houseText image) ≤ mostText

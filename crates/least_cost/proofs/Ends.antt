@@ -12,14 +12,11 @@ use borrow.Author.Tests.{lt-ltb}
 use Rattle.bus.specs.Transactions.{Transaction, end, Touches, Touched, Every}
 use Rattle.bus.specs.Chip.{Kind, Chip, store}
 use Rattle.bus.specs.Run.{run, transactionEvents, listEvents, after}
+pub use Rattle.bus.proofs.Play.{Kept}
 use Rattle.bus.proofs.Play.{stores, run-transaction, stores-other, touches?, run-list, touched-or-same}
 use Rattle.least_cost.specs.Order.{Ascending, Holds}
 use Rattle.least_cost.proofs.Attained.{later, getD-later, getD-here}
 use Rattle.least_cost.proofs.Unique.{ascending-past}
-
--- the chip has the registers that a transaction touches, and they keep a byte
-abbrev pub Kept : Kind → Transaction → Type 0
-Kept κ t = (x : ℕ) → Touches t x → (x < κ .count) × (κ .keeps x ≡ true)
 
 module _ (κ : Kind) where
   length-store : (l : List ℕ) (i b : ℕ) → length (store (κ .keeps) l i b) ≡ length l

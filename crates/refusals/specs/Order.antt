@@ -22,6 +22,11 @@ unfoldable pub placesAt : List ℕ → ℕ → List Place
 placesAt [] f = []
 placesAt (n ∷ ns) f = record { row = n; field = f } ∷ placesAt ns f
 
+-- one row at some fields
+unfoldable pub placesOver : ℕ → List ℕ → List Place
+placesOver n [] = []
+placesOver n (f ∷ fs) = record { row = n; field = f } ∷ placesOver n fs
+
 -- no row of some places holds
 abbrev pub NoneHolds : (ℕ → ℕ → Bool) → List Place → Type 0
 NoneHolds holds [] = Unit {0}

@@ -1,6 +1,6 @@
 //! Plans the house setting for the image on standard input, and sends the plan.
 
-use adv7194::{plan, transactions, Settings, PLAN_ROOM};
+use adv7194::{plan, transactions, Board, Settings, PLAN_ROOM};
 use std::io::Read;
 
 /// The board's address: the byte that starts a write.
@@ -17,8 +17,9 @@ fn bus_write(subaddress: u8, data: &[u8]) {
 fn main() -> Result<(), Box<dyn std::error::Error>> {
     let mut image = Vec::new();
     std::io::stdin().read_to_end(&mut image)?;
+    let board = Board::try_from(image.as_slice())?;
     let mut bytes = [0; PLAN_ROOM];
-    let planned = plan(&image, &Settings::house(), ADDRESS.into(), &mut bytes)?;
+    let planned = plan(&board, &Settings::house(), ADDRESS.into(), &mut bytes)?;
     for transaction in transactions(&bytes[..planned.length])? {
         bus_write(transaction.subaddress(), transaction.data());
     }

@@ -2,7 +2,7 @@
 
 use crate::ffi;
 use crate::refusal::{self, Refusal};
-use crate::Planned;
+use crate::{Board, Planned};
 
 /// Characters of a pair.
 pub const PAIR: usize = 2;
@@ -99,46 +99,50 @@ pub fn plan_caption_numbers(
     Planned::of(ffi::plan_captions(extended, ordinary, address, plan))
 }
 
-/// Plays a packed plan of captions, sent to the address `used`, on a chip that
-/// holds `image` and has the address `own`. Says whether every byte was
-/// acknowledged; `image` is what the chip then holds. After a refusal it is as
-/// it was. Every plan that [`plan_captions`] doesn't make is refused, and
-/// [`play`](crate::play) refuses those that it makes.
+/// Plays a packed plan of captions, sent to the address `used`, on the chip of
+/// `board`, which has the address `own`. Says whether every byte was
+/// acknowledged; `board` is what the chip then holds, and the registers of the
+/// pairs sent are known. After a refusal it is as it was. Every plan that
+/// [`plan_captions`] doesn't make is refused, and [`play`](crate::play) refuses
+/// those that it makes.
 ///
 /// ```
-/// use adv7194::{play, play_captions, Reason};
+/// use adv7194::{play, play_captions, Board, Reason};
 ///
-/// let mut image = [0; 54];
+/// let mut board = Board::unknown();
 /// let plan = [0x05, 0x30, 0xB2, 0x12, 0x40];
-/// assert_eq!(play_captions(&mut image, 0x54, 0x54, &plan), Ok(true));
-/// assert_eq!(image[0x13..=0x14], [0xC8, 0x49]);
+/// assert_eq!(play_captions(&mut board, 0x54, 0x54, &plan), Ok(true));
+/// assert_eq!(board.bytes[0x13..=0x14], [0xC8, 0x49]);
+/// assert!(board.knows(0x13) && board.knows(0x14) && !board.knows(0x12));
 ///
-/// let refusal = play(&mut image, 0x54, 0x54, &plan).unwrap_err();
+/// let refusal = play(&mut board, 0x54, 0x54, &plan).unwrap_err();
 /// assert_eq!(refusal.reason, Reason::PlanBytes);
-/// let refusal = play_captions(&mut image, 0x54, 0x54, &[0x00]).unwrap_err();
+/// let refusal = play_captions(&mut board, 0x54, 0x54, &[0x00]).unwrap_err();
 /// assert_eq!(refusal.reason, Reason::PlanBytes);
 /// ```
-pub fn play_captions(image: &mut [u8], used: u32, own: u32, plan: &[u8]) -> Result<bool, Refusal> {
-    let answer = ffi::play_captions(image, used, own, plan);
-    refusal::check(answer.refusal, answer.field)?;
-    Ok(answer.acknowledged != 0)
+pub fn play_captions(board: &mut Board, used: u32, own: u32, plan: &[u8]) -> Result<bool, Refusal> {
+    let answer = ffi::play_captions(&mut board.bytes, board.flags, used, own, plan);
+    board.played(answer)
 }
 
-/// Reads back the characters that `image` holds in a pair.
+/// Reads back the characters that `board` holds in a pair.
 ///
 /// ```
-/// use adv7194::{read_captions, Pair, Reason};
+/// use adv7194::{read_captions, Board, Pair, Reason};
 ///
-/// let mut image = [0; 54];
-/// image[0x13..=0x14].copy_from_slice(&[0xC8, 0x49]);
-/// assert_eq!(read_captions(&image, Pair::Ordinary), Ok(*b"HI"));
+/// let mut board = Board::known([0; 54]);
+/// board.bytes[0x13..=0x14].copy_from_slice(&[0xC8, 0x49]);
+/// assert_eq!(read_captions(&board, Pair::Ordinary), Ok(*b"HI"));
 ///
-/// // Zeros have an even number of ones.
-/// let refusal = read_captions(&image, Pair::Extended).unwrap_err();
+/// // Zeros have an even number of ones; but first they must be known.
+/// let refusal = read_captions(&board, Pair::Extended).unwrap_err();
 /// assert_eq!((refusal.reason, refusal.field), (Reason::Reserved, 29));
+/// board.flags &= !(1 << 0x11);
+/// let refusal = read_captions(&board, Pair::Extended).unwrap_err();
+/// assert_eq!((refusal.reason, refusal.field), (Reason::RegisterUnknown, 29));
 /// ```
-pub fn read_captions(image: &[u8], pair: Pair) -> Result<[u8; PAIR], Refusal> {
-    let answer = ffi::read_captions(image, pair as u32);
+pub fn read_captions(board: &Board, pair: Pair) -> Result<[u8; PAIR], Refusal> {
+    let answer = ffi::read_captions(&board.bytes, board.flags, pair as u32);
     refusal::check(answer.refusal, answer.field)?;
     Ok([answer.first as u8, answer.second as u8])
 }

@@ -14,8 +14,8 @@ pub struct Comparison {
 }
 
 impl Comparison {
-    /// Whether [`read`](crate::read) accepts both images, so that both have
-    /// settings to show.
+    /// Whether [`read`](crate::read) accepts both images, known in full, so that
+    /// both have settings to show.
     pub const fn readable(&self) -> bool {
         self.readable
     }

@@ -20,7 +20,8 @@ pub struct PlanAnswer {
     pub bus_bytes: u32,
 }
 
-/// What playing answers. After a refusal the last is 0.
+/// What playing answers. After a refusal `acknowledged` is 0, and `known` as
+/// handed in.
 #[repr(C)]
 #[derive(Clone, Copy, Debug, PartialEq, Eq)]
 pub struct PlayAnswer {
@@ -30,6 +31,8 @@ pub struct PlayAnswer {
     pub field: u32,
     /// 1 if every byte was acknowledged, else 0.
     pub acknowledged: u32,
+    /// Bit r is set where register r is then known.
+    pub known: u64,
 }
 
 /// What reading answers.
@@ -91,6 +94,7 @@ extern "C" {
     fn adv7194_plan(
         image: *const u8,
         image_len: usize,
+        known: u64,
         settings: *const i32,
         settings_len: usize,
         address: u32,
@@ -101,6 +105,7 @@ extern "C" {
     fn adv7194_play(
         image: *mut u8,
         image_len: usize,
+        known: u64,
         used: u32,
         own: u32,
         plan: *const u8,
@@ -118,6 +123,7 @@ extern "C" {
     fn adv7194_read(
         image: *const u8,
         image_len: usize,
+        known: u64,
         settings: *mut i32,
         settings_len: usize,
     ) -> ReadAnswer;
@@ -137,24 +143,37 @@ extern "C" {
     fn adv7194_play_captions(
         image: *mut u8,
         image_len: usize,
+        known: u64,
         used: u32,
         own: u32,
         plan: *const u8,
         plan_len: usize,
     ) -> PlayAnswer;
 
-    fn adv7194_read_captions(image: *const u8, image_len: usize, pair: u32) -> CaptionsAnswer;
+    fn adv7194_read_captions(
+        image: *const u8,
+        image_len: usize,
+        known: u64,
+        pair: u32,
+    ) -> CaptionsAnswer;
 }
 
 /// Plans, with the archive's own numbers.
 #[inline]
-pub fn plan(image: &[u8], settings: &[i32], address: u32, plan: &mut [u8]) -> PlanAnswer {
+pub fn plan(
+    image: &[u8],
+    known: u64,
+    settings: &[i32],
+    address: u32,
+    plan: &mut [u8],
+) -> PlanAnswer {
     // Sound: each pointer comes with the length of its own slice, and the
     // archive touches nothing outside them.
     unsafe {
         adv7194_plan(
             image.as_ptr(),
             image.len(),
+            known,
             settings.as_ptr(),
             settings.len(),
             address,
@@ -166,12 +185,13 @@ pub fn plan(image: &[u8], settings: &[i32], address: u32, plan: &mut [u8]) -> Pl
 
 /// Plays, with the archive's own numbers.
 #[inline]
-pub fn play(image: &mut [u8], used: u32, own: u32, plan: &[u8]) -> PlayAnswer {
+pub fn play(image: &mut [u8], known: u64, used: u32, own: u32, plan: &[u8]) -> PlayAnswer {
     // Sound: as in `plan`.
     unsafe {
         adv7194_play(
             image.as_mut_ptr(),
             image.len(),
+            known,
             used,
             own,
             plan.as_ptr(),
@@ -197,12 +217,13 @@ pub fn transaction(plan: &[u8], index: u32, data: &mut [u8]) -> TransactionAnswe
 
 /// Reads, with the archive's own numbers.
 #[inline]
-pub fn read(image: &[u8], settings: &mut [i32]) -> ReadAnswer {
+pub fn read(image: &[u8], known: u64, settings: &mut [i32]) -> ReadAnswer {
     // Sound: as in `plan`.
     unsafe {
         adv7194_read(
             image.as_ptr(),
             image.len(),
+            known,
             settings.as_mut_ptr(),
             settings.len(),
         )
@@ -240,12 +261,13 @@ pub fn plan_captions(
 
 /// Plays captions, with the archive's own numbers.
 #[inline]
-pub fn play_captions(image: &mut [u8], used: u32, own: u32, plan: &[u8]) -> PlayAnswer {
+pub fn play_captions(image: &mut [u8], known: u64, used: u32, own: u32, plan: &[u8]) -> PlayAnswer {
     // Sound: as in `plan`.
     unsafe {
         adv7194_play_captions(
             image.as_mut_ptr(),
             image.len(),
+            known,
             used,
             own,
             plan.as_ptr(),
@@ -256,7 +278,7 @@ pub fn play_captions(image: &mut [u8], used: u32, own: u32, plan: &[u8]) -> Play
 
 /// Reads a pair of captions, with the archive's own numbers.
 #[inline]
-pub fn read_captions(image: &[u8], pair: u32) -> CaptionsAnswer {
+pub fn read_captions(image: &[u8], known: u64, pair: u32) -> CaptionsAnswer {
     // Sound: as in `plan`.
-    unsafe { adv7194_read_captions(image.as_ptr(), image.len(), pair) }
+    unsafe { adv7194_read_captions(image.as_ptr(), image.len(), known, pair) }
 }

@@ -4,40 +4,42 @@
 //! The work is done by a proved archive with a C interface; this crate gives it
 //! safe functions and types. All `unsafe` is in the module [`ffi`].
 //!
-//! An image is 54 bytes, one for each register of the chip. [`plan`] works out
-//! the least list of write transactions that brings a chip to given settings,
+//! A [`Board`] is 54 bytes, one for each register of its chip, with a flag for
+//! each: only some may be known, after a power dip say. [`plan`] works out the
+//! least list of write transactions that brings a chip to given settings,
 //! and packs it into lent bytes. [`transactions`] takes a packed plan apart, to
-//! send it. [`play`] says what a chip holds after a packed plan. [`read`] gives
-//! the settings that an image holds, [`compare`] says in what two images differ.
-//! [`plan_captions`], [`play_captions`] and [`read_captions`] do the same for
-//! pairs of caption characters, which are no setting.
-//! Nothing is kept between calls and nothing is allocated.
+//! send it. [`play`] says what a chip holds after a packed plan, and what of it is
+//! then known. [`read`] gives the settings that a board holds, [`compare`] says in
+//! what two images differ. [`plan_captions`], [`play_captions`] and
+//! [`read_captions`] do the same for pairs of caption characters, which are no
+//! setting. Nothing is kept between calls and nothing is allocated.
 //!
 //! ```
-//! use adv7194::{plan, play, read, Settings, PLAN_ROOM, REGISTERS};
+//! use adv7194::{plan, play, read, Board, Settings, PLAN_ROOM, REGISTERS};
 //!
-//! // What the chip holds now.
-//! let mut image = [0u8; REGISTERS];
+//! // What the chip holds now, all of it known.
+//! let mut board = Board::known([0u8; REGISTERS]);
 //! let mut settings = Settings::house();
 //! settings.hue = 40;
 //!
 //! let mut bytes = [0u8; PLAN_ROOM];
-//! let planned = plan(&image, &settings, 0x54, &mut bytes).unwrap();
+//! let planned = plan(&board, &settings, 0x54, &mut bytes).unwrap();
 //!
 //! // What the chip holds after the plan.
-//! let acknowledged = play(&mut image, 0x54, 0x54, &bytes[..planned.length]).unwrap();
+//! let acknowledged = play(&mut board, 0x54, 0x54, &bytes[..planned.length]).unwrap();
 //! assert!(acknowledged);
-//! assert_eq!(image[0x20], 0x97);
+//! assert_eq!(board.bytes[0x20], 0x97);
 //!
 //! // Of the settings with the same codes, reading gives those nearest zero.
-//! let found = read(&image).unwrap();
-//! let again = plan(&image, &found, 0x54, &mut bytes).unwrap();
+//! let found = read(&board).unwrap();
+//! let again = plan(&board, &found, 0x54, &mut bytes).unwrap();
 //! assert_eq!((again.length, again.transactions, again.bus_bytes), (1, 0, 0));
 //! assert_eq!(bytes[0], 0x00);
 //! ```
 #![deny(unsafe_code)]
 #![warn(missing_docs)]
 
+mod board;
 mod captions;
 mod comparison;
 pub mod ffi;
@@ -46,6 +48,7 @@ mod refusal;
 mod settings;
 mod transactions;
 
+pub use board::{Board, ALL_KNOWN, REGISTERS};
 pub use captions::{plan_caption_numbers, plan_captions, play_captions, read_captions};
 pub use captions::{Captions, Pair, CAPTION_ROOM, PAIR};
 pub use comparison::{compare, Comparison, Differing};
@@ -54,8 +57,6 @@ pub use refusal::{Reason, Refusal};
 pub use settings::{Curve, Settings, Signalling, Standard, YLevel, CURVE_BYTES};
 pub use transactions::{transactions, Transaction, Transactions, DATA_ROOM};
 
-/// Bytes of an image.
-pub const REGISTERS: usize = 54;
 /// Room for the longest packed plan.
 pub const PLAN_ROOM: usize = 44;
 
@@ -82,85 +83,98 @@ impl Planned {
     }
 }
 
-/// Plans the way from `image` to `settings`, for a chip at the even `address`.
+/// Plans the way from `board` to `settings`, for a chip at the even `address`.
+/// A register that isn't known is written where the settings fix all its bits;
+/// where they fix only some, planning is refused.
 ///
 /// The packed plan goes to the front of `plan`; bytes past it stay as they
 /// were. After a refusal all of `plan` is as it was.
 ///
 /// ```
-/// use adv7194::{plan, Reason, Settings};
+/// use adv7194::{plan, Board, Reason, Settings};
 ///
-/// let refusal = plan(&[0; 53], &Settings::house(), 0x54, &mut [0; 44]).unwrap_err();
-/// assert_eq!((refusal.reason, refusal.field), (Reason::ImageLength, 0));
-///
+/// let mut board = Board::known([0; 54]);
 /// let mut settings = Settings::house();
 /// settings.hue = 225;
-/// let refusal = plan(&[0; 54], &settings, 0x54, &mut [0; 44]).unwrap_err();
+/// let refusal = plan(&board, &settings, 0x54, &mut [0; 44]).unwrap_err();
 /// assert_eq!((refusal.reason, refusal.field), (Reason::OutOfRange, 15));
+///
+/// // The standard has two bits of register 00; the others are to stay as found.
+/// board.flags &= !(1 << 0x00);
+/// let refusal = plan(&board, &Settings::house(), 0x54, &mut [0; 44]).unwrap_err();
+/// assert_eq!((refusal.reason, refusal.field), (Reason::RegisterUnknown, 1));
 /// ```
 pub fn plan(
-    image: &[u8],
+    board: &Board,
     settings: &Settings,
     address: u32,
     plan: &mut [u8],
 ) -> Result<Planned, Refusal> {
-    plan_numbers(image, &settings.to_numbers(), address, plan)
+    plan_numbers(board, &settings.to_numbers(), address, plan)
 }
 
 /// The same with settings as numbers, of any length and any value.
 ///
 /// ```
-/// use adv7194::{plan_numbers, Reason};
+/// use adv7194::{plan_numbers, Board, Reason};
 ///
-/// let refusal = plan_numbers(&[0; 54], &[0; 48], 0x54, &mut [0; 44]).unwrap_err();
+/// let board = Board::known([0; 54]);
+/// let refusal = plan_numbers(&board, &[0; 48], 0x54, &mut [0; 44]).unwrap_err();
 /// assert_eq!((refusal.reason, refusal.field), (Reason::OutOfRange, 0));
 /// ```
 pub fn plan_numbers(
-    image: &[u8],
+    board: &Board,
     settings: &[i32],
     address: u32,
     plan: &mut [u8],
 ) -> Result<Planned, Refusal> {
-    Planned::of(ffi::plan(image, settings, address, plan))
+    let answer = ffi::plan(&board.bytes, board.flags, settings, address, plan);
+    Planned::of(answer)
 }
 
-/// Plays a packed plan, sent to the address `used`, on a chip that holds
-/// `image` and has the address `own`. Says whether every byte was acknowledged;
-/// `image` is what the chip then holds. After a refusal it is as it was.
+/// Plays a packed plan, sent to the address `used`, on the chip of `board`, which
+/// has the address `own`. Says whether every byte was acknowledged; `board` is
+/// what the chip then holds, and each register that a byte was stored in is
+/// known. After a refusal it is as it was.
 ///
 /// ```
-/// use adv7194::{play, Reason};
+/// use adv7194::{play, Board, Reason};
 ///
-/// let mut image = [0; 54];
-/// assert_eq!(play(&mut image, 0x54, 0x54, &[0x06, 0x00, 0x65, 0xC0]), Ok(true));
-/// assert_eq!(image[0x20], 0x97);
+/// let mut board = Board::unknown();
+/// assert_eq!(play(&mut board, 0x54, 0x54, &[0x06, 0x00, 0x65, 0xC0]), Ok(true));
+/// assert_eq!((board.bytes[0x20], board.flags), (0x97, 1 << 0x20));
 ///
 /// // Another chip's address: nothing is stored.
-/// assert_eq!(play(&mut image, 0x56, 0x54, &[0x06, 0x00, 0x41, 0x00]), Ok(false));
-/// assert_eq!(image[0x20], 0x97);
+/// assert_eq!(play(&mut board, 0x56, 0x54, &[0x06, 0x00, 0x41, 0x00]), Ok(false));
+/// assert_eq!(board.bytes[0x20], 0x97);
 ///
-/// let refusal = play(&mut image, 0x54, 0x54, &[0x06, 0x00]).unwrap_err();
+/// let refusal = play(&mut board, 0x54, 0x54, &[0x06, 0x00]).unwrap_err();
 /// assert_eq!(refusal.reason, Reason::PlanBytes);
 /// ```
-pub fn play(image: &mut [u8], used: u32, own: u32, plan: &[u8]) -> Result<bool, Refusal> {
-    let answer = ffi::play(image, used, own, plan);
-    refusal::check(answer.refusal, answer.field)?;
-    Ok(answer.acknowledged != 0)
+pub fn play(board: &mut Board, used: u32, own: u32, plan: &[u8]) -> Result<bool, Refusal> {
+    let answer = ffi::play(&mut board.bytes, board.flags, used, own, plan);
+    board.played(answer)
 }
 
-/// Reads the settings that `image` holds: of those with the same codes, the
+/// Reads the settings that `board` holds: of those with the same codes, the
 /// ones nearest zero, and curves as seven bytes.
 ///
 /// ```
-/// use adv7194::{read, Reason};
+/// use adv7194::{read, Board, Reason};
 ///
 /// // All zero: NTSC, but no DNR input and no subcarrier word.
-/// let refusal = read(&[0; 54]).unwrap_err();
+/// let mut board = Board::known([0; 54]);
+/// let refusal = read(&board).unwrap_err();
 /// assert_eq!((refusal.reason, refusal.field), (Reason::Reserved, 23));
+///
+/// // Contrast isn't known: field 12 comes first.
+/// board.flags &= !(1 << 0x1D);
+/// let refusal = read(&board).unwrap_err();
+/// assert_eq!((refusal.reason, refusal.field), (Reason::RegisterUnknown, 12));
 /// ```
-pub fn read(image: &[u8]) -> Result<Settings, Refusal> {
+pub fn read(board: &Board) -> Result<Settings, Refusal> {
     let mut numbers = [0; NUMBERS];
-    read_numbers(image, &mut numbers)?;
+    read_numbers(board, &mut numbers)?;
     let settings = Settings::from_numbers(&numbers);
     Ok(settings.expect("numbers that reading writes have a typed form"))
 }
@@ -168,12 +182,12 @@ pub fn read(image: &[u8]) -> Result<Settings, Refusal> {
 /// The same into lent numbers. After a refusal they are as they were.
 ///
 /// ```
-/// use adv7194::{read_numbers, Reason};
+/// use adv7194::{read_numbers, Board, Reason};
 ///
-/// let refusal = read_numbers(&[0; 54], &mut [0; 50]).unwrap_err();
+/// let refusal = read_numbers(&Board::known([0; 54]), &mut [0; 50]).unwrap_err();
 /// assert_eq!((refusal.reason, refusal.field), (Reason::OutOfRange, 0));
 /// ```
-pub fn read_numbers(image: &[u8], settings: &mut [i32]) -> Result<(), Refusal> {
-    let answer = ffi::read(image, settings);
+pub fn read_numbers(board: &Board, settings: &mut [i32]) -> Result<(), Refusal> {
+    let answer = ffi::read(&board.bytes, board.flags, settings);
     refusal::check(answer.refusal, answer.field)
 }

@@ -3,7 +3,7 @@
 use std::error::Error;
 use std::fmt;
 
-/// Why something is refused: the ten rows of the table.
+/// Why something is refused: the eleven rows of the table.
 #[derive(Clone, Copy, Debug, PartialEq, Eq, Hash)]
 #[repr(u8)]
 pub enum Reason {
@@ -31,11 +31,14 @@ pub enum Reason {
     /// 10: the lent plan is shorter than the packed plan, or the lent data than the
     /// transaction's.
     PlanRoom = 10,
+    /// 11: a register isn't known of which the settings fix only some bits, or one
+    /// that is read.
+    RegisterUnknown = 11,
 }
 
 impl Reason {
     /// Every reason, in the order of its number.
-    pub const ALL: [Reason; 10] = [
+    pub const ALL: [Reason; 11] = [
         Reason::ImageLength,
         Reason::Address,
         Reason::OutOfRange,
@@ -46,9 +49,10 @@ impl Reason {
         Reason::Disagrees,
         Reason::PlanBytes,
         Reason::PlanRoom,
+        Reason::RegisterUnknown,
     ];
 
-    /// Its number, 1 to 10.
+    /// Its number, 1 to 11.
     pub const fn number(self) -> u8 {
         self as u8
     }
@@ -66,6 +70,7 @@ impl Reason {
             Reason::Disagrees => "check bits or subcarrier word don't agree",
             Reason::PlanBytes => "the plan's bytes break the packing or the bus rules",
             Reason::PlanRoom => "the lent plan is too short",
+            Reason::RegisterUnknown => "a register is not known",
         }
     }
 }
@@ -92,7 +97,7 @@ impl fmt::Display for Refusal {
 
 impl Error for Refusal {}
 
-/// An answer's refusal, typed; 0 is none. The archive answers no number above 10.
+/// An answer's refusal, typed; 0 is none. The archive answers no number above 11.
 pub(crate) fn check(refusal: u32, field: u32) -> Result<(), Refusal> {
     if refusal == 0 {
         return Ok(());

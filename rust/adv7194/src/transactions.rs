@@ -52,10 +52,11 @@ impl FusedIterator for Transactions<'_> {}
 /// the bus rules aren't judged here ([`play`](crate::play) does).
 ///
 /// ```
-/// use adv7194::{plan, transactions, Reason, Settings, PLAN_ROOM};
+/// use adv7194::{plan, transactions, Board, Reason, Settings, PLAN_ROOM};
 ///
 /// let mut bytes = [0; PLAN_ROOM];
-/// let planned = plan(&[0; 54], &Settings::house(), 0x54, &mut bytes)?;
+/// let board = Board::known([0; 54]);
+/// let planned = plan(&board, &Settings::house(), 0x54, &mut bytes)?;
 /// let mut bus_bytes = 0;
 /// for transaction in transactions(&bytes[..planned.length])? {
 ///     // Here a board writes to its bus.

@@ -1,8 +1,8 @@
 //! Captions, typed, through the archive.
 
 use adv7194::{
-    plan_captions, play, play_captions, read, read_captions, transactions, Captions, Pair, Reason,
-    Refusal, CAPTION_ROOM, REGISTERS,
+    plan_captions, play, play_captions, read, read_captions, transactions, Board, Captions, Pair,
+    Reason, Refusal, CAPTION_ROOM, REGISTERS,
 };
 
 /// An even address.
@@ -10,24 +10,25 @@ const ADDRESS: u32 = 0x54;
 /// One more than the last character.
 const PAST_CHARACTERS: u8 = 128;
 
-/// Plans and plays, and gives the image.
-fn sent(captions: &Captions) -> Result<[u8; REGISTERS], Refusal> {
-    let mut image = [0xFF; REGISTERS];
+/// Plans and plays on a board of which nothing is known, and gives it.
+fn sent(captions: &Captions) -> Result<Board, Refusal> {
+    let mut board = Board::unknown();
+    board.bytes = [0xFF; REGISTERS];
     let mut bytes = [0; CAPTION_ROOM];
     let planned = plan_captions(captions, ADDRESS, &mut bytes)?;
     let plan = &bytes[..planned.length];
-    let before = image;
+    let before = board;
     assert_eq!(
-        play(&mut image, ADDRESS, ADDRESS, plan).map_err(|refusal| refusal.reason),
+        play(&mut board, ADDRESS, ADDRESS, plan).map_err(|refusal| refusal.reason),
         Err(Reason::PlanBytes)
     );
     assert_eq!(
-        play_captions(&mut image, ADDRESS + 2, ADDRESS, plan),
+        play_captions(&mut board, ADDRESS + 2, ADDRESS, plan),
         Ok(false)
     );
-    assert_eq!(image, before);
-    assert_eq!(play_captions(&mut image, ADDRESS, ADDRESS, plan), Ok(true));
-    Ok(image)
+    assert_eq!(board, before);
+    assert_eq!(play_captions(&mut board, ADDRESS, ADDRESS, plan), Ok(true));
+    Ok(board)
 }
 
 #[test]
@@ -38,20 +39,28 @@ fn every_character() {
             extended: Some([second, first]),
             ordinary: Some([first, second]),
         };
-        let image = sent(&captions).unwrap();
+        let board = sent(&captions).unwrap();
         let odd = |&byte: &u8| byte.count_ones() % 2 == 1;
-        assert!(image[0x11..=0x14].iter().all(odd));
-        assert_eq!(read_captions(&image, Pair::Extended), Ok([second, first]));
-        assert_eq!(read_captions(&image, Pair::Ordinary), Ok([first, second]));
+        assert!(board.bytes[0x11..=0x14].iter().all(odd));
+        assert_eq!(read_captions(&board, Pair::Extended), Ok([second, first]));
+        assert_eq!(read_captions(&board, Pair::Ordinary), Ok([first, second]));
     }
 }
 
 #[test]
 fn each_pair_alone() {
-    let image = sent(&Captions::ordinary(*b"HI")).unwrap();
-    assert_eq!(image[0x10..=0x15], [0xFF, 0xFF, 0xFF, 0xC8, 0x49, 0xFF]);
-    let image = sent(&Captions::extended([0, 0])).unwrap();
-    assert_eq!(image[0x10..=0x15], [0xFF, 0x80, 0x80, 0xFF, 0xFF, 0xFF]);
+    let board = sent(&Captions::ordinary(*b"HI")).unwrap();
+    let held = [0xFF, 0xFF, 0xFF, 0xC8, 0x49, 0xFF];
+    assert_eq!(
+        (&board.bytes[0x10..=0x15], board.flags),
+        (&held[..], 0b11 << 0x13)
+    );
+    let board = sent(&Captions::extended([0, 0])).unwrap();
+    let held = [0xFF, 0x80, 0x80, 0xFF, 0xFF, 0xFF];
+    assert_eq!(
+        (&board.bytes[0x10..=0x15], board.flags),
+        (&held[..], 0b11 << 0x11)
+    );
 }
 
 #[test]
@@ -105,11 +114,12 @@ fn planning_refused() {
 
 #[test]
 fn reading_refused() {
-    let image = sent(&Captions::ordinary(*b"HI")).unwrap();
-    let answer = read_captions(&image, Pair::Extended);
+    let board = sent(&Captions::ordinary(*b"HI")).unwrap();
+    let answer = read_captions(&board, Pair::Extended);
+    assert_eq!(refused(answer), (Reason::RegisterUnknown, 29));
+    let known = Board::known(board.bytes);
+    let answer = read_captions(&known, Pair::Extended);
     assert_eq!(refused(answer), (Reason::Reserved, 29));
-    let answer = read_captions(&image[1..], Pair::Ordinary);
-    assert_eq!(refused(answer), (Reason::ImageLength, 0));
     // Captions are no field: reading settings doesn't judge them.
-    assert_ne!(refused(read(&image)).1, 29);
+    assert_ne!(refused(read(&known)).1, 29);
 }

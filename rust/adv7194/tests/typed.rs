@@ -1,8 +1,8 @@
 //! The typed form: to numbers and back, and through the archive.
 
 use adv7194::{
-    compare, index, plan, play, read, Curve, Reason, Refusal, Settings, Signalling, Standard,
-    YLevel, PLAN_ROOM, REGISTERS,
+    compare, index, plan, play, read, Board, Curve, Reason, Refusal, Settings, Signalling,
+    Standard, YLevel, PLAN_ROOM, REGISTERS,
 };
 
 /// An even address.
@@ -34,21 +34,21 @@ fn pal() -> Settings {
 
 /// Plans and plays, and gives the image.
 fn settled(settings: &Settings) -> Result<[u8; REGISTERS], Refusal> {
-    let mut image = [0xFF; REGISTERS];
+    let mut board = Board::known([0xFF; REGISTERS]);
     let mut bytes = [0; PLAN_ROOM];
-    let planned = plan(&image, settings, ADDRESS, &mut bytes)?;
+    let planned = plan(&board, settings, ADDRESS, &mut bytes)?;
     assert!(play(
-        &mut image,
+        &mut board,
         ADDRESS,
         ADDRESS,
         &bytes[..planned.length]
     )?);
-    Ok(image)
+    Ok(board.bytes)
 }
 
 /// Plans, plays and reads.
 fn through(settings: &Settings) -> Result<Settings, Refusal> {
-    read(&settled(settings)?)
+    read(&Board::known(settled(settings)?))
 }
 
 #[test]

@@ -2,7 +2,9 @@
 
 use compare::cases::{self, Image, Numbers};
 use compare::damage;
+use compare::flags;
 use compare::random::Random;
+use plain::ALL_KNOWN;
 
 /// Cases in a block.
 pub const CASES: usize = 4096;
@@ -13,35 +15,55 @@ const FLIPPED: i32 = 6;
 pub struct Case {
     /// The image that planning starts from.
     pub start: Image,
+    /// Its flags of known registers, and those that playing starts from.
+    pub known: u64,
     /// Settings.
     pub settings: Numbers,
     /// A packed plan.
     pub plan: Vec<u8>,
     /// An image to read.
     pub image: Image,
+    /// Its flags.
+    pub image_known: u64,
+}
+
+/// Which cases a block has.
+#[derive(Clone, Copy)]
+pub struct Mixture {
+    /// One case in so many has faults in it, if any.
+    pub spoilt: Option<u64>,
+    /// Whether flags are seeded, a third of them all known; else all are.
+    pub flags: bool,
 }
 
 /// A block of cases.
 pub struct Block(pub Vec<Case>);
 
 impl Block {
-    /// A block; with `spoilt`, one case in so many has faults in it.
-    pub fn new(random: &mut Random, spoilt: Option<u64>) -> Block {
-        Block((0..CASES).map(|_| case(random, spoilt)).collect())
+    /// A block of such cases.
+    pub fn new(random: &mut Random, mixture: Mixture) -> Block {
+        Block((0..CASES).map(|_| case(random, mixture)).collect())
     }
 }
 
 /// One case: half of the images are near what is wanted, half are any.
-fn case(random: &mut Random, spoilt: Option<u64>) -> Case {
+fn case(random: &mut Random, mixture: Mixture) -> Case {
     let mut settings = cases::accepted(random);
     let start = if random.flag() {
         cases::near_image(random, &settings, FLIPPED)
     } else {
         cases::any_image(random)
     };
-    let (planned, bytes) = cases::packed(&start, &settings);
+    let (known, image_known) = if mixture.flags {
+        (flags::planning(random), flags::reading(random))
+    } else {
+        (ALL_KNOWN, ALL_KNOWN)
+    };
+    // What is played is planned all the same where flags would refuse it.
+    let (planned, bytes) = cases::packed(&start, known | flags::PARTS, &settings);
     let mut plan = bytes[..planned.length as usize].to_vec();
     let mut image = cases::settled(&start, &settings);
+    let spoilt = mixture.spoilt;
     if spoilt.is_some_and(|times| random.once_in(times)) {
         cases::spoil(random, &mut settings);
         damage::damage(random, &mut plan);
@@ -49,8 +71,10 @@ fn case(random: &mut Random, spoilt: Option<u64>) -> Case {
     }
     Case {
         start,
+        known,
         settings,
         plan,
         image,
+        image_known,
     }
 }

@@ -1,9 +1,11 @@
 //! Bus bytes of the least plan, and of three simpler ways to write.
 
+use adv7194::Board;
 use compare::cases::{self, Image, Numbers, ADDRESS, ROOM};
 use compare::random::Random;
 use plain::least;
-use plain::registers::{span, BARRED_MAP, REGISTERS, WORD_BYTES, WORD_MAP};
+use plain::registers::{BARRED_MAP, WORD_BYTES, WORD_MAP};
+use plain::ALL_KNOWN;
 
 /// Cases of each kind.
 const CASES: u32 = 16_384;
@@ -50,7 +52,7 @@ fn one_changed(random: &mut Random) -> (Image, Numbers) {
         let mut changed = settings;
         let place = random.below(changed.len() as u64) as usize;
         changed[place] = others[place];
-        let (answer, _) = cases::packed(&image, &changed);
+        let (answer, _) = cases::packed(&image, ALL_KNOWN, &changed);
         if answer.refusal == 0 && answer.transactions > 0 {
             return (image, changed);
         }
@@ -59,14 +61,15 @@ fn one_changed(random: &mut Random) -> (Image, Numbers) {
 
 /// Bus bytes of each way for one case; the least plan is the archive's.
 fn bytes(image: &Image, settings: &Numbers) -> [u32; WAYS] {
-    let planned = adv7194::plan_numbers(image, settings, ADDRESS, &mut [0; ROOM]);
+    let board = Board::known(*image);
+    let planned = adv7194::plan_numbers(&board, settings, ADDRESS, &mut [0; ROOM]);
     let least = planned.expect("an accepted case").bus_bytes;
     let needed = least::differing(image, &cases::settled(image, settings));
     let word = needed & WORD_MAP != 0;
     let singles = (needed & !WORD_MAP).count_ones();
     let single = (OPENING + 1) * singles + word as u32 * (OPENING + WORD_BYTES as u32);
     let whole = if word { needed | WORD_MAP } else { needed };
-    let writable = span(0, REGISTERS) & !BARRED_MAP;
+    let writable = ALL_KNOWN & !BARRED_MAP;
     [least, single, in_runs(whole), in_runs(writable)]
 }
 

@@ -8,7 +8,7 @@ mod bytes;
 mod sides;
 mod timing;
 
-use blocks::Block;
+use blocks::{Block, Mixture};
 use compare::random::Random;
 use std::process::ExitCode;
 
@@ -54,11 +54,16 @@ fn main() -> ExitCode {
     let mut random = Random::new(seed);
     let (size, count) = (blocks::CASES, BLOCKS);
     println!("median of {rounds} rounds over {count} blocks of {size} cases, sides in turn");
-    let accepted: Vec<Block> = (0..BLOCKS).map(|_| Block::new(&mut random, None)).collect();
-    family("all accepted", &accepted, rounds);
-    let some = Some(SPOILT);
-    let mixed: Vec<Block> = (0..BLOCKS).map(|_| Block::new(&mut random, some)).collect();
-    family("a quarter spoilt", &mixed, rounds);
+    for (name, spoilt, flags) in [
+        ("all accepted", None, false),
+        ("a quarter spoilt", Some(SPOILT), false),
+        ("known in part", None, true),
+    ] {
+        let mixture = Mixture { spoilt, flags };
+        let block = |_| Block::new(&mut random, mixture);
+        let blocks: Vec<Block> = (0..BLOCKS).map(block).collect();
+        family(name, &blocks, rounds);
+    }
     bytes::print(&mut random);
     ExitCode::SUCCESS
 }

@@ -5,42 +5,58 @@ use adv7194::ffi;
 
 /// Planning by the archive.
 #[inline(never)]
-pub fn proved_plan(image: &[u8], settings: &[i32], address: u32, plan: &mut [u8]) -> u32 {
-    let answer = ffi::plan(image, settings, address, plan);
-    answer.refusal + answer.field + answer.length + answer.transactions + answer.bus_bytes
+pub fn proved_plan(
+    image: &[u8],
+    known: u64,
+    settings: &[i32],
+    address: u32,
+    plan: &mut [u8],
+) -> u64 {
+    let answer = ffi::plan(image, known, settings, address, plan);
+    let counts = answer.length + answer.transactions + answer.bus_bytes;
+    (answer.refusal + answer.field + counts).into()
 }
 
 /// Planning in plain Rust.
 #[inline(never)]
-pub fn plain_plan(image: &[u8], settings: &[i32], address: u32, plan: &mut [u8]) -> u32 {
-    let answer = plain::plan(image, settings, address, plan);
-    answer.refusal + answer.field + answer.length + answer.transactions + answer.bus_bytes
+pub fn plain_plan(
+    image: &[u8],
+    known: u64,
+    settings: &[i32],
+    address: u32,
+    plan: &mut [u8],
+) -> u64 {
+    let answer = plain::plan(image, known, settings, address, plan);
+    let counts = answer.length + answer.transactions + answer.bus_bytes;
+    (answer.refusal + answer.field + counts).into()
 }
 
 /// Playing by the archive.
 #[inline(never)]
-pub fn proved_play(image: &mut [u8], used: u32, own: u32, plan: &[u8]) -> u32 {
-    let answer = ffi::play(image, used, own, plan);
-    answer.refusal + answer.field + answer.acknowledged
+pub fn proved_play(image: &mut [u8], known: u64, used: u32, own: u32, plan: &[u8]) -> u64 {
+    let answer = ffi::play(image, known, used, own, plan);
+    let numbers = answer.refusal + answer.field + answer.acknowledged;
+    answer.known.wrapping_add(numbers.into())
 }
 
 /// Playing in plain Rust.
 #[inline(never)]
-pub fn plain_play(image: &mut [u8], used: u32, own: u32, plan: &[u8]) -> u32 {
-    let answer = plain::play(image, used, own, plan);
-    answer.refusal + answer.field + answer.acknowledged
+pub fn plain_play(image: &mut [u8], known: u64, used: u32, own: u32, plan: &[u8]) -> u64 {
+    let answer = plain::play(image, known, used, own, plan);
+    let numbers = answer.refusal + answer.field + answer.acknowledged;
+    answer.known.wrapping_add(numbers.into())
 }
 
 /// Reading by the archive.
 #[inline(never)]
-pub fn proved_read(image: &[u8], settings: &mut [i32]) -> u32 {
-    let answer = ffi::read(image, settings);
-    answer.refusal + answer.field
+pub fn proved_read(image: &[u8], known: u64, settings: &mut [i32]) -> u64 {
+    let answer = ffi::read(image, known, settings);
+    (answer.refusal + answer.field).into()
 }
 
 /// Reading in plain Rust.
 #[inline(never)]
-pub fn plain_read(image: &[u8], settings: &mut [i32]) -> u32 {
-    let answer = plain::read(image, settings);
-    answer.refusal + answer.field
+pub fn plain_read(image: &[u8], known: u64, settings: &mut [i32]) -> u64 {
+    let answer = plain::read(image, known, settings);
+    (answer.refusal + answer.field).into()
 }

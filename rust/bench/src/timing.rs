@@ -1,6 +1,6 @@
 //! Taking the time: block after block, the sides in turn.
 
-use crate::blocks::{Block, CASES};
+use crate::blocks::{Block, Case, CASES};
 use crate::sides;
 use compare::cases::{ADDRESS, ROOM};
 use plain::fields::SETTINGS;
@@ -11,14 +11,17 @@ use std::time::Instant;
 /// Times one entry over blocks and rounds: nanoseconds a case, proved and plain.
 pub type Timer = fn(&[Block], u64) -> (f64, f64);
 
+/// A planner: an image, its flags, settings, an address and the lent plan.
+type Planner = fn(&[u8], u64, &[i32], u32, &mut [u8]) -> u64;
+
 /// Planning.
 pub fn plan(blocks: &[Block], rounds: u64) -> (f64, f64) {
-    let run = |block: &Block, entry: fn(&[u8], &[i32], u32, &mut [u8]) -> u32| {
+    let run = |block: &Block, entry: Planner| {
         let mut plan = [0; ROOM];
-        let cases = block.0.iter();
-        let sum = cases
-            .map(|case| entry(&case.start, &case.settings, ADDRESS, black_box(&mut plan)) as u64);
-        sum.sum()
+        sum(block, |case| {
+            let lent = black_box(&mut plan);
+            entry(&case.start, case.known, &case.settings, ADDRESS, lent)
+        })
     };
     medians(
         blocks,
@@ -30,12 +33,12 @@ pub fn plan(blocks: &[Block], rounds: u64) -> (f64, f64) {
 
 /// Playing. The image goes on from case to case.
 pub fn play(blocks: &[Block], rounds: u64) -> (f64, f64) {
-    let run = |block: &Block, entry: fn(&mut [u8], u32, u32, &[u8]) -> u32| {
+    let run = |block: &Block, entry: fn(&mut [u8], u64, u32, u32, &[u8]) -> u64| {
         let mut image = [0; REGISTERS];
-        let cases = block.0.iter();
-        let sum =
-            cases.map(|case| entry(black_box(&mut image), ADDRESS, ADDRESS, &case.plan) as u64);
-        sum.sum()
+        sum(block, |case| {
+            let lent = black_box(&mut image);
+            entry(lent, case.known, ADDRESS, ADDRESS, &case.plan)
+        })
     };
     medians(
         blocks,
@@ -47,11 +50,11 @@ pub fn play(blocks: &[Block], rounds: u64) -> (f64, f64) {
 
 /// Reading.
 pub fn read(blocks: &[Block], rounds: u64) -> (f64, f64) {
-    let run = |block: &Block, entry: fn(&[u8], &mut [i32]) -> u32| {
+    let run = |block: &Block, entry: fn(&[u8], u64, &mut [i32]) -> u64| {
         let mut settings = [0; SETTINGS];
-        let cases = block.0.iter();
-        let sum = cases.map(|case| entry(&case.image, black_box(&mut settings)) as u64);
-        sum.sum()
+        sum(block, |case| {
+            entry(&case.image, case.image_known, black_box(&mut settings))
+        })
     };
     medians(
         blocks,
@@ -59,6 +62,12 @@ pub fn read(blocks: &[Block], rounds: u64) -> (f64, f64) {
         |block| run(block, sides::proved_read),
         |block| run(block, sides::plain_read),
     )
+}
+
+/// The sum of a block's answers.
+#[inline(always)]
+fn sum(block: &Block, entry: impl FnMut(&Case) -> u64) -> u64 {
+    block.0.iter().map(entry).fold(0, u64::wrapping_add)
 }
 
 /// Runs both sides in turn, each first every other round, and gives the medians.

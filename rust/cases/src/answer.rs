@@ -6,38 +6,61 @@ use crate::{decimal, hex};
 use plain::chip::{Acknowledge, Chip, Phase};
 use plain::fields::SETTINGS;
 use plain::refusal::Refusal;
-use plain::{PlanAnswer, PlayAnswer};
+use plain::{PlanAnswer, PlayAnswer, ALL_KNOWN};
 
 /// The answer to a line that is no record.
 const NOT_A_RECORD: &str = "NOT A RECORD";
 /// The most characters of a pair in a record.
 const MOST_CHARACTERS: usize = 8;
 
-/// The answers to all lines of a text, a line each.
+/// The answers to all lines of a text, a line each. All registers are known until
+/// a line says which are.
 pub fn answers(text: &str) -> String {
-    text.lines().map(|line| answer(line) + "\n").collect()
+    let mut flags = Flags(None);
+    let answers = text.lines().map(|line| answer(line, &mut flags) + "\n");
+    answers.collect()
+}
+
+/// The flags of known registers that a line gave, for the records after it.
+#[derive(Clone, Copy)]
+struct Flags(Option<u64>);
+
+impl Flags {
+    /// Them, or all.
+    fn known(self) -> u64 {
+        self.0.unwrap_or(ALL_KNOWN)
+    }
+
+    /// The flags after a call, shown where a line gave some.
+    fn shown(self, after: u64) -> String {
+        match self.0 {
+            Some(_) => format!("known {}", hex(&after.to_be_bytes())),
+            None => String::new(),
+        }
+    }
 }
 
 /// The answer to a line; nothing to an empty one or a comment.
-fn answer(line: &str) -> String {
+fn answer(line: &str, flags: &mut Flags) -> String {
     if line.is_empty() || line.starts_with('#') {
         return String::new();
     }
-    let answered = Record::of(line).and_then(|record| answer_record(&record));
+    let answered = Record::of(line).and_then(|record| answer_record(&record, flags));
     answered.unwrap_or_else(|| NOT_A_RECORD.to_string())
 }
 
 /// The answer to a record, if it is of a kind.
-fn answer_record(record: &Record) -> Option<String> {
+fn answer_record(record: &Record, flags: &mut Flags) -> Option<String> {
     let lists = (record.has_first(), record.has_second());
     match (record.word, record.numbers.as_slice(), lists) {
-        ("plan", [address, settings @ ..], _) => plan(record, *address, settings),
+        ("known", [], (_, false)) => known(record, flags),
+        ("plan", [address, settings @ ..], _) => plan(record, *flags, *address, settings),
         ("caption", [address, numbers @ ..], (false, _)) => caption(record, *address, numbers),
-        ("play", [used, own], _) => play(record, plain::play, *used, *own),
-        ("playcap", [used, own], _) => play(record, plain::play_captions, *used, *own),
-        ("readcap", [pair], (_, false)) => readcap(record, *pair),
-        ("read", [], (_, false)) => read(record),
-        ("events", [own], _) => events(record, *own),
+        ("play", [used, own], _) => play(record, plain::play, *flags, *used, *own),
+        ("playcap", [used, own], _) => play(record, plain::play_captions, *flags, *used, *own),
+        ("readcap", [pair], (_, false)) => readcap(record, *flags, *pair),
+        ("read", [], (_, false)) => read(record, *flags),
+        ("events", [own], _) => events(record, *flags, *own),
         ("code", [field, setting], (false, false)) => codings::code(*field, signed(*setting)),
         ("setting", [field], (true, false)) => match record.first()?.as_slice() {
             [code] => codings::setting(*field, *code),
@@ -83,12 +106,20 @@ fn joined(words: &[String]) -> String {
     words.join(" ")
 }
 
+/// The flags for the records after it: eight bytes, the highest first.
+fn known(record: &Record, flags: &mut Flags) -> Option<String> {
+    let bytes = record.first()?.try_into().ok()?;
+    *flags = Flags(Some(u64::from_be_bytes(bytes)));
+    Some(verdict(0, 0))
+}
+
 /// Planning.
-fn plan(record: &Record, address: i64, settings: &[i64]) -> Option<String> {
+fn plan(record: &Record, flags: Flags, address: i64, settings: &[i64]) -> Option<String> {
     let settings: Vec<i32> = settings.iter().map(|&number| signed(number)).collect();
     let mut lent = record.second()?;
     let image = record.first()?;
-    let answer = plain::plan(&image, &settings, unsigned(address), &mut lent);
+    let known = flags.known();
+    let answer = plain::plan(&image, known, &settings, unsigned(address), &mut lent);
     Some(planned(answer, &lent))
 }
 
@@ -123,24 +154,26 @@ fn caption(record: &Record, address: i64, numbers: &[i64]) -> Option<String> {
 }
 
 /// A player: it plays a plan, sent to the first address, on a chip with the second one.
-type Player = fn(&mut [u8], u32, u32, &[u8]) -> PlayAnswer;
+type Player = fn(&mut [u8], u64, u32, u32, &[u8]) -> PlayAnswer;
 
 /// Playing.
-fn play(record: &Record, player: Player, used: i64, own: i64) -> Option<String> {
+fn play(record: &Record, player: Player, flags: Flags, used: i64, own: i64) -> Option<String> {
     let mut image = record.first()?;
     let plan = record.second()?;
-    let answer = player(&mut image, unsigned(used), unsigned(own), &plan);
+    let (used, own) = (unsigned(used), unsigned(own));
+    let answer = player(&mut image, flags.known(), used, own, &plan);
     Some(joined(&[
         verdict(answer.refusal, answer.field),
         answer.acknowledged.to_string(),
         hex(&image),
+        flags.shown(answer.known),
     ]))
 }
 
 /// Reading.
-fn read(record: &Record) -> Option<String> {
+fn read(record: &Record, flags: Flags) -> Option<String> {
     let mut settings = [0; SETTINGS];
-    let answer = plain::read(&record.first()?, &mut settings);
+    let answer = plain::read(&record.first()?, flags.known(), &mut settings);
     Some(joined(&[
         verdict(answer.refusal, answer.field),
         decimal(&settings),
@@ -148,8 +181,8 @@ fn read(record: &Record) -> Option<String> {
 }
 
 /// Reading a pair of captions back.
-fn readcap(record: &Record, pair: i64) -> Option<String> {
-    let answer = plain::read_captions(&record.first()?, unsigned(pair));
+fn readcap(record: &Record, flags: Flags, pair: i64) -> Option<String> {
+    let answer = plain::read_captions(&record.first()?, flags.known(), unsigned(pair));
     Some(joined(&[
         verdict(answer.refusal, answer.field),
         answer.first.to_string(),
@@ -158,9 +191,9 @@ fn readcap(record: &Record, pair: i64) -> Option<String> {
 }
 
 /// The chip at its events.
-fn events(record: &Record, own: i64) -> Option<String> {
+fn events(record: &Record, flags: Flags, own: i64) -> Option<String> {
     let registers = record.first()?.try_into().ok()?;
-    let mut chip = Chip::fresh(own.try_into().ok()?, registers);
+    let mut chip = Chip::fresh(own.try_into().ok()?, registers, flags.known());
     let mut words = vec![verdict(0, 0)];
     for event in record.events()? {
         let (byte, acknowledge) = chip.step(event);
@@ -180,5 +213,6 @@ fn events(record: &Record, own: i64) -> Option<String> {
     };
     words.push(format!("{:02X}{phase}", chip.pointer));
     words.push(hex(&chip.registers));
+    words.push(flags.shown(chip.known));
     Some(joined(&words))
 }

@@ -3,7 +3,7 @@
 use crate::make::{numbered, record};
 use crate::plans::{ADDRESS, BEFORE};
 use crate::{decimal, hex};
-use plain::registers::{CAPTIONS, REGISTERS};
+use plain::registers::{CAPTIONS, CAPTION_BYTES, REGISTERS};
 use plain::{with_parity, CAPTION_ROOM};
 
 /// The extended pair, as it is read back.
@@ -242,7 +242,7 @@ fn plays() -> Vec<String> {
 }
 
 /// An image with these bytes at 11 to 14.
-fn holding(bytes: [u8; 4]) -> [u8; REGISTERS] {
+pub(crate) fn holding(bytes: [u8; CAPTION_BYTES]) -> [u8; REGISTERS] {
     let mut image = numbered();
     image[CAPTIONS..][..bytes.len()].copy_from_slice(&bytes);
     image

@@ -6,6 +6,7 @@ use plain::fields::{self as at, number, SETTINGS};
 use plain::refusal::{self, Refusal};
 use plain::registers::{self as reg, REGISTERS, WORD_BYTES};
 use plain::subcarrier;
+use plain::ALL_KNOWN;
 
 /// An even address.
 const ADDRESS: u32 = 0x54;
@@ -64,9 +65,10 @@ fn wanted(settings: &[i32; SETTINGS]) -> Result<[u8; REGISTERS], Refusal> {
     plain::check(settings)?;
     let mut image = [0; REGISTERS];
     let mut plan = [0; ROOM];
-    let planned = plain::plan(&image, settings, ADDRESS, &mut plan);
+    let planned = plain::plan(&image, ALL_KNOWN, settings, ADDRESS, &mut plan);
     plain::play(
         &mut image,
+        ALL_KNOWN,
         ADDRESS,
         ADDRESS,
         &plan[..planned.length as usize],
@@ -101,7 +103,7 @@ pub fn setting(field: i64, code: u8) -> Option<String> {
     image[register] = image[register] & !(mask(width) << bit) | code << bit;
     place_word(&mut image);
     let mut settings = [0; SETTINGS];
-    let read = plain::read(&image, &mut settings);
+    let read = plain::read(&image, ALL_KNOWN, &mut settings);
     let Some(refusal) = Some(read.refusal).filter(|&refusal| refusal != 0) else {
         return Some(judged(Ok(settings[index].to_string())));
     };

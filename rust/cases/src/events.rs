@@ -4,6 +4,7 @@ use crate::make::{numbered, record};
 use crate::random::Random;
 use plain::chip::{Chip, Event, Phase};
 use plain::registers::REGISTERS;
+use plain::ALL_KNOWN;
 
 /// The boards' address.
 const OWN: u8 = 0x54;
@@ -75,24 +76,34 @@ fn events(own: u8, image: &[u8], events: &str) -> String {
     record(format!("events {own}"), image, events)
 }
 
-/// Named sequences, then every phase and some pointers with each kind of event, then the first and the last address.
-pub fn systematic() -> Vec<String> {
-    let image = numbered();
+/// The named sequences.
+pub(crate) fn named() -> Vec<String> {
     let mut lines = Vec::new();
     for (name, sequence) in NAMED {
         lines.push(format!("# {name}"));
-        lines.push(events(OWN, &image, sequence));
+        lines.push(events(OWN, &numbered(), sequence));
     }
-    lines.push(
-        "# Each phase, with the pointer at some registers, found by each kind of event."
-            .to_string(),
-    );
+    lines
+}
+
+/// Each phase, with the pointer at these registers, found by each kind of event.
+pub(crate) fn found(pointers: &[u8]) -> Vec<String> {
+    let name = "# Each phase, with the pointer at some registers, found by each kind of event.";
+    let mut lines = vec![name.to_string()];
     for phase in PHASES {
-        for pointer in POINTERS {
-            let found = FOUND.map(|event| events(OWN, &image, &sequence(phase, pointer, event)));
-            lines.extend(found);
+        for &pointer in pointers {
+            let at = |event: &str| events(OWN, &numbered(), &sequence(phase, pointer, event));
+            lines.extend(FOUND.map(at));
         }
     }
+    lines
+}
+
+/// Named sequences, then every phase and some pointers with each kind of event, then the first and the last address.
+pub fn systematic() -> Vec<String> {
+    let image = numbered();
+    let mut lines = named();
+    lines.extend(found(&POINTERS));
     lines.push("# The first and the last address.".to_string());
     for own in ENDS {
         for byte in [0x00, 0x01, 0x54, 0x55, 0xFE, 0xFF] {
@@ -127,7 +138,7 @@ pub fn seeded() -> Vec<String> {
 fn one(random: &mut Random) -> String {
     let own = 2 * random.below(128) as u8;
     let image = std::array::from_fn(|_| random.byte());
-    let mut chip = Chip::fresh(own, image);
+    let mut chip = Chip::fresh(own, image, ALL_KNOWN);
     let mut words = Vec::new();
     for _ in 0..LENGTH {
         let event = if random.once_in(SELDOM) {

@@ -1,7 +1,9 @@
 //! The records that are stored, file by file.
 
 use crate::codings::PLACES;
-use crate::{captions, events, hex, plans, plays, signalling, together};
+use crate::{
+    captions, events, hex, known, known_plays, known_reads, plans, plays, signalling, together,
+};
 use plain::registers::REGISTERS;
 
 /// How many numbers are tried past a range on either side.
@@ -46,6 +48,10 @@ pub fn files() -> Vec<(&'static str, String)> {
         ("curves_and_words", text(plans::curves_and_words())),
         ("events", text(events::systematic())),
         ("events_seeded", text(events::seeded())),
+        ("known_events", text(known_reads::events())),
+        ("known_plans", text(known::plans())),
+        ("known_plays", text(known_plays::plays())),
+        ("known_reads", text(known_reads::reads())),
         ("plans", text(plans::plans())),
         ("plays", text(plays::plays())),
         ("refused_together", text(together::refused_together())),

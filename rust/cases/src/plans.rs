@@ -4,6 +4,7 @@ use crate::make::record;
 use crate::{decimal, hex};
 use plain::fields::{self as at, SETTINGS};
 use plain::registers::{self as reg, REGISTERS};
+use plain::ALL_KNOWN;
 
 /// The boards' address.
 pub(crate) const ADDRESS: u32 = 0x54;
@@ -52,9 +53,10 @@ pub(crate) fn with(mut settings: [i32; SETTINGS], changed: &[(usize, i32)]) -> [
 pub(crate) fn wanted(settings: &[i32; SETTINGS], found: u8) -> [u8; REGISTERS] {
     let mut image = [found; REGISTERS];
     let mut plan = [0; 64];
-    let planned = plain::plan(&image, settings, ADDRESS, &mut plan);
+    let planned = plain::plan(&image, ALL_KNOWN, settings, ADDRESS, &mut plan);
     plain::play(
         &mut image,
+        ALL_KNOWN,
         ADDRESS,
         ADDRESS,
         &plan[..planned.length as usize],

@@ -4,7 +4,7 @@ use crate::make::{numbered, record};
 use plain::registers::REGISTERS;
 
 /// Hue alone, packed.
-const HUE_PLAN: &str = "06 00 65 C0";
+pub(crate) const HUE_PLAN: &str = "06 00 65 C0";
 
 /// Packed plans with what they show.
 const PLANS: [(&str, &str); 39] = [

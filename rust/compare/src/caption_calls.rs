@@ -37,6 +37,7 @@ impl Comparer {
     pub fn play_captions(
         &mut self,
         image: &[u8],
+        known: u64,
         used: u32,
         own: u32,
         plan: &[u8],
@@ -46,28 +47,37 @@ impl Comparer {
             plain: plain::play_captions,
             proved: ffi::play_captions,
         };
-        self.play_by(player, image, used, own, plan)
+        self.play_by(player, image, known, used, own, plan)
     }
 
     /// Plays by both players: no plan is taken by both. Gives the answer of the one for captions.
-    pub fn play_both(&mut self, image: &[u8], used: u32, own: u32, plan: &[u8]) -> PlayAnswer {
-        let (settings, _) = self.play(image, used, own, plan);
-        let (captions, _) = self.play_captions(image, used, own, plan);
+    pub fn play_both(
+        &mut self,
+        image: &[u8],
+        known: u64,
+        used: u32,
+        own: u32,
+        plan: &[u8],
+    ) -> PlayAnswer {
+        let (settings, _) = self.play(image, known, used, own, plan);
+        let (captions, _) = self.play_captions(image, known, used, own, plan);
         let apart = settings.refusal != 0 || captions.refusal != 0;
         self.expect(apart, || format!("both players take {plan:02X?}"));
         captions
     }
 
     /// Reads captions.
-    pub fn read_captions(&mut self, image: &[u8], pair: u32) -> CaptionsAnswer {
+    pub fn read_captions(&mut self, image: &[u8], known: u64, pair: u32) -> CaptionsAnswer {
         let given = Lent::new(image, GUARD_BYTE);
         let mut lent = given;
-        let answer = plain::read_captions(image, pair);
-        let proved = ffi::read_captions(lent.lend(), pair);
+        let answer = plain::read_captions(image, known, pair);
+        let proved = ffi::read_captions(lent.lend(), known, pair);
         let a = [answer.refusal, answer.field, answer.first, answer.second];
         let b = [proved.refusal, proved.field, proved.first, proved.second];
-        let show =
-            |what: &str| format!("read_captions, {what}: {a:?} {b:?} for {image:02X?} {pair}");
+        let show = |what: &str| {
+            let given = format!("{image:02X?} known {known:X} {pair}");
+            format!("read_captions, {what}: {a:?} {b:?} for {given}")
+        };
         self.count(Entry::ReadCaptions, answer.refusal, answer.field);
         self.expect(a == b, || show("answers"));
         self.expect(lent == given, || show("given memory"));

@@ -8,7 +8,7 @@ use crate::seeded::resized;
 use crate::sending;
 use crate::systematic::every_address;
 use plain::registers::{CAPTIONS, CAPTION_BYTES};
-use plain::{with_parity, CAPTION_ROOM, PAIR};
+use plain::{with_parity, ALL_KNOWN, CAPTION_ROOM, PAIR};
 
 /// The pairs, as they are read back.
 pub(crate) const EXTENDED: u32 = 0;
@@ -137,20 +137,22 @@ fn lengths_and_addresses(comparer: &mut Comparer, random: &mut Random) {
     for length in 0..=LONGEST {
         let given = resized(&image, length, 0);
         for pair in [EXTENDED, ORDINARY].into_iter().chain(NO_PAIRS) {
-            comparer.read_captions(&given, pair);
+            comparer.read_captions(&given, ALL_KNOWN, pair);
+            comparer.read_captions(&given, random.bits(), pair);
         }
         for plan in &plans {
-            comparer.play_both(&given, ADDRESS, ADDRESS, plan);
-            comparer.play_both(&given, ADDRESS + 1, ADDRESS, plan);
+            comparer.play_both(&given, random.bits(), ADDRESS, ADDRESS, plan);
+            comparer.play_both(&given, random.bits(), ADDRESS + 1, ADDRESS, plan);
         }
     }
     for address in every_address() {
         comparer.plan_captions(&two(random), &two(random), address, &[BEFORE; MOST_ROOM]);
         comparer.plan_captions(&[], &[], address, &[]);
         for plan in &plans {
-            comparer.play_both(&image, address, ADDRESS, plan);
-            comparer.play_both(&image, ADDRESS, address, plan);
-            comparer.play_both(&image, address, address, plan);
+            let known = random.bits();
+            comparer.play_both(&image, known, address, ADDRESS, plan);
+            comparer.play_both(&image, known, ADDRESS, address, plan);
+            comparer.play_both(&image, known, address, address, plan);
         }
     }
 }
@@ -164,15 +166,15 @@ fn every_byte(comparer: &mut Comparer, random: &mut Random) {
             let data = bytes.to_be_bytes();
             let mut held = image;
             held[first as usize..][..PAIR].copy_from_slice(&data);
-            comparer.read_captions(&held, EXTENDED);
-            comparer.read_captions(&held, ORDINARY);
+            comparer.read_captions(&held, ALL_KNOWN | random.bits(), EXTENDED);
+            comparer.read_captions(&held, ALL_KNOWN | random.bits(), ORDINARY);
             let mut data = data.into_iter();
             let plan = packed(&[(first, PAIR as u32)], || data.next().unwrap_or_default());
-            comparer.play_captions(&image, ADDRESS, ADDRESS, &plan);
+            comparer.play_captions(&image, random.bits(), ADDRESS, ADDRESS, &plan);
         }
     }
     for pair in 0..=u32::from(u16::MAX) {
-        comparer.read_captions(&image, pair);
+        comparer.read_captions(&image, ALL_KNOWN, pair);
     }
 }
 
@@ -183,7 +185,7 @@ fn disturbed(comparer: &mut Comparer, random: &mut Random) {
         for length in 0..=plan.len() + 3 {
             for more in [0x00, 0x01, 0x80, 0xFF] {
                 let resized = resized(&plan, length, more);
-                comparer.play_both(&image, ADDRESS, ADDRESS, &resized);
+                comparer.play_both(&image, random.bits(), ADDRESS, ADDRESS, &resized);
             }
         }
         for place in 0..8 * plan.len() {
@@ -194,7 +196,7 @@ fn disturbed(comparer: &mut Comparer, random: &mut Random) {
                 if second < place {
                     flipped[second / 8] ^= 0x80 >> (second % 8);
                 }
-                comparer.play_both(&image, ADDRESS, ADDRESS, &flipped);
+                comparer.play_both(&image, random.bits(), ADDRESS, ADDRESS, &flipped);
             }
         }
         sending::every(comparer, &plan);

@@ -3,7 +3,7 @@
 use crate::random::Random;
 use plain::fields::{self as at, SETTINGS};
 use plain::registers::{CURVE_BYTES, REGISTERS};
-use plain::{signal, PlanAnswer};
+use plain::{signal, PlanAnswer, ALL_KNOWN};
 
 /// Settings as numbers.
 pub type Numbers = [i32; SETTINGS];
@@ -157,17 +157,17 @@ pub fn any_image(random: &mut Random) -> Image {
 
 /// The image that a chip holds after the settings are planned over `image` and played.
 pub fn settled(image: &Image, settings: &Numbers) -> Image {
-    let (planned, bytes) = packed(image, settings);
+    let (planned, bytes) = packed(image, ALL_KNOWN, settings);
     let mut after = *image;
     let plan = &bytes[..planned.length as usize];
-    plain::play(&mut after, ADDRESS, ADDRESS, plan);
+    plain::play(&mut after, ALL_KNOWN, ADDRESS, ADDRESS, plan);
     after
 }
 
-/// The plain implementation's packed plan, with its answer.
-pub fn packed(image: &Image, settings: &Numbers) -> (PlanAnswer, [u8; ROOM]) {
+/// The plain implementation's packed plan over a board, with its answer.
+pub fn packed(image: &Image, known: u64, settings: &Numbers) -> (PlanAnswer, [u8; ROOM]) {
     let mut bytes = [BEFORE; ROOM];
-    let planned = plain::plan(image, settings, ADDRESS, &mut bytes);
+    let planned = plain::plan(image, known, settings, ADDRESS, &mut bytes);
     (planned, bytes)
 }
 

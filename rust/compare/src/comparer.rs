@@ -4,7 +4,7 @@ use crate::lent::Lent;
 use crate::tally::{Entry, Tally};
 use adv7194::ffi;
 use plain::registers::READ_ONLY;
-use plain::{CompareAnswer, PlanAnswer, PlayAnswer, ReadAnswer, TransactionAnswer};
+use plain::{CompareAnswer, PlanAnswer, PlayAnswer, ReadAnswer, TransactionAnswer, ALL_KNOWN};
 
 /// Guard bytes.
 pub(crate) const GUARD_BYTE: u8 = 0xC3;
@@ -19,9 +19,9 @@ pub(crate) struct Player {
     /// Which it is.
     pub(crate) entry: Entry,
     /// The plain one.
-    pub(crate) plain: fn(&mut [u8], u32, u32, &[u8]) -> PlayAnswer,
+    pub(crate) plain: fn(&mut [u8], u64, u32, u32, &[u8]) -> PlayAnswer,
     /// The archive's.
-    pub(crate) proved: fn(&mut [u8], u32, u32, &[u8]) -> ffi::PlayAnswer,
+    pub(crate) proved: fn(&mut [u8], u64, u32, u32, &[u8]) -> ffi::PlayAnswer,
 }
 
 /// Makes calls on both sides, and counts answers and differences.
@@ -60,6 +60,7 @@ impl Comparer {
     pub fn plan(
         &mut self,
         image: &[u8],
+        known: u64,
         settings: &[i32],
         address: u32,
         plan: &[u8],
@@ -70,10 +71,11 @@ impl Comparer {
         );
         let before = Lent::new(plan, GUARD_BYTE);
         let (mut one, mut other, mut lent) = (before, before, given);
-        let answer = plain::plan(image, settings, address, one.lend());
-        let proved = ffi::plan(lent.0.lend(), lent.1.lend(), address, other.lend());
+        let answer = plain::plan(image, known, settings, address, one.lend());
+        let proved = ffi::plan(lent.0.lend(), known, lent.1.lend(), address, other.lend());
         let show = |what: &str| {
-            let given = format!("{image:02X?} {settings:?} {address} room {}", plan.len());
+            let room = plan.len();
+            let given = format!("{image:02X?} known {known:X} {settings:?} {address} room {room}");
             format!("plan, {what}: {answer:?} {proved:?} for {given}")
         };
         self.expect(lent == given, || show("given memory"));
@@ -107,6 +109,7 @@ impl Comparer {
     pub fn play(
         &mut self,
         image: &[u8],
+        known: u64,
         used: u32,
         own: u32,
         plan: &[u8],
@@ -116,7 +119,7 @@ impl Comparer {
             plain: plain::play,
             proved: ffi::play,
         };
-        self.play_by(player, image, used, own, plan)
+        self.play_by(player, image, known, used, own, plan)
     }
 
     /// Plays by a player.
@@ -124,6 +127,7 @@ impl Comparer {
         &mut self,
         player: Player,
         image: &[u8],
+        known: u64,
         used: u32,
         own: u32,
         plan: &[u8],
@@ -131,21 +135,27 @@ impl Comparer {
         let given = Lent::new(plan, GUARD_BYTE);
         let before = Lent::new(image, GUARD_BYTE);
         let (mut one, mut other, mut lent) = (before, before, given);
-        let answer = (player.plain)(one.lend(), used, own, plan);
-        let proved = (player.proved)(other.lend(), used, own, lent.lend());
+        let answer = (player.plain)(one.lend(), known, used, own, plan);
+        let proved = (player.proved)(other.lend(), known, used, own, lent.lend());
         let a = [answer.refusal, answer.field, answer.acknowledged];
         let b = [proved.refusal, proved.field, proved.acknowledged];
         let show = |what: &str| {
-            let (name, given) = (player.entry.name(), format!("{image:02X?} {used} {own}"));
-            format!("{name}, {what}: {a:?} {b:?} for {given} {plan:02X?}")
+            let name = player.entry.name();
+            let given = format!("{image:02X?} known {known:X} {used} {own} {plan:02X?}");
+            let flags = (answer.known, proved.known);
+            format!("{name}, {what}: {a:?} {b:?} {flags:X?} for {given}")
         };
         self.count(player.entry, answer.refusal, answer.field);
         self.expect(a == b, || show("answers"));
+        self.expect(answer.known == proved.known, || show("flags"));
+        let kept = proved.known & known == known && (proved.known ^ known) & !ALL_KNOWN == 0;
+        self.expect(kept, || show("flags handed in"));
         self.expect(one == other, || show("lent image"));
         self.expect(lent == given, || show("given memory"));
         if b[0] != 0 {
             self.expect(other == before, || show("image after a refusal"));
-            self.expect(b[2] == 0, || show("numbers after a refusal"));
+            let none = b[2] == 0 && proved.known == known;
+            self.expect(none, || show("numbers after a refusal"));
         }
         (answer, other)
     }
@@ -194,19 +204,17 @@ impl Comparer {
     }
 
     /// Reads. `settings` is what the lent settings hold before.
-    pub fn read(&mut self, image: &[u8], settings: &[i32]) -> (ReadAnswer, Lent<i32>) {
+    pub fn read(&mut self, image: &[u8], known: u64, settings: &[i32]) -> (ReadAnswer, Lent<i32>) {
         let given = Lent::new(image, GUARD_BYTE);
         let before = Lent::new(settings, GUARD_NUMBER);
         let (mut one, mut other, mut lent) = (before, before, given);
-        let answer = plain::read(image, one.lend());
-        let proved = ffi::read(lent.lend(), other.lend());
+        let answer = plain::read(image, known, one.lend());
+        let proved = ffi::read(lent.lend(), known, other.lend());
         let a = [answer.refusal, answer.field];
         let b = [proved.refusal, proved.field];
         let show = |what: &str| {
-            format!(
-                "read, {what}: {a:?} {b:?} for {image:02X?} length {}",
-                settings.len()
-            )
+            let given = format!("{image:02X?} known {known:X} length {}", settings.len());
+            format!("read, {what}: {a:?} {b:?} for {given}")
         };
         self.count(Entry::Read, answer.refusal, answer.field);
         self.expect(a == b, || show("answers"));

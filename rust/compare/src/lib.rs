@@ -5,14 +5,17 @@
 #![forbid(unsafe_code)]
 #![warn(missing_docs)]
 
+pub mod boards;
 pub mod caption_calls;
 pub mod captions;
 pub mod cases;
 pub mod comparer;
 pub mod damage;
+pub mod flags;
 pub mod lent;
 pub mod pairs;
 pub mod random;
+pub mod round;
 pub mod seeded;
 pub mod seeded_captions;
 pub mod sending;

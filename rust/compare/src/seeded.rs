@@ -1,19 +1,19 @@
 //! Seeded cases.
 
-use crate::cases::{self, Image, Numbers, ADDRESS, BEFORE, ROOM};
+use crate::cases::{self, Numbers, BEFORE, ROOM};
 use crate::comparer::Comparer;
 use crate::damage;
+use crate::flags;
 use crate::pairs;
 use crate::random::Random;
+use crate::round::{round, Made};
 use crate::sending;
 use plain::fields::SETTINGS;
 use plain::registers::REGISTERS;
-use plain::{least, search};
+use plain::ALL_KNOWN;
 
 /// One in so many cases has a wrong length, or a wrong address.
 const SELDOM: u64 = 24;
-/// One in so many plans is compared with the search over the whole chip.
-const SEARCHED: u64 = 16;
 /// The most bits that are wrong in an image near the wanted one.
 const FLIPPED: i32 = 6;
 /// The longest image or settings tried.
@@ -23,10 +23,9 @@ const LONGEST_PLAN: i32 = 44;
 /// What lent settings hold before.
 const NUMBER_BEFORE: i32 = -77;
 
-/// Seeded cases, with what they need.
+/// Seeded cases.
 pub struct Seeded {
     pub(crate) random: Random,
-    spans: Vec<u64>,
     /// Cases that were accepted.
     pub accepted: u64,
 }
@@ -36,7 +35,6 @@ impl Seeded {
     pub fn new(seed: u64) -> Seeded {
         Seeded {
             random: Random::new(seed),
-            spans: search::spans(0, REGISTERS - 1),
             accepted: 0,
         }
     }
@@ -80,9 +78,10 @@ impl Seeded {
         if self.random.once_in(4) {
             cases::spoil(&mut self.random, &mut settings);
         }
+        let known = flags::planning(&mut self.random);
         let room = match self.random.below(6) {
             0 => {
-                let length = cases::packed(&image, &settings).0.length as usize;
+                let length = cases::packed(&image, known, &settings).0.length as usize;
                 (length + self.random.below(4) as usize).saturating_sub(2)
             }
             _ => self.random.within(LONGEST_PLAN, ROOM as i32) as usize,
@@ -90,55 +89,20 @@ impl Seeded {
         let given = resized(&image, self.length(REGISTERS), 0);
         let numbers = resized(&settings, self.length(SETTINGS), 0);
         let address = self.address();
-        let (answer, plan) = comparer.plan(&given, &numbers, address, &[BEFORE; ROOM][..room]);
+        let room = &[BEFORE; ROOM][..room];
+        let (answer, plan) = comparer.plan(&given, known, &numbers, address, room);
         if answer.refusal != 0 {
             return false;
         }
-        let used = &plan.get()[..answer.length as usize];
-        self.round(
-            comparer,
-            &image,
-            used,
-            (answer.bus_bytes, answer.transactions),
-        );
+        let made = Made {
+            image: &image,
+            known,
+            settings: &settings,
+            plan: &plan.get()[..answer.length as usize],
+            cost: (answer.bus_bytes, answer.transactions),
+        };
+        round(comparer, &mut self.random, &made);
         true
-    }
-
-    /// Plays a plan just made, reads the image, and plans what was read.
-    fn round(&mut self, comparer: &mut Comparer, image: &Image, plan: &[u8], cost: (u32, u32)) {
-        let (played, lent) = comparer.play(image, ADDRESS, ADDRESS, plan);
-        let sound = (played.refusal, played.acknowledged) == (0, 1);
-        comparer.expect(sound, || {
-            format!("a plan isn't played: {image:02X?} {plan:02X?}")
-        });
-        let after: Image = lent.get().try_into().expect("an image's length");
-        let sent = sending::sent(comparer, image, plan);
-        comparer.expect(sent == (after, cost.0, cost.1), || {
-            format!("sent otherwise than played: {image:02X?} {plan:02X?}")
-        });
-        if self.random.once_in(SEARCHED) {
-            let needed = least::differing(image, &after);
-            let least = search::least(needed, &self.spans);
-            let found = least.map(|least| (least.bytes, least.transactions));
-            comparer.expect(found == Some(cost), || {
-                format!("not least: {needed:X} {cost:?} {found:?}")
-            });
-        }
-        let (read, numbers) = comparer.read(&after, &[NUMBER_BEFORE; SETTINGS]);
-        comparer.expect(read.refusal == 0, || {
-            format!("a wanted image isn't read: {after:02X?}")
-        });
-        let (again, plan) = comparer.plan(&after, numbers.get(), ADDRESS, &[BEFORE; 2]);
-        let nothing = (
-            again.refusal,
-            again.length,
-            again.transactions,
-            again.bus_bytes,
-        ) == (0, 1, 0, 0);
-        let nothing = nothing && plan.get() == [0x00, BEFORE];
-        comparer.expect(nothing, || {
-            format!("what was read isn't there: {after:02X?}")
-        });
     }
 
     /// Plays a plan of ours or of another make, sound or damaged.
@@ -149,7 +113,7 @@ impl Seeded {
         } else {
             let settings = cases::accepted(&mut self.random);
             let start = cases::near_image(&mut self.random, &settings, FLIPPED);
-            let (planned, bytes) = cases::packed(&start, &settings);
+            let (planned, bytes) = cases::packed(&start, ALL_KNOWN, &settings);
             bytes[..planned.length as usize].to_vec()
         };
         if self.random.once_in(4) {
@@ -163,7 +127,8 @@ impl Seeded {
         };
         let given = resized(&image, self.length(REGISTERS), 0);
         sending::asked(comparer, &mut self.random, &plan);
-        comparer.play(&given, used, own, &plan).0.refusal == 0
+        let known = flags::flags(&mut self.random, 0);
+        comparer.play(&given, known, used, own, &plan).0.refusal == 0
     }
 
     /// Reads an image that settings made, sound or damaged.
@@ -180,7 +145,8 @@ impl Seeded {
         }
         let given = resized(&image, self.length(REGISTERS), 0);
         let numbers = vec![NUMBER_BEFORE; self.length(SETTINGS)];
-        comparer.read(&given, &numbers).0.refusal == 0
+        let known = flags::reading(&mut self.random);
+        comparer.read(&given, known, &numbers).0.refusal == 0
     }
 
     /// Compares two images: equal, near or far.

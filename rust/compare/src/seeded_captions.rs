@@ -7,14 +7,17 @@ use crate::captions::{
 use crate::cases::{self, Image, BEFORE};
 use crate::comparer::Comparer;
 use crate::damage::{self, packed};
+use crate::flags;
 use crate::random::Random;
 use crate::seeded::{resized, Seeded};
 use crate::sending;
-use plain::registers::{CAPTIONS, CAPTION_BYTES, REGISTERS};
-use plain::{with_parity, CAPTION_ROOM, PAIR};
+use plain::registers::{span, CAPTIONS, CAPTION_BYTES, REGISTERS};
+use plain::{with_parity, ALL_KNOWN, CAPTION_ROOM, PAIR};
 
 /// One in so many counts of characters, and of pairs that are read, is any; one in twice as many characters.
 const SELDOM: u64 = 12;
+/// The caption registers.
+const CAPTION_MAP: u64 = span(CAPTIONS, CAPTION_BYTES);
 
 /// A pair: two characters or none, seldom another count, or a number that is no character.
 fn pair(random: &mut Random) -> Vec<i32> {
@@ -84,7 +87,8 @@ impl Seeded {
         }
         let plan = &lent.get()[..answer.length as usize];
         let image = cases::any_image(&mut self.random);
-        let (played, after) = comparer.play_captions(&image, address, address, plan);
+        let flags = flags::flags(&mut self.random, 0);
+        let (played, after) = comparer.play_captions(&image, flags, address, address, plan);
         let taken = (played.refusal, played.acknowledged) == (0, 1);
         comparer.expect(taken, || format!("captions aren't played: {plan:02X?}"));
         let after: Image = after.get().try_into().expect("an image's length");
@@ -94,7 +98,7 @@ impl Seeded {
             format!("sent otherwise than played: {plan:02X?}")
         });
         for (number, given) in [(EXTENDED, extended), (ORDINARY, ordinary)] {
-            let read = comparer.read_captions(&after, number);
+            let read = comparer.read_captions(&after, played.known, number);
             let back = [read.first as i32, read.second as i32];
             let same = given.is_empty() || read.refusal == 0 && given == back;
             comparer.expect(same, || format!("not read back: {given:?} {read:?}"));
@@ -109,7 +113,8 @@ impl Seeded {
             0 => damage::foreign(random),
             1 => {
                 let settings = cases::accepted(random);
-                let (answer, bytes) = cases::packed(&cases::any_image(random), &settings);
+                let (answer, bytes) =
+                    cases::packed(&cases::any_image(random), ALL_KNOWN, &settings);
                 bytes[..answer.length as usize].to_vec()
             }
             2 => near(random),
@@ -129,7 +134,8 @@ impl Seeded {
             used
         };
         let given = resized(&image, self.length(REGISTERS), 0);
-        comparer.play_both(&given, used, own, &plan).refusal == 0
+        let known = flags::flags(&mut self.random, 0);
+        comparer.play_both(&given, known, used, own, &plan).refusal == 0
     }
 
     /// Reads a pair of an image, with or without characters in it.
@@ -145,6 +151,7 @@ impl Seeded {
             self.random.one_of(&[EXTENDED, ORDINARY])
         };
         let given = resized(&image, self.length(REGISTERS), 0);
-        comparer.read_captions(&given, number).refusal == 0
+        let known = flags::flags(&mut self.random, CAPTION_MAP);
+        comparer.read_captions(&given, known, number).refusal == 0
     }
 }

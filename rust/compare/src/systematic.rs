@@ -1,8 +1,10 @@
 //! Systematic cases: every length, address, bit, byte and number near a limit.
 
+use crate::boards;
 use crate::captions;
 use crate::cases::{self, Image, Numbers, ADDRESS, BEFORE, ROOM};
 use crate::comparer::Comparer;
+use crate::flags::{self, PARTS};
 use crate::pairs;
 use crate::random::Random;
 use crate::seeded::resized;
@@ -10,6 +12,7 @@ use crate::sending;
 use plain::fields::{self as at, SETTINGS};
 use plain::registers::{self as reg, REGISTERS};
 use plain::signal::LAST_PAYLOAD;
+use plain::ALL_KNOWN;
 
 /// The longest image or settings tried.
 const LONGEST: usize = 60;
@@ -52,6 +55,7 @@ pub fn all(comparer: &mut Comparer, seed: u64) {
     signalling_images(comparer, &mut random);
     pairs::all(comparer, &mut random);
     captions::all(comparer, &mut random);
+    boards::all(comparer, &mut random);
 }
 
 /// A sound case: an image, settings and the image they make.
@@ -61,32 +65,33 @@ fn sound(random: &mut Random) -> (Image, Numbers, Image) {
     (image, settings, cases::settled(&image, &settings))
 }
 
-/// Every length of image and of settings, everything else sound or wrong.
+/// Every length of image and of settings, everything else sound or wrong, all registers known
+/// or none.
 fn lengths(comparer: &mut Comparer, random: &mut Random) {
     let (image, settings, settled) = sound(random);
     let mut wrong = settings;
     wrong[at::STANDARD] = -1;
     let mut reserved = settled;
     reserved[reg::MODE_0] |= reg::STANDARD_BITS;
-    for length in 0..=LONGEST {
+    for (length, known) in (0..=LONGEST).flat_map(|length| [(length, ALL_KNOWN), (length, 0)]) {
         let given = resized(&image, length, 0);
         let made = resized(&settled, length, 0);
         let fewer = resized(&settings, length, 0);
         for address in [ADDRESS, ADDRESS + 1] {
             for numbers in [&settings, &wrong] {
-                comparer.plan(&given, numbers, address, &[BEFORE; ROOM]);
-                comparer.plan(&given, numbers, address, &[]);
+                comparer.plan(&given, known, numbers, address, &[BEFORE; ROOM]);
+                comparer.plan(&given, known, numbers, address, &[]);
             }
-            comparer.plan(&given, &fewer, address, &[BEFORE; ROOM]);
-            comparer.plan(&image, &fewer, address, &[BEFORE; ROOM]);
-            comparer.plan(&image, &fewer, address, &[]);
-            comparer.play(&given, address, ADDRESS, &[0x00]);
-            comparer.play(&given, ADDRESS, address, &[0x01]);
+            comparer.plan(&given, known, &fewer, address, &[BEFORE; ROOM]);
+            comparer.plan(&image, known, &fewer, address, &[BEFORE; ROOM]);
+            comparer.plan(&image, known, &fewer, address, &[]);
+            comparer.play(&given, known, address, ADDRESS, &[0x00]);
+            comparer.play(&given, known, ADDRESS, address, &[0x01]);
         }
         for lent in [SETTINGS, length] {
-            comparer.read(&made, &vec![BEFORE as i32; lent]);
-            comparer.read(&settled, &vec![BEFORE as i32; lent]);
-            comparer.read(&reserved, &vec![BEFORE as i32; lent]);
+            comparer.read(&made, known, &vec![BEFORE as i32; lent]);
+            comparer.read(&settled, known, &vec![BEFORE as i32; lent]);
+            comparer.read(&reserved, known, &vec![BEFORE as i32; lent]);
         }
     }
 }
@@ -101,14 +106,15 @@ pub(crate) fn every_address() -> impl Iterator<Item = u32> {
 /// Many addresses, for each place of one.
 fn addresses(comparer: &mut Comparer, random: &mut Random) {
     let (image, settings, _) = sound(random);
-    let (planned, bytes) = cases::packed(&image, &settings);
+    let (planned, bytes) = cases::packed(&image, ALL_KNOWN, &settings);
     let plan = &bytes[..planned.length as usize];
     for address in every_address() {
-        comparer.plan(&image, &settings, address, &[BEFORE; ROOM]);
+        let known = flags::planning(random);
+        comparer.plan(&image, known, &settings, address, &[BEFORE; ROOM]);
         for bytes in [plan, &[0x00], &[0x01], &[]] {
-            comparer.play(&image, address, ADDRESS, bytes);
-            comparer.play(&image, ADDRESS, address, bytes);
-            comparer.play(&image, address, address, bytes);
+            comparer.play(&image, known, address, ADDRESS, bytes);
+            comparer.play(&image, known, ADDRESS, address, bytes);
+            comparer.play(&image, known, address, address, bytes);
         }
     }
 }
@@ -117,23 +123,24 @@ fn addresses(comparer: &mut Comparer, random: &mut Random) {
 fn plans(comparer: &mut Comparer, random: &mut Random) {
     let settings = cases::accepted(random);
     let image = cases::near_image(random, &settings, FLIPPED);
-    let (planned, bytes) = cases::packed(&image, &settings);
+    let known = flags::planning(random) | PARTS;
+    let (planned, bytes) = cases::packed(&image, known, &settings);
     let plan = &bytes[..planned.length as usize];
     for room in 0..=plan.len() + 3 {
-        comparer.plan(&image, &settings, ADDRESS, &bytes[..room]);
-        comparer.plan(&image, &settings, ADDRESS, &[BEFORE; ROOM][..room]);
+        comparer.plan(&image, known, &settings, ADDRESS, &bytes[..room]);
+        comparer.plan(&image, known, &settings, ADDRESS, &[BEFORE; ROOM][..room]);
     }
     for length in 0..=plan.len() + 3 {
         for more in [0x00, 0x01, 0xFF] {
             let resized = resized(plan, length, more);
-            comparer.play(&image, ADDRESS, ADDRESS, &resized);
+            comparer.play(&image, known, ADDRESS, ADDRESS, &resized);
             sending::every(comparer, &resized);
         }
     }
     for place in 0..8 * plan.len() {
         let mut flipped = plan.to_vec();
         flipped[place / 8] ^= 0x80 >> (place % 8);
-        comparer.play(&image, ADDRESS, ADDRESS, &flipped);
+        comparer.play(&image, known, ADDRESS, ADDRESS, &flipped);
         sending::every(comparer, &flipped);
     }
 }
@@ -142,23 +149,26 @@ fn plans(comparer: &mut Comparer, random: &mut Random) {
 fn short_plans(comparer: &mut Comparer, random: &mut Random) {
     let image = cases::any_image(random);
     for word in 0..=u16::MAX {
-        comparer.play(&image, ADDRESS, ADDRESS, &word.to_be_bytes());
+        comparer.play(&image, random.bits(), ADDRESS, ADDRESS, &word.to_be_bytes());
         comparer.transaction(&word.to_be_bytes(), 0, &[BEFORE; 2]);
     }
     for byte in 0..=u8::MAX {
-        comparer.play(&image, ADDRESS, ADDRESS, &[byte]);
-        comparer.play(&image, ADDRESS, ADDRESS + 2, &[byte]);
+        let known = random.bits();
+        comparer.play(&image, known, ADDRESS, ADDRESS, &[byte]);
+        comparer.play(&image, known, ADDRESS, ADDRESS + 2, &[byte]);
         sending::every(comparer, &[byte]);
         // One transaction of one byte, or of four, at each subaddress.
         let second = (byte & 0x0F) << 4;
         comparer.play(
             &image,
+            known,
             ADDRESS,
             ADDRESS,
             &[0x04 | byte >> 6, byte << 2, 0x40 | second >> 4, second],
         );
         comparer.play(
             &image,
+            known,
             ADDRESS,
             ADDRESS,
             &[
@@ -189,7 +199,8 @@ fn numbers(comparer: &mut Comparer, random: &mut Random, base: usize) {
         for value in TRIED.chain(WIDE) {
             let mut changed = settings;
             changed[place] = value;
-            comparer.plan(&image, &changed, ADDRESS, &[BEFORE; ROOM]);
+            let known = flags::planning(random) | PARTS;
+            comparer.plan(&image, known, &changed, ADDRESS, &[BEFORE; ROOM]);
         }
     }
     for p in -1..=5 {
@@ -197,7 +208,7 @@ fn numbers(comparer: &mut Comparer, random: &mut Random, base: usize) {
             for kind in [at::CURVE_A, at::CURVE_B] {
                 let mut changed = settings;
                 changed[kind..][..at::CURVE_FIRST].copy_from_slice(&[at::RATIO, p, q]);
-                comparer.plan(&image, &changed, ADDRESS, &[BEFORE; ROOM]);
+                comparer.plan(&image, ALL_KNOWN, &changed, ADDRESS, &[BEFORE; ROOM]);
             }
         }
     }
@@ -214,7 +225,9 @@ fn registers(comparer: &mut Comparer, random: &mut Random, base: usize) {
         for byte in 0..=u8::MAX {
             let mut changed = image;
             changed[register] = byte;
-            comparer.read(&changed, &[BEFORE as i32; SETTINGS]);
+            for known in [ALL_KNOWN, flags::reading(random)] {
+                comparer.read(&changed, known, &[BEFORE as i32; SETTINGS]);
+            }
         }
     }
 }
@@ -240,18 +253,16 @@ fn signalling_settings(comparer: &mut Comparer, random: &mut Random) {
                 ] {
                     settings[at::SIGNALLING..=at::CHIP_CHECK]
                         .copy_from_slice(&[kind, payload, odd, even, check]);
-                    comparer.plan(&image, &settings, ADDRESS, &[BEFORE; ROOM]);
+                    let known = flags::planning(random) | PARTS;
+                    comparer.plan(&image, known, &settings, ADDRESS, &[BEFORE; ROOM]);
                 }
             }
         }
-        let kind = if standard == at::PAL {
-            at::WSS
-        } else {
-            at::CGMS
-        };
+        let kind = [at::CGMS, at::WSS][standard as usize];
         for payload in 0..=LAST_PAYLOAD {
             settings[at::SIGNALLING..=at::CHIP_CHECK].copy_from_slice(&[kind, payload, 1, 0, 0]);
-            comparer.plan(&image, &settings, ADDRESS, &[BEFORE; ROOM]);
+            let known = flags::planning(random) | PARTS;
+            comparer.plan(&image, known, &settings, ADDRESS, &[BEFORE; ROOM]);
         }
     }
 }
@@ -269,14 +280,11 @@ fn signalling_images(comparer: &mut Comparer, random: &mut Random) {
             [image[reg::SIGNAL_TOP], image[reg::SIGNAL_MIDDLE]] = pair.to_be_bytes();
             for low in LOWS {
                 image[reg::SIGNAL_LOW] = low;
-                comparer.read(&image, &[BEFORE as i32; SETTINGS]);
+                let known = ALL_KNOWN | random.bits();
+                comparer.read(&image, known, &[BEFORE as i32; SETTINGS]);
             }
         }
-        let kind = if standard == at::PAL {
-            at::WSS
-        } else {
-            at::CGMS
-        };
+        let kind = [at::CGMS, at::WSS][standard as usize];
         for payload in 0..=LAST_PAYLOAD {
             settings[at::SIGNALLING..=at::CHIP_CHECK].copy_from_slice(&[
                 kind,
@@ -286,7 +294,7 @@ fn signalling_images(comparer: &mut Comparer, random: &mut Random) {
                 payload & 1,
             ]);
             let image = cases::settled(&image, &settings);
-            comparer.read(&image, &[BEFORE as i32; SETTINGS]);
+            comparer.read(&image, ALL_KNOWN, &[BEFORE as i32; SETTINGS]);
         }
     }
 }

@@ -53,20 +53,30 @@ const NAMES: [&str; ENTRIES] = [
     "read_captions",
 ];
 /// Numbers of refusals, none among them.
-const REFUSALS: usize = 11;
+const REFUSALS: usize = 12;
 /// Numbers of fields, none among them.
 const FIELDS: usize = 30;
 /// The refusal of a number outside its range.
 const RANGE: u32 = 3;
+/// The refusal of an unknown register.
+const UNKNOWN: u32 = 11;
+/// Fields that are the first of a register, for reading.
+const FIRST_OF_REGISTER: [u32; 18] = [
+    1, 2, 3, 5, 10, 11, 12, 13, 14, 15, 16, 17, 18, 20, 23, 26, 27, 28,
+];
 /// The last field that settings have.
 const LAST_SET: u32 = 27;
 
 /// Planning: at no field, and at one. Refusal 3 can occur at every field that
 /// is set, and for another length than 49.
-const PLAN: [(u32, u32); 12] = [
+const PLAN: [(u32, u32); 16] = [
     (1, 0),
     (2, 0),
     (10, 0),
+    (UNKNOWN, 1),
+    (UNKNOWN, 2),
+    (UNKNOWN, 3),
+    (UNKNOWN, 11),
     (4, 1),
     (5, 3),
     (6, 4),
@@ -79,7 +89,8 @@ const PLAN: [(u32, u32); 12] = [
 ];
 /// Playing, settings or captions.
 const PLAY: [(u32, u32); 3] = [(1, 0), (2, 0), (9, 0)];
-/// Reading. Fields whose every code has a setting aren't among them.
+/// Reading, where all registers are known. Fields whose every code has a setting
+/// aren't among them.
 const READ: [(u32, u32); 19] = [
     (1, 0),
     (3, 0),
@@ -109,7 +120,7 @@ const COMPARE: [(u32, u32); 1] = [(1, 0)];
 /// Planning captions.
 const PLAN_CAPTIONS: [(u32, u32); 3] = [(2, 0), (3, 29), (10, 0)];
 /// Reading captions.
-const READ_CAPTIONS: [(u32, u32); 3] = [(1, 0), (3, 29), (4, 29)];
+const READ_CAPTIONS: [(u32, u32); 4] = [(1, 0), (3, 29), (UNKNOWN, 29), (4, 29)];
 
 /// Counts by entry, refusal and field.
 pub struct Tally([[[u64; FIELDS]; REFUSALS]; ENTRIES]);
@@ -163,7 +174,9 @@ fn can_be(entry: Entry, refusal: u32, field: u32) -> bool {
     let listed = match entry {
         Entry::Plan => PLAN.contains(&pair) || refusal == RANGE && field <= LAST_SET,
         Entry::Play | Entry::PlayCaptions => PLAY.contains(&pair),
-        Entry::Read => READ.contains(&pair),
+        Entry::Read => {
+            READ.contains(&pair) || refusal == UNKNOWN && FIRST_OF_REGISTER.contains(&field)
+        }
         Entry::Transaction => TRANSACTION.contains(&pair),
         Entry::Compare => COMPARE.contains(&pair),
         Entry::PlanCaptions => PLAN_CAPTIONS.contains(&pair),

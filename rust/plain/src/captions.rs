@@ -1,13 +1,14 @@
 //! Captions: the extended pair of characters and the ordinary one, each written
 //! by a transaction of its own.
 
+use crate::board::Board;
 use crate::fields::number;
 use crate::least;
 use crate::pack::{BYTE_BITS, HEAD_BITS};
 use crate::plan::PlanAnswer;
-use crate::play::PlayAnswer;
+use crate::play::{PlayAnswer, Played};
 use crate::refusal::{self, check_address, demand, Refusal};
-use crate::registers::{CAPTIONS, REGISTERS};
+use crate::registers::{span, CAPTIONS};
 
 /// Characters of a pair.
 pub const PAIR: usize = 2;
@@ -166,36 +167,43 @@ fn unpack(plan: &[u8]) -> Option<Given> {
     })
 }
 
-/// Plays a packed plan of captions, sent to the address `used`, on a chip
-/// holding `image` whose own address is `own`. Checks 1, 2 for either address,
-/// then 9: for every plan that planning captions doesn't give.
-pub fn play_captions(image: &mut [u8], used: u32, own: u32, plan: &[u8]) -> PlayAnswer {
-    PlayAnswer::of(played(image, used, own, plan))
+/// Plays a packed plan of captions, sent to the address `used`, on a chip holding
+/// `image` in its `known` registers, whose own address is `own`. Checks 1, 2 for
+/// either address, then 9: for every plan that planning captions doesn't give.
+pub fn play_captions(image: &mut [u8], known: u64, used: u32, own: u32, plan: &[u8]) -> PlayAnswer {
+    PlayAnswer::of(played(image, known, used, own, plan), known)
 }
 
 /// Playing captions, with its refusal as an error.
-fn played(image: &mut [u8], used: u32, own: u32, plan: &[u8]) -> Result<bool, Refusal> {
-    let image: &mut [u8; REGISTERS] = image
-        .try_into()
-        .map_err(|_| Refusal::bare(refusal::IMAGE_LENGTH))?;
+fn played(
+    image: &mut [u8],
+    known: u64,
+    used: u32,
+    own: u32,
+    plan: &[u8],
+) -> Result<Played, Refusal> {
+    Board::of(image, known)?;
     check_address(used)?;
     check_address(own)?;
     let given = unpack(plan).ok_or(Refusal::bare(refusal::PLAN_BYTES))?;
-    if used != own {
-        return Ok(false);
-    }
+    let (acknowledged, mut stored) = (used == own, 0);
     for (first, pair) in FIRSTS.into_iter().zip(given) {
-        if let Some(data) = pair {
+        if let Some(data) = pair.filter(|_| acknowledged) {
             image[first..][..PAIR].copy_from_slice(&data);
+            stored |= span(first, PAIR);
         }
     }
-    Ok(true)
+    Ok(Played {
+        acknowledged,
+        stored,
+    })
 }
 
-/// Reads a pair back: 0 is the extended one, 1 the ordinary one. Checks 1, 3 at
-/// field 29 for another pair, then 4 at field 29 for an even number of ones.
-pub fn read_captions(image: &[u8], pair: u32) -> CaptionsAnswer {
-    match characters(image, pair) {
+/// Reads a pair back: 0 is the extended one, 1 the ordinary one. Checks 1, then
+/// at field 29: 3 for another pair, 11 for a register of the pair that isn't
+/// `known`, 4 for an even number of ones.
+pub fn read_captions(image: &[u8], known: u64, pair: u32) -> CaptionsAnswer {
+    match characters(image, known, pair) {
         Ok([first, second]) => CaptionsAnswer {
             first: first.into(),
             second: second.into(),
@@ -210,12 +218,11 @@ pub fn read_captions(image: &[u8], pair: u32) -> CaptionsAnswer {
 }
 
 /// A pair's characters, with the refusal as an error.
-fn characters(image: &[u8], pair: u32) -> Result<[u8; PAIR], Refusal> {
-    let image: &[u8; REGISTERS] = image
-        .try_into()
-        .map_err(|_| Refusal::bare(refusal::IMAGE_LENGTH))?;
-    let first = FIRSTS.get(pair as usize).ok_or(OUT_OF_RANGE)?;
-    let bytes = [image[*first], image[first + 1]];
+fn characters(image: &[u8], known: u64, pair: u32) -> Result<[u8; PAIR], Refusal> {
+    let board = Board::of(image, known)?;
+    let &first = FIRSTS.get(pair as usize).ok_or(OUT_OF_RANGE)?;
+    board.demand_known(first, PAIR, number::CAPTIONS)?;
+    let bytes = [board.registers[first], board.registers[first + 1]];
     let odd = bytes.into_iter().all(is_odd);
     demand(odd, refusal::RESERVED, number::CAPTIONS)?;
     Ok(bytes.map(|byte| byte & !PARITY_BIT))

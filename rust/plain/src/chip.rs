@@ -1,6 +1,6 @@
 //! The chip at its events on the bus.
 
-use crate::registers::{READ_ONLY, REGISTERS};
+use crate::registers::{span, READ_ONLY, REGISTERS};
 
 /// What happens on the bus.
 #[derive(Clone, Copy, Debug, PartialEq, Eq)]
@@ -54,6 +54,8 @@ const LAST: usize = REGISTERS - 1;
 pub struct Chip {
     /// Its registers.
     pub registers: [u8; REGISTERS],
+    /// Flags: bit r is set where register r is known. A stored byte makes it so.
+    pub known: u64,
     /// The register that is written or read next.
     pub pointer: usize,
     /// What it does or waits for.
@@ -64,9 +66,10 @@ pub struct Chip {
 
 impl Chip {
     /// A fresh chip: idle, pointer 00.
-    pub fn fresh(own: u8, registers: [u8; REGISTERS]) -> Chip {
+    pub fn fresh(own: u8, registers: [u8; REGISTERS], known: u64) -> Chip {
         Chip {
             registers,
+            known,
             pointer: 0,
             phase: Phase::Idle,
             own,
@@ -119,6 +122,7 @@ impl Chip {
             Phase::Data if self.pointer <= LAST => {
                 if self.pointer != READ_ONLY {
                     self.registers[self.pointer] = byte;
+                    self.known |= span(self.pointer, 1);
                 }
                 self.pointer += 1;
                 Some(Phase::Data)

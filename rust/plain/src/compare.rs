@@ -1,6 +1,7 @@
 //! Two images side by side: the fields that differ, and the registers that
 //! differ in bits outside all fields.
 
+use crate::board::ALL_KNOWN;
 use crate::fields::SETTINGS;
 use crate::read::read;
 use crate::refusal;
@@ -11,8 +12,6 @@ pub const LAST_FIELD: u32 = 28;
 
 /// A whole register.
 const WHOLE: u8 = 0xFF;
-/// Registers of signalling.
-const SIGNAL_BYTES: usize = 3;
 
 /// Where a field is: its first register, how many registers it has, and its
 /// bits in each of them.
@@ -35,7 +34,7 @@ const PLACES: [Place; LAST_FIELD as usize] = [
     ),
     (reg::MODE_5, 1, reg::BACK_PORCH_BIT),
     (reg::PHASE, 1, WHOLE),
-    (reg::SIGNAL_TOP, SIGNAL_BYTES, WHOLE),
+    (reg::SIGNAL_TOP, reg::SIGNAL_BYTES, WHOLE),
     (reg::CONTRAST, 1, WHOLE),
     (reg::U_SCALE, 1, WHOLE),
     (reg::V_SCALE, 1, WHOLE),
@@ -108,7 +107,7 @@ pub fn outside(register: usize) -> u8 {
         .fold(0, |bits, place| bits | place.2)
 }
 
-/// Whether reading accepts an image.
+/// Whether reading accepts an image, known in full.
 fn is_read(image: &[u8]) -> bool {
-    read(image, &mut [0; SETTINGS]).refusal == 0
+    read(image, ALL_KNOWN, &mut [0; SETTINGS]).refusal == 0
 }

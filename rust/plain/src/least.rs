@@ -40,14 +40,14 @@ fn nonzero_bytes(chunk: u64) -> u64 {
     (top_bits >> (BYTE_BITS - 1)).wrapping_mul(GATHER) >> (u64::BITS - BYTE_BITS)
 }
 
-/// The registers that the least plan writes for these needed ones. The word is
-/// whole. A gap of one is a byte cheaper bridged, a gap of two as cheap with a
-/// transaction less; wider ones are dearer.
+/// The registers that the least plan writes for these needed ones, where only
+/// `open` ones may be written. The word is whole. A gap of one is a byte cheaper
+/// bridged, a gap of two as cheap with a transaction less; wider ones are dearer.
 #[inline]
-pub fn written(needed: u64) -> u64 {
+pub fn written(needed: u64, open: u64) -> u64 {
     let touches = needed & WORD_MAP != 0;
     let map = if touches { needed | WORD_MAP } else { needed };
-    let free = !BARRED_MAP;
+    let free = open & !BARRED_MAP;
     let single = map << 1 & map >> 1 & free;
     let pair = map << 1 & map >> 2 & free & free >> 1;
     map | single | pair | pair << 1

@@ -1,5 +1,6 @@
 //! Planning, playing, reading back and comparing settings of one ADV7194, and
-//! its captions, in plain Rust.
+//! its captions, in plain Rust. All but comparing take a board of which only
+//! some registers may be known.
 //!
 //! Written from the papers alone. It shares no code and no table with the
 //! proved library: it is what that library is compared with, and timed against.
@@ -17,10 +18,12 @@ pub mod search;
 pub mod signal;
 pub mod subcarrier;
 
+mod board;
 mod caption_listing;
 mod captions;
 mod check;
 mod compare;
+mod fixed;
 mod pack;
 mod plan;
 mod play;
@@ -30,6 +33,7 @@ mod transaction;
 mod unpack;
 mod wanted;
 
+pub use board::ALL_KNOWN;
 pub use caption_listing::caption_listing;
 pub use captions::{is_odd, plan_captions, play_captions, read_captions, with_parity};
 pub use captions::{CaptionsAnswer, CAPTION_ROOM, PAIR};

@@ -1,10 +1,11 @@
-//! Planning: from an image and settings to the packed least plan.
+//! Planning: from a board and settings to the packed least plan.
 
+use crate::board::Board;
 use crate::check::{check_fields, numbers_of};
+use crate::fixed::{check_parts, unknown_and_whole};
 use crate::least;
 use crate::pack;
 use crate::refusal::{self, check_address, Refusal};
-use crate::registers::REGISTERS;
 use crate::wanted::wanted;
 
 /// What planning answers. After a refusal all but the first two are 0.
@@ -34,27 +35,36 @@ impl PlanAnswer {
 }
 
 /// Packs into `plan` the least list of transactions that brings a chip holding
-/// `image` to the settings. Checks 1, 2, the fields in order, then 10.
-pub fn plan(image: &[u8], settings: &[i32], address: u32, plan: &mut [u8]) -> PlanAnswer {
-    planned(image, settings, address, plan).unwrap_or_else(PlanAnswer::refused)
+/// `image` in its `known` registers to the settings. Checks 1, 2, the fields in
+/// order, 11 for registers fixed only in part, then 10.
+pub fn plan(
+    image: &[u8],
+    known: u64,
+    settings: &[i32],
+    address: u32,
+    plan: &mut [u8],
+) -> PlanAnswer {
+    planned(image, known, settings, address, plan).unwrap_or_else(PlanAnswer::refused)
 }
 
 /// Planning, with its refusal as an error.
 #[inline]
 fn planned(
     image: &[u8],
+    known: u64,
     settings: &[i32],
     address: u32,
     plan: &mut [u8],
 ) -> Result<PlanAnswer, Refusal> {
-    let image: &[u8; REGISTERS] = image
-        .try_into()
-        .map_err(|_| Refusal::bare(refusal::IMAGE_LENGTH))?;
+    let board = Board::of(image, known)?;
     check_address(address)?;
     let numbers = numbers_of(settings)?;
     check_fields(numbers)?;
-    let wanted = wanted(image, numbers);
-    let map = least::written(least::differing(image, &wanted));
+    check_parts(board, numbers)?;
+    let wanted = wanted(board.registers, numbers);
+    let changed = least::differing(board.registers, &wanted) & known;
+    let needed = changed | unknown_and_whole(known, numbers);
+    let map = least::written(needed, needed | known);
     let transactions = least::runs(map);
     let data = map.count_ones();
     let length = pack::length(transactions, data);

@@ -1,5 +1,6 @@
-//! Reading: from an image back to settings, or the first field at fault.
+//! Reading: from a board back to settings, or the first field at fault.
 
+use crate::board::{Board, ALL_KNOWN};
 use crate::check::numbers_of;
 use crate::codes;
 use crate::fields::{self as at, number, SETTINGS};
@@ -28,10 +29,11 @@ pub struct ReadAnswer {
     pub field: u32,
 }
 
-/// Writes into `settings` what `image` is set to. Checks 1, the length lent,
-/// then the fields in order to 28.
-pub fn read(image: &[u8], settings: &mut [i32]) -> ReadAnswer {
-    match settings_of(image, settings) {
+/// Writes into `settings` what a chip holding `image` in its `known` registers is
+/// set to. Checks 1, the length lent, then the fields in order to 28, each by 11
+/// for an unknown register before all else.
+pub fn read(image: &[u8], known: u64, settings: &mut [i32]) -> ReadAnswer {
+    match settings_of(image, known, settings) {
         Ok(numbers) => {
             settings.copy_from_slice(&numbers);
             ReadAnswer::default()
@@ -45,21 +47,33 @@ pub fn read(image: &[u8], settings: &mut [i32]) -> ReadAnswer {
 
 /// Reading, with its refusal as an error.
 #[inline]
-fn settings_of(image: &[u8], settings: &[i32]) -> Result<[i32; SETTINGS], Refusal> {
-    let image: &[u8; REGISTERS] = image
-        .try_into()
-        .map_err(|_| Refusal::bare(refusal::IMAGE_LENGTH))?;
+fn settings_of(image: &[u8], known: u64, settings: &[i32]) -> Result<[i32; SETTINGS], Refusal> {
+    let board = Board::of(image, known)?;
     numbers_of(settings)?;
+    if known & ALL_KNOWN == ALL_KNOWN {
+        // No field asks then, which the compiler sees by these flags.
+        let known = u64::MAX;
+        return fields_of(Board { known, ..board });
+    }
+    fields_of(board)
+}
+
+/// The settings of a board, field by field.
+#[inline(always)]
+fn fields_of(board: Board) -> Result<[i32; SETTINGS], Refusal> {
     let mut s = [0; SETTINGS];
-    read_modes(image, &mut s)?;
-    read_levels(image, &mut s)?;
-    read_signalling(image, &mut s)?;
-    read_picture(image, &mut s)?;
-    read_dnr(image, &mut s)?;
-    read_curve(image, reg::CURVE_A, &mut s, at::CURVE_A);
-    read_curve(image, reg::CURVE_B, &mut s, at::CURVE_B);
+    read_modes(board, &mut s)?;
+    read_levels(board, &mut s)?;
+    read_signalling(board, &mut s)?;
+    read_picture(board, &mut s)?;
+    read_dnr(board, &mut s)?;
+    board.demand_known(reg::CURVE_A, CURVE_BYTES, number::CURVE_A)?;
+    read_curve(board.registers, reg::CURVE_A, &mut s, at::CURVE_A);
+    board.demand_known(reg::CURVE_B, CURVE_BYTES, number::CURVE_B)?;
+    read_curve(board.registers, reg::CURVE_B, &mut s, at::CURVE_B);
+    board.demand_known(reg::WORD, WORD_BYTES, number::WORD)?;
     let word = subcarrier::word(s[at::STANDARD] == at::PAL, s[at::SQUARE] != 0);
-    let agrees = image[reg::WORD..][..WORD_BYTES] == word.to_le_bytes();
+    let agrees = board.registers[reg::WORD..][..WORD_BYTES] == word.to_le_bytes();
     demand(agrees, refusal::DISAGREES, number::WORD)?;
     Ok(s)
 }
@@ -72,14 +86,18 @@ fn yes(register: u8, bit: u8) -> i32 {
 
 /// Fields 1 to 4.
 #[inline(always)]
-fn read_modes(image: &[u8; REGISTERS], s: &mut [i32; SETTINGS]) -> Result<(), Refusal> {
+fn read_modes(board: Board, s: &mut [i32; SETTINGS]) -> Result<(), Refusal> {
+    let image = board.registers;
+    board.demand_known(reg::MODE_0, 1, number::STANDARD)?;
     s[at::STANDARD] = (image[reg::MODE_0] & reg::STANDARD_BITS) as i32;
     demand(
         s[at::STANDARD] <= at::PAL,
         refusal::RESERVED,
         number::STANDARD,
     )?;
+    board.demand_known(reg::MODE_2, 1, number::SQUARE)?;
     s[at::SQUARE] = yes(image[reg::MODE_2], reg::SQUARE_BIT);
+    board.demand_known(reg::MODE_1, 1, number::FOUR_TIMES)?;
     s[at::FOUR_TIMES] = yes(image[reg::MODE_1], reg::FOUR_TIMES_BIT);
     let apart = s[at::SQUARE] & s[at::FOUR_TIMES] == 0;
     demand(apart, refusal::SQUARE_FOUR_TIMES, number::FOUR_TIMES)?;
@@ -90,8 +108,9 @@ fn read_modes(image: &[u8; REGISTERS], s: &mut [i32; SETTINGS]) -> Result<(), Re
 
 /// Fields 5 to 10.
 #[inline(always)]
-fn read_levels(image: &[u8; REGISTERS], s: &mut [i32; SETTINGS]) -> Result<(), Refusal> {
-    let mode = image[reg::MODE_5];
+fn read_levels(board: Board, s: &mut [i32; SETTINGS]) -> Result<(), Refusal> {
+    board.demand_known(reg::MODE_5, 1, number::Y_LEVEL)?;
+    let mode = board.registers[reg::MODE_5];
     s[at::Y_LEVEL] = yes(mode, reg::Y_LEVEL_BIT);
     let uv = mode >> reg::UV_LEVEL_SHIFT & reg::TWO_BITS;
     s[at::UV_LEVEL] = uv as i32;
@@ -103,14 +122,17 @@ fn read_levels(image: &[u8; REGISTERS], s: &mut [i32; SETTINGS]) -> Result<(), R
     demand(sound, refusal::RESERVED, number::CLAMP_DELAY)?;
     s[at::CLAMP_DELAY] = if negative { -delay } else { delay };
     s[at::BACK_PORCH] = yes(mode, reg::BACK_PORCH_BIT);
-    s[at::PHASE] = image[reg::PHASE] as i32;
+    board.demand_known(reg::PHASE, 1, number::PHASE)?;
+    s[at::PHASE] = board.registers[reg::PHASE] as i32;
     Ok(())
 }
 
-/// Field 11: first 7, then 4, then 8.
+/// Field 11: first 11, off or not, then 7, then 4, then 8.
 #[inline(always)]
-fn read_signalling(image: &[u8; REGISTERS], s: &mut [i32; SETTINGS]) -> Result<(), Refusal> {
+fn read_signalling(board: Board, s: &mut [i32; SETTINGS]) -> Result<(), Refusal> {
     const FIELD: u32 = number::SIGNALLING;
+    board.demand_known(reg::SIGNAL_TOP, reg::SIGNAL_BYTES, FIELD)?;
+    let image = board.registers;
     let top = image[reg::SIGNAL_TOP];
     if top & SWITCHES == 0 {
         return Ok(());
@@ -143,19 +165,26 @@ fn read_signalling(image: &[u8; REGISTERS], s: &mut [i32; SETTINGS]) -> Result<(
 
 /// Fields 12 to 17.
 #[inline(always)]
-fn read_picture(image: &[u8; REGISTERS], s: &mut [i32; SETTINGS]) -> Result<(), Refusal> {
+fn read_picture(board: Board, s: &mut [i32; SETTINGS]) -> Result<(), Refusal> {
+    let image = board.registers;
+    board.demand_known(reg::CONTRAST, 1, number::CONTRAST)?;
     let contrast = image[reg::CONTRAST];
     demand(contrast <= LAST_CONTRAST, refusal::RANGE, number::CONTRAST)?;
     s[at::CONTRAST] = codes::scale_of(contrast);
+    board.demand_known(reg::U_SCALE, 1, number::U_SCALE)?;
     s[at::U_SCALE] = codes::scale_of(image[reg::U_SCALE]);
+    board.demand_known(reg::V_SCALE, 1, number::V_SCALE)?;
     s[at::V_SCALE] = codes::scale_of(image[reg::V_SCALE]);
+    board.demand_known(reg::HUE, 1, number::HUE)?;
     s[at::HUE] = codes::hue_of(image[reg::HUE]);
+    board.demand_known(reg::BRIGHTNESS, 1, number::BRIGHTNESS)?;
     let brightness = image[reg::BRIGHTNESS];
     let code = brightness & reg::BRIGHTNESS_BITS;
     let none = (NO_BRIGHTNESS.0..=NO_BRIGHTNESS.1).contains(&code);
     demand(!none, refusal::RANGE, number::BRIGHTNESS)?;
     demand(code == brightness, refusal::RESERVED, number::BRIGHTNESS)?;
     s[at::BRIGHTNESS] = codes::brightness_of(code);
+    board.demand_known(reg::SHARPNESS, 1, number::SHARPNESS)?;
     let sharpness = image[reg::SHARPNESS];
     let code = sharpness & reg::LOW_BITS;
     demand(code <= LAST_SHARPNESS, refusal::RANGE, number::SHARPNESS)?;
@@ -166,21 +195,25 @@ fn read_picture(image: &[u8; REGISTERS], s: &mut [i32; SETTINGS]) -> Result<(), 
 
 /// Fields 18 to 25.
 #[inline(always)]
-fn read_dnr(image: &[u8; REGISTERS], s: &mut [i32; SETTINGS]) -> Result<(), Refusal> {
+fn read_dnr(board: Board, s: &mut [i32; SETTINGS]) -> Result<(), Refusal> {
+    let image = board.registers;
+    board.demand_known(reg::DNR_GAINS, 1, number::BORDER_GAIN)?;
     let border = image[reg::DNR_GAINS] & reg::LOW_BITS;
     let data = image[reg::DNR_GAINS] >> reg::HIGH_SHIFT;
     demand(border <= LAST_GAIN, refusal::RESERVED, number::BORDER_GAIN)?;
     demand(data <= LAST_GAIN, refusal::RESERVED, number::DATA_GAIN)?;
     s[at::BORDER_GAIN] = border as i32;
     s[at::DATA_GAIN] = data as i32;
+    board.demand_known(reg::DNR_SIZES, 1, number::THRESHOLD)?;
     let sizes = image[reg::DNR_SIZES];
     s[at::THRESHOLD] = (sizes & reg::THRESHOLD_BITS) as i32;
     s[at::BORDER_AREA] = yes(sizes, reg::BORDER_AREA_BIT);
     s[at::BLOCK_SIZE] = yes(sizes, reg::BLOCK_SIZE_BIT);
+    board.demand_known(reg::DNR_MODES, 1, number::DNR_INPUT)?;
     let modes = image[reg::DNR_MODES];
     let input = modes & reg::DNR_INPUT_BITS;
-    let known = (INPUTS.0..=INPUTS.1).contains(&input);
-    demand(known, refusal::RESERVED, number::DNR_INPUT)?;
+    let sound = (INPUTS.0..=INPUTS.1).contains(&input);
+    demand(sound, refusal::RESERVED, number::DNR_INPUT)?;
     s[at::DNR_INPUT] = input as i32;
     s[at::DNR_MODE] = yes(modes, reg::DNR_MODE_BIT);
     s[at::BLOCK_OFFSET] = (modes >> reg::HIGH_SHIFT) as i32;

@@ -25,6 +25,8 @@ pub const PLAN_BYTES: u32 = 9;
 /// The lent plan is shorter than the packed plan, or the lent data than the
 /// transaction's.
 pub const PLAN_ROOM: u32 = 10;
+/// A register isn't known: one that a setting fixes in part, or one that is read.
+pub const REGISTER_UNKNOWN: u32 = 11;
 
 /// The highest bus address.
 const LAST_ADDRESS: u32 = 254;

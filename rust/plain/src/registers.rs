@@ -54,6 +54,8 @@ pub const SIGNAL_TOP: usize = 0x19;
 pub const SIGNAL_MIDDLE: usize = 0x1A;
 /// Signalling: bits 0 to 7.
 pub const SIGNAL_LOW: usize = 0x1B;
+/// Registers of signalling.
+pub const SIGNAL_BYTES: usize = 3;
 
 /// Contrast.
 pub const CONTRAST: usize = 0x1D;

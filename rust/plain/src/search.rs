@@ -47,13 +47,13 @@ impl Cost {
 }
 
 /// Every span of registers from `first` to `last` that one transaction may
-/// touch, as maps. Registers are judged one by one.
-pub fn spans(first: usize, last: usize) -> Vec<u64> {
+/// touch, where only `open` ones may be, as maps. Registers are judged one by one.
+pub fn spans(first: usize, last: usize, open: u64) -> Vec<u64> {
     let mut spans = Vec::new();
     for start in first..=last {
         for end in start..=last {
             let touched = span(start, end + 1 - start);
-            let barred = touched & BARRED_MAP != 0;
+            let barred = touched & (BARRED_MAP | !open) != 0;
             let word = touched & WORD_MAP;
             if !barred && (word == 0 || word == WORD_MAP) {
                 spans.push(touched);
@@ -64,10 +64,10 @@ pub fn spans(first: usize, last: usize) -> Vec<u64> {
 }
 
 /// For every set of registers from `first` to `last` (bit 0 for `first`) the
-/// least cost, by trying every choice of spans. Nothing where no choice does.
-/// The window must have at most `MOST_SPANS` spans.
-pub fn every_list(first: usize, last: usize) -> Vec<Option<Least>> {
-    let spans = spans(first, last);
+/// least cost, by trying every choice of spans of `open` ones. Nothing where no
+/// choice does. The window must have at most `MOST_SPANS` spans.
+pub fn every_list(first: usize, last: usize, open: u64) -> Vec<Option<Least>> {
+    let spans = spans(first, last, open);
     assert!(
         spans.len() <= MOST_SPANS,
         "too many spans to try every choice"
@@ -105,8 +105,8 @@ pub fn every_list(first: usize, last: usize) -> Vec<Option<Least>> {
 
 /// The least costs for wider windows: some span must cover the lowest needed register,
 /// so every such span is tried, with the least for what it leaves.
-pub fn every_cover(first: usize, last: usize) -> Vec<Option<Cost>> {
-    let spans = spans(first, last);
+pub fn every_cover(first: usize, last: usize, open: u64) -> Vec<Option<Cost>> {
+    let spans = spans(first, last, open);
     let sets = 1usize << (last + 1 - first);
     let mut least: Vec<Option<Cost>> = vec![None; sets];
     least[0] = Some(Cost::NONE);
@@ -124,7 +124,7 @@ pub fn every_cover(first: usize, last: usize) -> Vec<Option<Cost>> {
 }
 
 /// The least cost for one set of registers of the whole chip, or nothing where
-/// none does. `spans` are all spans of the chip.
+/// none does. `spans` are all spans of the chip that may be touched.
 pub fn least(needed: u64, spans: &[u64]) -> Option<Cost> {
     // best[r] is the least for the needed registers from r up.
     let mut best = [None; REGISTERS + 1];

@@ -1,5 +1,6 @@
 //! The text of two images side by side, a line for each difference.
 
+use crate::board::ALL_KNOWN;
 use crate::compare::{compare, outside, raw_code, LAST_FIELD};
 use crate::fields::{self as at, number, SETTINGS};
 use crate::read::read;
@@ -93,7 +94,7 @@ pub(crate) fn hex(bytes: &[u8]) -> String {
 /// A field's setting in an image that reading accepts.
 fn setting(image: &[u8], field: u32) -> String {
     let mut s = [0; SETTINGS];
-    read(image, &mut s);
+    read(image, ALL_KNOWN, &mut s);
     match NAMES[field as usize - 1].1 {
         Form::Word(index, words) => words[s[index] as usize].to_string(),
         Form::Number(index, unit) => format!("{}{unit}", s[index]),

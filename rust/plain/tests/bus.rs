@@ -4,27 +4,38 @@ mod common;
 
 use common::{packed, write};
 use plain::chip::Chip;
-use plain::registers::{span, BARRED_MAP, REGISTERS, WORD, WORD_BYTES};
-use plain::search::{every_cover, every_list, least, spans, Cost};
-use plain::{least as planner, play, transaction, MOST_DATA};
+use plain::registers::{BARRED_MAP, REGISTERS, WORD, WORD_MAP};
+use plain::search::{every_cover, every_list, least, spans, Cost, MOST_SPANS};
+use plain::{least as planner, play, transaction, ALL_KNOWN, MOST_DATA};
 
 /// The chip's own address.
 const OWN: u32 = 0x54;
+/// Flags that are tried: none, all, every other register, those past the last.
+const FLAGS: [u64; 4] = [0, ALL_KNOWN, 0x5555_5555_5555_5555, !ALL_KNOWN];
 
-/// Plays a list both ways; the answer is playing's refusal.
+/// Plays a list both ways, with all flags that are tried; the answer is playing's
+/// refusal.
 fn both(list: &[(usize, &[u8])], used: u32) -> u32 {
+    let [refusal, others @ ..] = FLAGS.map(|known| both_with(known, list, used));
+    assert_eq!(others, [refusal; FLAGS.len() - 1]);
+    refusal
+}
+
+/// The same with these flags.
+fn both_with(known: u64, list: &[(usize, &[u8])], used: u32) -> u32 {
     let image: [u8; REGISTERS] = std::array::from_fn(|place| place as u8 ^ 0xA5);
-    let mut chip = Chip::fresh(OWN as u8, image);
+    let mut chip = Chip::fresh(OWN as u8, image, known);
     let mut all = true;
     for (start, data) in list {
         all &= write(&mut chip, used, *start, data);
     }
     let mut played = image;
-    let answer = play(&mut played, used, OWN, &packed(list));
+    let answer = play(&mut played, known, used, OWN, &packed(list));
+    let after = (played, answer.known, answer.acknowledged);
     if answer.refusal == 0 {
-        assert_eq!((played, answer.acknowledged), (chip.registers, all as u32));
+        assert_eq!(after, (chip.registers, chip.known, all as u32));
     } else {
-        assert_eq!((played, answer.acknowledged), (image, 0));
+        assert_eq!(after, (image, known, 0));
     }
     answer.refusal
 }
@@ -54,7 +65,7 @@ fn lists() {
 #[test]
 fn bytes_that_break_the_packing() {
     let mut image = [0; REGISTERS];
-    let mut refusal = |plan: &[u8]| play(&mut image, OWN, OWN, plan).refusal;
+    let mut refusal = |plan: &[u8]| play(&mut image, ALL_KNOWN, OWN, OWN, plan).refusal;
     assert_eq!(refusal(&[0x06, 0x00, 0x65, 0xC0]), 0);
     assert_eq!(refusal(&[0x06, 0x00, 0x65]), 9);
     assert_eq!(refusal(&[0x06, 0x00, 0x65, 0xC0, 0x00]), 9);
@@ -99,8 +110,8 @@ fn transactions() {
 }
 
 /// What the planner's map costs.
-fn planned(needed: u64) -> Cost {
-    let map = planner::written(needed);
+fn planned(needed: u64, open: u64) -> Cost {
+    let map = planner::written(needed, open);
     let transactions = planner::runs(map);
     Cost {
         bytes: planner::bus_bytes(transactions, map.count_ones()),
@@ -108,9 +119,24 @@ fn planned(needed: u64) -> Cost {
     }
 }
 
+/// Tries every list of a small window in which only `open` registers may be
+/// touched: the least one is the only one, and it is the planner's.
+fn only(first: usize, last: usize, open: u64, covers: &[Option<Cost>]) {
+    let lists = every_list(first, last, open);
+    let costs = lists.iter().map(|least| least.map(|least| least.cost));
+    assert!(covers.iter().copied().eq(costs));
+    for (set, least) in lists.iter().enumerate() {
+        let needed = (set as u64) << first;
+        let only = least.is_none_or(|least| {
+            least.lists == 1 && least.touched == planner::written(needed, open)
+        });
+        assert!(only, "{needed:x} of {open:x}");
+    }
+}
+
 #[test]
 fn planner_is_least() {
-    let all = spans(0, REGISTERS - 1);
+    let all = spans(0, REGISTERS - 1, ALL_KNOWN);
     let windows = [
         (0x00, 0x05),
         (0x0A, 0x11),
@@ -119,29 +145,57 @@ fn planner_is_least() {
         (0x31, 0x35),
     ];
     for (first, last) in windows {
-        let covers = every_cover(first, last);
-        if spans(first, last).len() <= plain::search::MOST_SPANS {
-            let lists = every_list(first, last);
-            let costs = lists.iter().map(|least| least.map(|least| least.cost));
-            assert!(covers.iter().copied().eq(costs));
-            // The least list is the only one, and it is the planner's.
-            for (set, least) in lists.iter().enumerate() {
-                let only = least.is_none_or(|least| {
-                    least.lists == 1 && least.touched == planner::written((set as u64) << first)
-                });
-                assert!(only);
-            }
+        let covers = every_cover(first, last, ALL_KNOWN);
+        if spans(first, last, ALL_KNOWN).len() <= MOST_SPANS {
+            only(first, last, ALL_KNOWN, &covers);
         }
         for (set, cost) in covers.into_iter().enumerate() {
             let needed = (set as u64) << first;
             let reachable = needed & BARRED_MAP == 0;
             // A window that cuts the word cannot hold it.
-            let whole = needed & span(WORD, WORD_BYTES) == 0 || first <= WORD;
+            let whole = needed & WORD_MAP == 0 || first <= WORD;
             assert_eq!(cost.is_some(), reachable && whole);
             if let Some(cost) = cost {
-                assert_eq!(cost, planned(needed), "{needed:x}");
+                assert_eq!(cost, planned(needed, ALL_KNOWN), "{needed:x}");
                 assert_eq!(Some(cost), least(needed, &all));
             }
+        }
+    }
+}
+
+/// Small windows with every set of registers that may not be touched, wider ones
+/// with some. The word's registers always may: where unknown, they are needed.
+#[test]
+fn planner_is_least_around_unknown_registers() {
+    for (first, last) in [(0x00, 0x05), (0x0A, 0x11), (0x19, 0x1E), (0x31, 0x35)] {
+        let sets = (1..1 << (last + 1 - first)).map(|set: u64| set << first);
+        for unknown in sets.filter(|set| set & WORD_MAP == 0) {
+            least_around(first, last, unknown);
+        }
+    }
+    for unknown in [1 << 0x1C, 0b111 << 0x1A, 1 << 0x1C | 1 << 0x20, 1 << 0x18] {
+        least_around(0x15, 0x22, unknown);
+    }
+}
+
+/// One window, with these registers unknown and not needed.
+fn least_around(first: usize, last: usize, unknown: u64) {
+    let open = ALL_KNOWN & !unknown;
+    let all = spans(0, REGISTERS - 1, open);
+    let covers = every_cover(first, last, open);
+    if spans(first, last, open).len() <= MOST_SPANS {
+        only(first, last, open, &covers);
+    }
+    for (set, cost) in covers.into_iter().enumerate() {
+        let needed = (set as u64) << first;
+        let whole = needed & WORD_MAP == 0 || first <= WORD;
+        assert_eq!(
+            cost.is_some(),
+            needed & (BARRED_MAP | unknown) == 0 && whole
+        );
+        if let Some(cost) = cost {
+            assert_eq!(cost, planned(needed, open), "{needed:x} of {open:x}");
+            assert_eq!(Some(cost), least(needed, &all));
         }
     }
 }

@@ -9,7 +9,7 @@ use plain::registers::REGISTERS;
 use plain::{
     caption_listing, plan, plan_captions, play, play_captions, read_captions, transaction,
 };
-use plain::{is_odd, with_parity, CaptionsAnswer, PlanAnswer, CAPTION_ROOM};
+use plain::{is_odd, with_parity, CaptionsAnswer, PlanAnswer, ALL_KNOWN, CAPTION_ROOM};
 
 /// The chip's own address.
 const OWN: u32 = 0x54;
@@ -129,18 +129,19 @@ fn planning_refused() {
 /// player refuses the same bytes.
 fn both(list: &[(usize, &[u8])], used: u32) {
     let plan = packed(list);
-    let mut chip = Chip::fresh(OWN as u8, image());
+    let mut chip = Chip::fresh(OWN as u8, image(), 0);
     let mut all = true;
     for (start, data) in list {
         all &= write(&mut chip, used, *start, data);
     }
     let mut played = image();
-    let answer = play_captions(&mut played, used, OWN, &plan);
+    let answer = play_captions(&mut played, 0, used, OWN, &plan);
     assert_eq!((answer.refusal, answer.field), (0, 0));
     assert_eq!((played, answer.acknowledged), (chip.registers, all as u32));
+    assert_eq!(answer.known, chip.known);
     assert_eq!(all, used == OWN);
     let mut settings = image();
-    let answer = play(&mut settings, used, OWN, &plan);
+    let answer = play(&mut settings, ALL_KNOWN, used, OWN, &plan);
     assert_eq!((answer.refusal, answer.acknowledged), (9, 0));
     assert_eq!(settings, image());
 }
@@ -161,7 +162,7 @@ fn played() {
 /// The refusal of playing captions; the image is then as it was.
 fn unplayed(plan: &[u8]) -> u32 {
     let mut played = image();
-    let answer = play_captions(&mut played, OWN, OWN, plan);
+    let answer = play_captions(&mut played, ALL_KNOWN, OWN, OWN, plan);
     assert!(answer.refusal == 0 || (played, answer.acknowledged) == (image(), 0));
     answer.refusal
 }
@@ -215,7 +216,7 @@ fn even_ones() {
 fn playing_refused() {
     let refusal = |length: usize, used: u32, own: u32, plan: &[u8]| {
         let mut image = vec![0; length];
-        let answer = play_captions(&mut image, used, own, plan);
+        let answer = play_captions(&mut image, ALL_KNOWN, used, own, plan);
         assert!(image.iter().all(|&byte| byte == 0) || answer.refusal == 0);
         (answer.refusal, answer.field)
     };
@@ -240,7 +241,7 @@ fn settings_plans() {
         settings[kind + at::CURVE_Q] = 1;
     }
     let mut lent = [0; 64];
-    let answer = plan(&image(), &settings, OWN, &mut lent);
+    let answer = plan(&image(), ALL_KNOWN, &settings, OWN, &mut lent);
     assert_eq!(answer.refusal, 0);
     assert_eq!(unplayed(&lent[..answer.length as usize]), 9);
 }
@@ -249,7 +250,7 @@ fn settings_plans() {
 fn read_of(bytes: [u8; 4], pair: u32) -> CaptionsAnswer {
     let mut image = image();
     image[0x11..=0x14].copy_from_slice(&bytes);
-    read_captions(&image, pair)
+    read_captions(&image, ALL_KNOWN, pair)
 }
 
 #[test]
@@ -266,7 +267,8 @@ fn read_back() {
     for pair in [2, 3, 29, 256, 1 << 31, u32::MAX] {
         assert_eq!(read_of(bytes, pair), answer(3, 29, 0, 0));
         // After 1, before 4.
-        assert_eq!(read_captions(&[0; 53], pair), answer(1, 0, 0, 0));
+        let short = read_captions(&[0; 53], ALL_KNOWN, pair);
+        assert_eq!(short, answer(1, 0, 0, 0));
         assert_eq!(read_of([0; 4], pair), answer(3, 29, 0, 0));
     }
     // An even number of ones, in either byte, of either pair alone.
@@ -279,7 +281,8 @@ fn read_back() {
     assert_eq!(read_of([0x80, 0x7F, 0x48, 0x49], 1), answer(4, 29, 0, 0));
     assert_eq!(read_of([0x80, 0x7F, 0xC8, 0xC9], 1), answer(4, 29, 0, 0));
     for length in [0, 53, 55] {
-        assert_eq!(read_captions(&vec![0x80; length], 0), answer(1, 0, 0, 0));
+        let wrong = read_captions(&vec![0x80; length], ALL_KNOWN, 0);
+        assert_eq!(wrong, answer(1, 0, 0, 0));
     }
 }
 
@@ -295,9 +298,10 @@ fn round() {
         let sent = transaction(plan, 0, &mut data);
         assert_eq!((sent.refusal, sent.subaddress, sent.count), (0, 0x11, 2));
         let mut after = image();
-        assert_eq!(play_captions(&mut after, OWN, OWN, plan).acknowledged, 1);
+        let played = play_captions(&mut after, ALL_KNOWN, OWN, OWN, plan);
+        assert_eq!(played.acknowledged, 1);
         assert_eq!(after[0x11..=0x14], [data[0], data[1], 0x20, 0x20]);
-        let read = read_captions(&after, 0);
+        let read = read_captions(&after, ALL_KNOWN, 0);
         let read = (read.refusal, read.first as i32, read.second as i32);
         assert_eq!(read, (0, characters[0], characters[1]));
     }

@@ -1,39 +1,27 @@
 //! The papers' own cases, and each coding against its words.
 
+#[path = "common/settings.rs"]
+mod settings;
+
 use plain::fields as at;
 use plain::least::{runs, written};
 use plain::registers as reg;
-use plain::{check, codes, gamma, plan, play, read, refusal, signal, subcarrier};
+use plain::{check, codes, gamma, plan, play, read, refusal, signal, subcarrier, ALL_KNOWN};
+use settings::house;
 
 /// An even address.
 const ADDRESS: u32 = 0x54;
 /// Room for any packed plan.
 const ROOM: usize = 64;
 
-/// The house setting.
-fn house() -> [i32; at::SETTINGS] {
-    let mut s = [0; at::SETTINGS];
-    s[at::FOUR_TIMES] = 1;
-    s[at::PEDESTAL] = 1;
-    s[at::CONTRAST] = 1000;
-    s[at::U_SCALE] = 1000;
-    s[at::V_SCALE] = 1000;
-    s[at::DNR_INPUT] = 1;
-    for kind in [at::CURVE_A, at::CURVE_B] {
-        s[kind + at::CURVE_P] = 1;
-        s[kind + at::CURVE_Q] = 1;
-    }
-    s
-}
-
 /// An image that the house setting needs nothing for, over a given ground.
 fn settled(ground: u8) -> [u8; reg::REGISTERS] {
     let mut image = [ground; reg::REGISTERS];
     let mut bytes = [0; ROOM];
-    let planned = plan(&image, &house(), ADDRESS, &mut bytes);
+    let planned = plan(&image, ALL_KNOWN, &house(), ADDRESS, &mut bytes);
     assert_eq!(planned.refusal, 0);
     let length = planned.length as usize;
-    let played = play(&mut image, ADDRESS, ADDRESS, &bytes[..length]);
+    let played = play(&mut image, ALL_KNOWN, ADDRESS, ADDRESS, &bytes[..length]);
     assert_eq!((played.refusal, played.acknowledged), (0, 1));
     image
 }
@@ -133,12 +121,12 @@ fn cgms_check() {
 #[test]
 fn joining() {
     let cost = |needed: u64| {
-        let map = written(needed);
+        let map = written(needed, ALL_KNOWN);
         (runs(map), 2 * runs(map) + map.count_ones())
     };
     assert_eq!(cost(1 << 0x1D | 1 << 0x20), (1, 6));
     assert_eq!(cost(1 << 0x1D | 1 << 0x21), (2, 6));
-    assert_eq!(written(1 << 0x0F), 0x0F << 0x0C);
+    assert_eq!(written(1 << 0x0F, ALL_KNOWN), 0x0F << 0x0C);
 }
 
 #[test]
@@ -146,7 +134,7 @@ fn only_the_last_word_byte() {
     let mut image = settled(0x00);
     image[0x0F] ^= 1;
     let mut bytes = [0; ROOM];
-    let planned = plan(&image, &house(), ADDRESS, &mut bytes);
+    let planned = plan(&image, ALL_KNOWN, &house(), ADDRESS, &mut bytes);
     assert_eq!((planned.transactions, planned.bus_bytes), (1, 6));
     // 000001 001100 000100 then 1F 7C F0 21, two bits into the third byte.
     assert_eq!(bytes[..7], [0x04, 0xC1, 0x07, 0xDF, 0x3C, 0x08, 0x40]);
@@ -157,7 +145,7 @@ fn hue_alone() {
     let mut settings = house();
     settings[at::HUE] = 40;
     let mut bytes = [0xAA; ROOM];
-    let planned = plan(&settled(0x00), &settings, ADDRESS, &mut bytes);
+    let planned = plan(&settled(0x00), ALL_KNOWN, &settings, ADDRESS, &mut bytes);
     let answer = (planned.length, planned.transactions, planned.bus_bytes);
     assert_eq!(answer, (4, 1, 3));
     assert_eq!(bytes[..5], [0x06, 0x00, 0x65, 0xC0, 0xAA]);
@@ -166,10 +154,10 @@ fn hue_alone() {
 #[test]
 fn nothing_to_do() {
     let mut bytes = [0xAA; 2];
-    let planned = plan(&settled(0x00), &house(), ADDRESS, &mut bytes);
+    let planned = plan(&settled(0x00), ALL_KNOWN, &house(), ADDRESS, &mut bytes);
     let answer = (planned.length, planned.transactions, planned.bus_bytes);
     assert_eq!((answer, bytes), ((1, 0, 0), [0x00, 0xAA]));
-    let refused = plan(&settled(0x00), &house(), ADDRESS, &mut []);
+    let refused = plan(&settled(0x00), ALL_KNOWN, &house(), ADDRESS, &mut []);
     assert_eq!(refused.refusal, refusal::PLAN_ROOM);
 }
 
@@ -188,9 +176,9 @@ fn other_bits_stay() {
 #[test]
 fn reading_back() {
     let mut numbers = [-1; at::SETTINGS];
-    assert_eq!(read(&settled(0x5A), &mut numbers).refusal, 0);
+    assert_eq!(read(&settled(0x5A), ALL_KNOWN, &mut numbers).refusal, 0);
     let mut bytes = [0; ROOM];
-    let planned = plan(&settled(0x5A), &numbers, ADDRESS, &mut bytes);
+    let planned = plan(&settled(0x5A), ALL_KNOWN, &numbers, ADDRESS, &mut bytes);
     assert_eq!((planned.length, bytes[0]), (1, 0x00));
     assert_eq!(numbers[at::CONTRAST], 997);
     assert_eq!(numbers[at::CURVE_A], at::BYTES);
@@ -203,7 +191,7 @@ fn images_refused() {
     let of = |register: usize, byte: u8| {
         let mut image = settled(0x00);
         image[register] = byte;
-        let answer = read(&image, &mut [0; at::SETTINGS]);
+        let answer = read(&image, ALL_KNOWN, &mut [0; at::SETTINGS]);
         (answer.refusal, answer.field)
     };
     assert_eq!(of(0x00, 0x02), (4, 1));

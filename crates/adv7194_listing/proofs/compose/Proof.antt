@@ -2,6 +2,7 @@
 use mathlib.Core.Path.{refl, sym, ap, _∙_}
 use lib.IntN.{pos}
 use lib.ListN.{replicate}
+use Rattle.adv7194_bus.specs.Board.{boardOf}
 use Rattle.adv7194_reading.specs.Answers.{readAs}
 use Rattle.adv7194_listing.proofs.TextLaws.{text-read, text-refused}
 use Rattle.adv7194_names.proofs.Putting.{same-text}
@@ -15,7 +16,8 @@ returns c =
     let t = s .before .before .before in
     let r = t .before .before .before in
     let a = r .before .before .before .before .args in
-    let e = text-read (a .image .now) (replicate 49 (pos 0)) refl (sym (ap readAs (t .enum-told .given .1)) ∙ r .read .ensures .0) (r .read .ensures .1 .0) in
+    let b = boardOf (a .image .now) (a .known) in
+    let e = text-read b (replicate 49 (pos 0)) refl (sym (ap readAs (t .enum-told .given .1)) ∙ r .read .ensures .0) (r .read .ensures .1 .0) in
     same-text e (s .setting-lines .ensures)
 
 returns-2 : tie.Need-returns-2
@@ -24,7 +26,8 @@ returns-2 c =
     let t = s .before .before .before in
     let r = t .before .before .before in
     let a = r .before .before .before .before .args in
-    let e = text-refused (a .image .now) (replicate 49 (pos 0)) refl _ _ (sym (ap readAs (t .answer .given .1)) ∙ r .read .ensures .0) in
+    let b = boardOf (a .image .now) (a .known) in
+    let e = text-refused b (replicate 49 (pos 0)) refl _ _ (sym (ap readAs (t .answer .given .1)) ∙ r .read .ensures .0) in
     same-text e (s .refused-text .ensures)
 
 pub compose-spec : {M : Type 1} → statement M

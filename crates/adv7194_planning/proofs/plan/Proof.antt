@@ -1,7 +1,6 @@
 -- `plan` meets its contract: the tests that led to each answer decide the verdict, and demands 1 to 3 follow from it. Assumes nothing.
 use mathlib.Core.Path.{_≡_, sym, ap, _∙_, subst}
 use mathlib.Core.Bool.{true}
-use mathlib.Core.List.{List}
 use Prim.Native.Nat.{ℕ, _^_, _<_}
 use lib.Dec.{lit<}
 use lib.ListN.{length, getD}
@@ -10,20 +9,22 @@ use borrow.Author.Needs.{needs}
 use denote.Ref.{now}
 use Rattle.refusals.specs.Refusal.{numberOf}
 use Rattle.refusals.specs.Verdict.{good, refusedAt}
-use Rattle.bus.specs.Transactions.{Transaction}
-use Rattle.planning.specs.Plan.{packingOf, planAfter}
+use Rattle.refusals.specs.Order.{firstOf}
+use Rattle.planning.specs.Plan.{countsOf, leftBy, answerOf}
 use Rattle.field_table.specs.Answers.{checkedAs}
 use Rattle.adv7194_bus.specs.Kind.{registerCount}
 use Rattle.adv7194_bus.specs.Address.{addressRight}
+use Rattle.adv7194_bus.specs.declared.board.Board.{Board}
+use Rattle.adv7194_bus.specs.Board.{boardOf}
 use Rattle.adv7194_table.specs.Fields.{numberCount}
 use Rattle.adv7194_settings.specs.Wanted.{wantedBy}
 use Rattle.adv7194_settings.specs.Rows.{checkOf}
-use Rattle.adv7194_least.specs.Change.{Change}
-use Rattle.adv7194_least.specs.Plan.{planOf}
-use Rattle.adv7194_planning.specs.Rows.{listOf}
+use Rattle.adv7194_least.proofs.WantedChange.{settings-change}
+use Rattle.adv7194_planning.specs.Aims.{Ready}
+use Rattle.adv7194_planning.specs.Rows.{listOf, rowPlanned, lastChecks}
 use Rattle.adv7194_planning.specs.Planning.{planningOf}
-use Rattle.adv7194_planning.proofs.CaseLaws.{wrong-length, wrong-address, wrong-count, wrong-settings, refuse, packing}
-use Rattle.adv7194_planning.proofs.Clauses.{Clauses, change, clauses}
+use Rattle.adv7194_planning.proofs.CaseLaws.{wrong-length, wrong-address, wrong-count, wrong-settings, passed, refuse}
+use Rattle.adv7194_planning.proofs.Clauses.{Clauses, clauses}
 use Rattle.adv7194_planning.proofs.plan.Statement.{statement}
 use Rattle.adv7194_planning.proofs.plan.Tie as tie
 
@@ -39,8 +40,13 @@ start2 c = start1 (c .before .before)
 abbrev start3 : tie.Else3 → tie.Start
 start3 c = start2 (c .before)
 
-abbrev start4 : tie.After-want → tie.Start
-start4 c = start3 (c .before .before .before)
+-- where the count of the numbers was found right
+abbrev counted-at : tie.After-want → tie.Else3
+counted-at c = c .before .before .before .before
+
+-- the board that is planned over
+abbrev board : tie.Start → Board
+board c = boardOf (now (c .args .image)) (c .args .known)
 
 -- the image's bytes are bytes
 bytes : (c : tie.After-slice-known) (r : ℕ) → getD (now (c .before .before .args .image)) r 0 < 2 ^ 8
@@ -58,82 +64,104 @@ right c = sym (c .before .address-right .ensures) ∙ not-false _ (c .if2 .left)
 counted : (c : tie.Else3) → length (now (start3 c .args .numbers)) ≡ numberCount
 counted c = c .if3 .left
 
+-- the record that was made is the board
+board-is : (c : tie.After-want) → c .before .before .before .board-of .result ≡ board (start3 (counted-at c))
+board-is c = c .before .before .before .board-of .ensures
+
 -- the wanted image stands where the copy was
-wanted-is : (c : tie.After-want) → (let a = start4 c .args in
-    c .want .last .1 .0 ≡ wantedBy (now (a .image)) (now (a .numbers)))
+wanted-is : (c : tie.After-want) → (let s = start3 (counted-at c) in
+    c .want .last .1 .0 ≡ wantedBy (now (s .args .image)) (now (s .args .numbers)))
 wanted-is c =
-    let a = start4 c .args in
-    c .want .ensures .1 .0 ∙ ap (λ (l : List ℕ). wantedBy l (now (a .numbers))) (c .before .before .copied .ensures)
+    let zs = now (start3 (counted-at c) .args .numbers) in
+    c .want .ensures .1 .0 ∙ ap (λ (b : Board). wantedBy (b .registers) zs) (board-is c)
 
 -- the settings are accepted
-accepted : (c : tie.After-enum-told) → checkOf (now (start4 (c .before .before .before) .args .numbers)) ≡ good tt
+accepted : (c : tie.After-enum-told) → checkOf (now (start3 (counted-at (c .before .before .before)) .args .numbers)) ≡ good tt
 accepted c = sym (c .before .before .before .want .ensures .0) ∙ ap checkedAs (c .enum-told .given .1)
 
 -- ---- the answers
 
 -- a refusal, with all that planning promises
 refused : (c : tie.After-slice-known) (n f : ℕ) → (let a = c .before .before .args in
-    planningOf (now (a .image)) (now (a .numbers)) (a .address) (length (now (a .plan))) ≡ refusedAt n f
-    → Clauses (now (a .image)) (now (a .numbers)) (a .address) (now (a .plan)) (now (a .plan)) (refusedAt n f))
+    planningOf (board (c .before .before)) (now (a .numbers)) (a .address) (length (now (a .plan))) ≡ refusedAt n f
+    → Clauses (board (c .before .before)) (now (a .numbers)) (a .address) (now (a .plan)) (now (a .plan)) (refusedAt n f))
 refused c n f e =
     let a = c .before .before .args in
-    let q = refuse (now (a .image)) (now (a .numbers)) (a .address) (now (a .plan)) n f e in
-    clauses (now (a .image)) (now (a .numbers)) (bytes c) (a .address) (now (a .plan)) (now (a .plan)) (refusedAt n f) (q .0) (q .1)
+    let b = board (c .before .before) in
+    clauses b (now (a .numbers)) (bytes c) (a .address) (now (a .plan)) (now (a .plan)) (refusedAt n f) (sym e)
+    (refuse b (now (a .numbers)) (a .address) (now (a .plan)) n f e)
 
 returns : tie.Need-returns
 returns c =
-    let a = c .before .before .before .args in
-    refused (c .before) 1 0 (wrong-length (now (a .image)) (now (a .numbers)) (a .address) (length (now (a .plan))) (c .if1 .taken))
+    let s = c .before .before .before in
+    let a = s .args in
+    refused (c .before) 1 0 (wrong-length (board s) (now (a .numbers)) (a .address) (length (now (a .plan))) (c .if1 .taken))
 
 returns-2 : tie.Need-returns-2
 returns-2 c =
     let r = c .before in
-    let a = start1 (r .before) .args in
+    let s = start1 (r .before) in
+    let a = s .args in
     refused (r .before .before) 2 0
-    (wrong-address (now (a .image)) (now (a .numbers)) (a .address) (length (now (a .plan))) (long (r .before))
+    (wrong-address (board s) (now (a .numbers)) (a .address) (length (now (a .plan))) (long (r .before))
     (sym (r .address-right .ensures) ∙ not-true _ (c .if2 .taken)))
 
 returns-3 : tie.Need-returns-3
 returns-3 c =
     let e = c .before in
-    let a = start2 e .args in
+    let s = start2 e in
+    let a = s .args in
     refused (e .before .before .before) 3 0
-    (wrong-count (now (a .image)) (now (a .numbers)) (a .address) (length (now (a .plan))) (long (e .before .before)) (right e) (c .if3 .taken))
+    (wrong-count (board s) (now (a .numbers)) (a .address) (length (now (a .plan))) (long (e .before .before)) (right e) (c .if3 .taken))
 
 returns-4 : tie.Need-returns-4
 returns-4 c =
     let r = c .before in
     let w = r .before .before .before in
-    let d = w .before .before .before in
+    let d = counted-at w in
     let e = d .before in
-    let a = start4 w .args in
+    let s = start3 d in
+    let a = s .args in
     let n = numberOf (r .refusal .given .0 .0) in
     let f = r .refusal .given .0 .1 .0 in
     refused (e .before .before .before) n f
-    (wrong-settings (now (a .image)) (now (a .numbers)) (a .address) (length (now (a .plan))) (long (e .before .before)) (right e) (counted d) n f
+    (wrong-settings (board s) (now (a .numbers)) (a .address) (length (now (a .plan))) (long (e .before .before)) (right e) (counted d) n f
     (sym (w .want .ensures .0) ∙ ap checkedAs (r .refusal .given .1)))
 
--- the change is planned that the settings mean
-changed : (c : tie.After-want) → Change (now (start4 c .args .image)) (c .want .last .1 .0)
-changed c =
-    let a = start4 c .args in
-    let e = c .before .before .before .before .before .before in
-    subst (λ (l : List ℕ). Change (now (a .image)) l) (sym (wanted-is c)) (change (now (a .image)) (now (a .numbers)) (bytes (e .before)) (long e))
+-- the settings and the image that they want are ready to be planned
+ready : (c : tie.After-enum-told) → (let w = c .before .before .before in
+    Ready (w .before .before .before .board-of .result) (now (start3 (counted-at w) .args .numbers)) (w .want .last .1 .0))
+ready c =
+    let w = c .before .before .before in
+    let d = counted-at w in
+    let e = d .before .before .before in
+    let zs = now (start3 d .args .numbers) in
+    subst (λ (b : Board). Ready b zs (w .want .last .1 .0)) (sym (board-is w))
+    (record {
+      passing = record { size = counted d; passes = accepted c };
+      change = settings-change (board (start3 d)) zs (record { size = long e; bytes = bytes (e .before) });
+      wants = wanted-is w;
+    })
 
 returns-5 : tie.Need-returns-5
-unfolding listOf
 returns-5 c =
     let p = c .before .before in
     let k = p .before .before .before in
     let w = k .before .before .before in
-    let d = w .before .before .before in
+    let d = counted-at w in
     let e = d .before in
-    let a = start4 w .args in
-    let list = ap (planOf (now (a .image))) (wanted-is w) in
-    let q = packing (now (a .image)) (now (a .numbers)) (a .address) (now (a .plan)) (long (e .before .before)) (right e) (counted d) (accepted k) in
-    clauses (now (a .image)) (now (a .numbers)) (bytes (e .before .before .before)) (a .address) (now (a .plan)) _ _
-    (p .plan-change .ensures .0 ∙ ap (λ (ts : List Transaction). packingOf ts (length (now (a .plan)))) list ∙ q .0)
-    (p .plan-change .ensures .1 ∙ ap (λ (ts : List Transaction). planAfter ts (now (a .plan))) list ∙ q .1)
+    let s = start3 d in
+    let a = s .args in
+    let plan = now (a .plan) in
+    let zs = now (a .numbers) in
+    let answer =
+    p .plan-board .ensures .0 (a .address)
+    ∙ ap (λ (b : Board). firstOf (rowPlanned b zs (a .address) (length plan)) lastChecks (countsOf (listOf b zs))) (board-is w)
+    ∙ sym (passed (board s) zs (a .address) (length plan) (long (e .before .before)) (right e) (counted d) (accepted k)) in
+    clauses (board s) zs (bytes (e .before .before .before)) (a .address) plan _ _ answer
+    (p .plan-board .ensures .1
+    ∙ ap (λ (b : Board). leftBy (listOf b zs) plan (answerOf (p .plan-board .result))) (board-is w)
+    ∙ ap (leftBy (listOf (board s) zs) plan) answer)
 
 pub plan-spec : {M : Type 1} → statement M
 plan-spec =
@@ -150,7 +178,7 @@ plan-spec =
     (λ c. search needs)
     (λ c. search needs)
     (λ c. search needs)
-    (λ c κs. changed (c .before .before .before .before .before))
+    (λ c κs. ready (c .before .before))
     returns-4
     (λ c. search needs)
     returns-5)

@@ -1,4 +1,4 @@
--- `plan_change` meets its contract: the plan of the maps is the plan of the images. Assumes nothing.
+-- `plan_change` meets its contract: the plan of the maps is the plan of the board, the wanted image and the fixed registers. Assumes nothing.
 use mathlib.Core.Path.{_≡_, ap, _∙_}
 use mathlib.Core.List.{List}
 use borrow.Author.Needs.{needs}
@@ -7,46 +7,58 @@ use denote.Ref.{now}
 use Rattle.bus.specs.Transactions.{Transaction}
 use Rattle.planning.specs.Plan.{planBy, packingOf, planAfter}
 use Rattle.adv7194_least.specs.Plan.{planOf}
-use Rattle.adv7194_planning.proofs.MapPlan.{plannable, plan-is}
+use Rattle.adv7194_planning.specs.Aims.{aimBy}
+use Rattle.adv7194_planning.proofs.MapPlan.{comparable, plannable, plan-is}
 use Rattle.adv7194_planning.proofs.plan_change.Statement.{statement}
 use Rattle.adv7194_planning.proofs.plan_change.Tie as tie
 
--- where the function was entered, from where the maps are known
-abbrev start : tie.After-writable-registers → tie.Start
-start c = c .before .before .before .before .before .before
+-- where the function was entered
+abbrev start : tie.After-registers2 → tie.Start
+start c = c .before .before .before .before
 
--- the plan that is packed is the images'
-same : (c : tie.After-writable-registers) → (let a = start c .args in
-    planBy (c .before .needed-registers .result) (c .writable-registers .result) (now (a .wanted)) ≡ planOf (now (a .image)) (now (a .wanted)))
-same c =
-    let a = start c .args in
-    plan-is (now (a .image)) (now (a .wanted)) _ _ _ (c .before .before .changed-registers .ensures) (c .before .needed-registers .ensures)
-    (c .writable-registers .ensures) (start c .pre)
+-- the calls before the maps are known
+abbrev changed : tie.After-allowed-registers → tie.After-changed-registers
+changed c = c .before .before .before
 
--- what packing answers and leaves is what it does of that plan
-returns : tie.Need-returns
-returns c =
-    let k = c .before .before in
-    let m = k .before .before in
-    let plan = now (start m .args .plan) in (
-      k .pack .ensures .0 ∙ ap (λ (ts : List Transaction). packingOf ts (length plan)) (same m),
-      k .pack .ensures .1 ∙ ap (λ (ts : List Transaction). planAfter ts plan) (same m),
-    )
+changed-registers-requires : tie.Need-changed-registers-requires
+changed-registers-requires c κs =
+    let s = start c in
+    comparable (s .args .board) (now (s .args .wanted)) (s .args .fixed) (s .pre)
 
 pack-requires : tie.Need-pack-requires
 pack-requires c κs =
     let m = c .before in
-    let a = start m .args in
-    plannable (now (a .image)) (now (a .wanted)) _ _ _ (m .before .before .changed-registers .ensures) (m .before .needed-registers .ensures)
-    (m .writable-registers .ensures) (start m .pre)
+    let s = start (changed m .before) in
+    plannable (s .args .board) (now (s .args .wanted)) (s .args .fixed) (s .pre) _ _ _ _ (changed m .changed-registers .ensures)
+    (m .before .before .must-registers .ensures) (m .before .needed-registers .ensures) (m .allowed-registers .ensures)
+
+-- the plan that is packed is the aim's
+same : (m : tie.After-allowed-registers) → (let a = start (changed m .before) .args in
+    planBy (m .before .needed-registers .result) (m .allowed-registers .result) (now (a .wanted)) ≡ planOf (aimBy (a .board) (now (a .wanted)) (a .fixed)))
+same m =
+    let s = start (changed m .before) in
+    plan-is (s .args .board) (now (s .args .wanted)) (s .args .fixed) (s .pre) _ _ _ _ (changed m .changed-registers .ensures)
+    (m .before .before .must-registers .ensures) (m .before .needed-registers .ensures) (m .allowed-registers .ensures)
+
+-- what packing answers and leaves is what it does of that plan
+returns : tie.Need-returns
+returns c =
+    let p = c .before .before in
+    let m = p .before .before in
+    let plan = now (start (changed m .before) .args .plan) in (
+      p .pack .ensures .0 ∙ ap (λ (ts : List Transaction). packingOf ts (length plan)) (same m),
+      p .pack .ensures .1 ∙ ap (λ (ts : List Transaction). planAfter ts plan) (same m),
+    )
 
 pub plan-change-spec : {M : Type 1} → statement M
 plan-change-spec =
     tie.close
     (tie.spec
-    (λ c κs. search needs)
-    (λ c κs. search needs)
-    (λ c κs. search needs)
+    (λ c. search needs)
+    changed-registers-requires
+    (λ c κs. tt)
+    (λ c κs. tt)
+    (λ c κs. tt)
     pack-requires
     (λ c. search needs)
     returns)

@@ -10,8 +10,9 @@ use denote.Ref.{now}
 use Rattle.refusals.specs.Refusal.{Judged}
 use Rattle.bus.specs.Transactions.{Transaction}
 use Rattle.adv7194_bus.specs.Kind.{registerCount}
+use Rattle.adv7194_bus.specs.Board.{boardOf}
 use Rattle.adv7194_bus.specs.Address.{addressRight}
-use Rattle.adv7194_playing.specs.Playing.{judged, acknowledgedBy, registersAfter}
+use Rattle.adv7194_playing.specs.Playing.{judged, acknowledgedBy, boardAfter}
 use Rattle.adv7194_playing.proofs.JudgedLaws.{wrong-length, wrong-used, wrong-own, right-so-far, refuse}
 use Rattle.adv7194_playing.proofs.play.Statement.{statement}
 use Rattle.adv7194_playing.proofs.play.Tie as tie
@@ -24,14 +25,15 @@ returns : tie.Need-returns
 returns c =
     let s = c .before .before .before in
     let a = s .args in
-    refuse (now (a .image)) (a .used) (a .own) (judgement s) 1 (wrong-length (a .kind) (now (a .image)) (a .used) (a .own) (now (a .plan)) (c .if1 .taken))
+    refuse (now (a .image)) (a .known) (a .used) (a .own) (judgement s) 1
+    (wrong-length (a .kind) (now (a .image)) (a .used) (a .own) (now (a .plan)) (c .if1 .taken))
 
 returns-2 : tie.Need-returns-2
 returns-2 c =
     let r = c .before in
     let s = r .before .before .before .before in
     let a = s .args in
-    refuse (now (a .image)) (a .used) (a .own) (judgement s) 2
+    refuse (now (a .image)) (a .known) (a .used) (a .own) (judgement s) 2
     (wrong-used (a .kind) (now (a .image)) (a .used) (a .own) (now (a .plan)) (r .before .if1 .left)
     (sym (r .address-right .ensures) ∙ not-true _ (c .if2 .taken)))
 
@@ -41,7 +43,7 @@ returns-3 c =
     let r = q .before .before in
     let s = r .before .before .before .before in
     let a = s .args in
-    refuse (now (a .image)) (a .used) (a .own) (judgement s) 2
+    refuse (now (a .image)) (a .known) (a .used) (a .own) (judgement s) 2
     (wrong-own (a .kind) (now (a .image)) (a .used) (a .own) (now (a .plan)) (r .before .if1 .left)
     (sym (r .address-right .ensures) ∙ not-false _ (q .before .if2 .left)) (sym (q .address-right2 .ensures) ∙ not-true _ (c .if3 .taken)))
 
@@ -66,7 +68,7 @@ returns-4 c =
     let a = start e .args in
     let j = right-so-far (a .kind) (now (a .image)) (a .used) (a .own) (now (a .plan)) (long e) (used-right e) (own-right e) in (
       p .play-checked .ensures .0 ∙ sym (ap (acknowledgedBy (now (a .image)) (a .used) (a .own)) j),
-      p .play-checked .ensures .1 ∙ sym (ap (registersAfter (now (a .image)) (a .used) (a .own)) j),
+      p .play-checked .ensures .1 ∙ sym (ap (boardAfter (boardOf (now (a .image)) (a .known)) (a .used) (a .own)) j),
     )
 
 pub play-spec : {M : Type 1} → statement M

@@ -1,6 +1,6 @@
--- `play_checked` meets its contract: at the chip's own address the image becomes the copy into which the data were written; at another, and after a
--- refusal, it is left. Assumes nothing.
-use mathlib.Core.Path.{_≡_, sym, ap, _∙_, subst}
+-- `play_checked` meets its contract: at the chip's own address the image becomes the copy into which the data were written, with the map that the walk
+-- made; at another, and after a refusal, both are left. Assumes nothing.
+use mathlib.Core.Path.{_≡_, refl, sym, ap, _∙_, subst}
 use mathlib.Core.List.{List}
 use Prim.Native.Nat.{ℕ}
 use lib.ListN.{length}
@@ -8,11 +8,13 @@ use borrow.Author.Needs.{needs}
 use denote.Ref.{now}
 use Rattle.refusals.specs.Refusal.{Judged, numberOf}
 use Rattle.bus.specs.Transactions.{Transaction}
-use Rattle.unpacking.specs.declared.Checked.{Checked}
-use Rattle.unpacking.specs.Unpacking.{unpack, counted, answerOf}
+use Rattle.unpacking.specs.Unpacking.{unpack, counted}
 use Rattle.unpacking.proofs.PlanLaws.{refused-list}
+use Rattle.adv7194_bus.specs.declared.board.Board.{Board}
+use Rattle.adv7194_bus.specs.Board.{boardOf}
+use Rattle.adv7194_playing.specs.declared.Walk.{Walk}
 use Rattle.adv7194_playing.specs.Playing.{judgedAs}
-use Rattle.adv7194_playing.specs.Written.{Written}
+use Rattle.adv7194_playing.specs.Written.{Written, countOf, mapOf}
 use Rattle.adv7194_playing.proofs.JudgedLaws.{refuse}
 use Rattle.adv7194_playing.proofs.Elsewhere.{nothing-stored, not-acknowledged}
 use Rattle.adv7194_playing.proofs.WrittenLaws.{left-as-many, copied-whole}
@@ -29,8 +31,8 @@ abbrev judgement : tie.After-write-plan → Judged (List Transaction)
 judgement w = judgedAs (start w .args .kind) (unpack (now (start w .args .plan)))
 
 -- as it was answered
-answered : (w : tie.After-write-plan) (r : Checked) → w .write-plan .result ≡ r → counted (judgement w) ≡ answerOf r
-answered w r e = sym (w .write-plan .ensures .0) ∙ ap answerOf e
+answered : (w : tie.After-write-plan) (r : Walk) → w .write-plan .result ≡ r → counted (judgement w) ≡ countOf r
+answered w r e = sym (w .write-plan .ensures .0) ∙ ap countOf e
 
 returns : tie.Need-returns
 returns c =
@@ -39,7 +41,7 @@ returns c =
     let a = start w .args in
     let p = start w .pre in (
       not-acknowledged (now (a .image)) (a .used) (a .own) (c .if1 .taken) (p .1) (p .2) (judgement w) _ (answered w _ (t .transactions .given .1)),
-      sym (nothing-stored (now (a .image)) (a .used) (a .own) (c .if1 .taken) (p .1) (p .2) (judgement w)),
+      sym (nothing-stored (now (a .image)) (a .used) (a .own) (c .if1 .taken) (p .1) (p .2) (a .known) (judgement w)),
     )
 
 returns-2 : tie.Need-returns-2
@@ -48,22 +50,35 @@ returns-2 c =
     let w = t .before .before .before in
     let a = start w .args in
     let n = numberOf (t .refusal .given .0 .0) in
-    refuse (now (a .image)) (a .used) (a .own) (judgement w) n (refused-list (judgement w) n (answered w _ (t .refusal .given .1)))
+    refuse (now (a .image)) (a .known) (a .used) (a .own) (judgement w) n (refused-list (judgement w) n (answered w _ (t .refusal .given .1)))
 
--- the registers that were written, from the image's
-wrote : (w : tie.After-write-plan) → Written (judgement w) (now (start w .args .image)) (w .write-plan .last .1 .1 .0)
-wrote w = subst (λ (l : List ℕ). Written (judgement w) l (w .write-plan .last .1 .1 .0)) (w .before .before .copied .ensures) (w .write-plan .ensures .1)
+-- the board that was found, and the one that the walk left
+abbrev board : tie.After-write-plan → Board
+board w = boardOf (now (start w .args .image)) (start w .args .known)
+
+abbrev left : tie.After-write-plan → Walk → Board
+left w r = boardOf (w .write-plan .last .1 .1 .0) (mapOf (start w .args .known) r)
+
+-- what was written on it
+wrote : (w : tie.After-write-plan) (r : Walk) → w .write-plan .result ≡ r → Written (judgement w) (board w) (left w r)
+wrote w r e =
+    subst (λ (x : Walk). Written (judgement w) (board w) (left w x)) e
+    (subst (λ (l : List ℕ). Written (judgement w) (boardOf l (start w .args .known)) (left w (w .write-plan .result))) (w .before .before .copied .ensures)
+    (w .write-plan .ensures .1))
 
 -- where the plan was written at the chip's own address
 abbrev written-at : tie.After-copy → tie.After-write-plan
 written-at k = k .before .before .before .before .before .before .before .before
 
+-- its registers are as many
+still : (w : tie.After-write-plan) → length (w .write-plan .last .1 .1 .0) ≡ length (now (start w .args .image))
+still w = left-as-many (judgement w) (board w) (left w (w .write-plan .result)) (wrote w (w .write-plan .result) refl)
+
 -- the image became those registers
 became : (k : tie.After-copy) → k .copy .last .1 .0 ≡ written-at k .write-plan .last .1 .1 .0
 became k =
     let w = written-at k in
-    let image = now (start w .args .image) in
-    k .copy .ensures .1 ∙ copied-whole (w .write-plan .last .1 .1 .0) image (sym (left-as-many (judgement w) image (w .write-plan .last .1 .1 .0) (wrote w)))
+    k .copy .ensures .1 ∙ copied-whole (w .write-plan .last .1 .1 .0) (now (start w .args .image)) (sym (still w))
 
 returns-3 : tie.Need-returns-3
 returns-3 c =
@@ -72,14 +87,12 @@ returns-3 c =
     let t = o .before .before in
     let w = written-at k in
     let a = start w .args in
-    let p = own-played (a .kind) (now (a .image)) (a .used) (a .own) (o .if1 .left) (now (a .plan)) _ _ (answered w _ (t .transactions .given .1)) (wrote w) in
-    (p .0, became k ∙ p .1)
+    let e = t .transactions .given .1 in
+    let p = own-played (a .kind) (board w) (a .used) (a .own) (o .if1 .left) (now (a .plan)) _ _ (answered w _ e) (wrote w _ e) in
+    (p .0, ap (λ (l : List ℕ). boardOf l (t .transactions .given .0 .1 .0)) (became k) ∙ p .1)
 
 same-length-3 : tie.Need-same-length-3
-same-length-3 c =
-    let k = c .before .before in
-    let w = written-at k in
-    ap length (became k) ∙ left-as-many (judgement w) (now (start w .args .image)) (w .write-plan .last .1 .1 .0) (wrote w)
+same-length-3 c = let k = c .before .before in ap length (became k) ∙ still (written-at k)
 
 pub play-checked-spec : {M : Type 1} → statement M
 play-checked-spec =

@@ -5,10 +5,10 @@ use Rattle.adv7194_run.proofs.main.Statement.{statement}
 use Rattle.adv7194_run.proofs.main.Tie as tie
 
 abbrev Inv-loop : tie.InvT-loop
-Inv-loop turns₀ turns = Unit {0}
+Inv-loop flags₀ turns₀ flags turns = Unit {0}
 
 abbrev μ-loop : tie.MeasureT-loop
-μ-loop turns₀ turns = turns
+μ-loop flags₀ turns₀ flags turns = turns
 
 pub main-spec : {M : Type 1} → statement M
 main-spec =
@@ -16,10 +16,17 @@ main-spec =
     (tie.spec
     Inv-loop
     μ-loop
+    (λ c κs. search needs)
     (λ c. tt)
+    (λ c. search needs)
+    (λ c κs. search needs)
+    (λ c. search needs)
+    (λ c. search needs)
+    (λ c. search needs)
+    (λ c. search needs)
+    (λ c. search needs)
     (λ c κs. search needs)
     (λ c. omega arith)
     (λ c. omega arith)
     (λ c. tt)
-    (λ c. search needs)
     (λ c. search needs))

@@ -78,9 +78,10 @@ returns-7 c =
 returns-8 : tie.Need-returns-8
 unfolding faultWords
 returns-8 c =
-    let start = c .before .before .before .before in
-    let a = start .args in
-    told (a .image .now) (a .field) (c .enum-told8 .given .1) (unwritten (a .line .now) (a .at) (omega (arith, start .pre)))
+    let p = c .before .before in
+    let t = p .before .before .before in
+    let a = t .before .before .before .before .args in
+    told (a .image .now) (a .field) (t .enum-told8 .given .1) (wider wordsWidth (omega arith) (put (p .put3 .ensures .0) (p .put3 .ensures .1)))
 
 returns-9 : tie.Need-returns-9
 unfolding faultWords
@@ -95,6 +96,13 @@ returns-10 c =
     let start = c .before .before .before .before in
     let a = start .args in
     told (a .image .now) (a .field) (c .enum-told10 .given .1) (unwritten (a .line .now) (a .at) (omega (arith, start .pre)))
+
+returns-11 : tie.Need-returns-11
+unfolding faultWords
+returns-11 c =
+    let start = c .before .before .before .before in
+    let a = start .args in
+    told (a .image .now) (a .field) (c .enum-told11 .given .1) (unwritten (a .line .now) (a .at) (omega (arith, start .pre)))
 
 pub put-words-spec : {M : Type 1} → statement M
 put-words-spec =
@@ -120,6 +128,9 @@ put-words-spec =
     (λ c. search needs)
     (λ c κs. omega arith)
     (λ c. search needs)
+    (λ c. refl)
+    (λ c κs. omega arith)
+    (λ c. search needs)
     (λ c. search needs)
     (λ c. search needs)
     (λ c. search needs)
@@ -136,6 +147,8 @@ put-words-spec =
     returns-6
     (λ c. search needs)
     returns-7
+    (λ c. search needs)
     returns-8
     returns-9
-    returns-10)
+    returns-10
+    returns-11)

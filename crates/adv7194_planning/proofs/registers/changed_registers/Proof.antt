@@ -2,27 +2,13 @@
 use mathlib.Core.Path.{ap, _∙_}
 use mathlib.Core.List.{List}
 use Prim.Native.Nat.{ℕ}
-use native.Mathlib.Omega.{arith}
 use borrow.Author.Needs.{needs}
-use lib.ListN.{length, take, drop}
+use lib.ListN.{take, drop}
 use denote.Ref.{now}
 use Rattle.planning.specs.Registers.{differsIn}
-use Rattle.adv7194_bus.specs.Kind.{registerCount}
-use Rattle.adv7194_planning.proofs.ComparedLaws.{comparable, table-size, both-halves}
+use Rattle.adv7194_planning.proofs.ComparedLaws.{both-halves}
 use Rattle.adv7194_planning.proofs.registers.changed_registers.Statement.{statement}
 use Rattle.adv7194_planning.proofs.registers.changed_registers.Tie as tie
-
-differing-requires : tie.Need-differing-requires
-differing-requires c κs =
-    let start = c .before .before .before .before .before .before .before in
-    let masks = c .before .before .before .before .field-masks in
-    comparable (masks .result) (ap length (masks .ensures) ∙ table-size) (start .pre) 0 0x1b (omega arith) (omega arith)
-
-differing-requires-2 : tie.Need-differing-requires-2
-differing-requires-2 c κs =
-    let start = c .before .before .before .before .before .before .before .before .before .before .before .before in
-    let masks = c .before .before .before .before .before .before .before .before .before .field-masks in
-    comparable (masks .result) (ap length (masks .ensures) ∙ table-size) (start .pre) 0x1b registerCount (omega arith) (omega arith)
 
 returns : tie.Need-returns
 returns c =
@@ -51,7 +37,7 @@ changed-registers-spec =
     (λ c. search needs)
     (λ c. search needs)
     (λ c. search needs)
-    differing-requires
+    (λ c κs. search needs)
     (λ c. search needs)
     (λ c. search needs)
     (λ c. search needs)
@@ -61,6 +47,6 @@ changed-registers-spec =
     (λ c. search needs)
     (λ c. search needs)
     (λ c. search needs)
-    differing-requires-2
+    (λ c κs. search needs)
     (λ c. search needs)
     returns)

@@ -5,10 +5,10 @@ use Rattle.adv7194_planning.proofs.registers.needed_registers.Statement
 use Rattle.adv7194_planning.proofs.registers.needed_registers.Tie as tie
 
 returns : tie.Need-returns
-returns c = none-in-word (c .before .args .differing) (c .if1 .taken)
+returns c = none-in-word (c .before .args .must) (c .if1 .taken)
 
 returns-2 : tie.Need-returns-2
-returns-2 c = some-in-word (c .before .args .differing) (omega arith) (c .if1 .left)
+returns-2 c = some-in-word (c .before .args .must) (omega arith) (c .if1 .left)
 
 pub needed-registers-spec : {M : Type 1} → statement M
 needed-registers-spec = tie.close (tie.spec returns returns-2)

@@ -5,10 +5,10 @@ use Rattle.adv7194_run.proofs.chip.all.Statement.{statement}
 use Rattle.adv7194_run.proofs.chip.all.Tie as tie
 
 abbrev Inv-loop : tie.InvT-loop
-Inv-loop own registers₀ held count state₀ i₀ registers state i = Unit {0}
+Inv-loop own known registers₀ held count state₀ map₀ i₀ registers state map i = Unit {0}
 
 abbrev μ-loop : tie.MeasureT-loop
-μ-loop own registers₀ held count state₀ i₀ registers state i = count - i
+μ-loop own known registers₀ held count state₀ map₀ i₀ registers state map i = count - i
 
 pub all-spec : {M : Type 1} → statement M
 all-spec =
@@ -20,6 +20,8 @@ all-spec =
     (λ c. search needs)
     (λ c. search needs)
     (λ c. search needs)
+    (λ c κs. search needs)
+    (λ c κs. search needs)
     (λ c κs. search needs)
     (λ c. search needs)
     (λ c. search needs)

@@ -1,0 +1,121 @@
+-- What an answer of planning tells: a refusal before the room's, or that all before the room has passed. Assumes nothing.
+use mathlib.Core.Path.{_≡_, refl, sym, ap, _∙_, subst, subst⁻¹}
+use mathlib.Core.Bool.{Bool, true, false, cond, not, _&&_}
+use mathlib.Core.List.{List, [], _∷_}
+use Prim.Native.Nat.{ℕ, zero, suc, _+_, _≤_, _<_}
+use native.Mathlib.Omega.{arith}
+use lib.Dec.{T, eqb, ltb}
+use lib.IntN.{ℤ}
+use lib.ListN.{length}
+use borrow.Author.Tests.{eqb-true, eqb-false, ltb-true, ltb-false}
+use Rattle.bits.proofs.FlagLaws.{first, second}
+use Rattle.refusals.specs.Verdict.{Verdict, good, refusedAt}
+use Rattle.refusals.specs.Order.{Place, firstOf}
+use Rattle.packing.specs.Packing.{packed}
+use Rattle.planning.specs.Plan.{Counts, countsOf}
+use Rattle.adv7194_bus.specs.Kind.{registerCount}
+use Rattle.adv7194_bus.specs.Address.{addressRight}
+use Rattle.adv7194_bus.specs.declared.board.Board.{Board}
+use Rattle.adv7194_table.specs.Fields.{numberCount}
+use Rattle.adv7194_table.specs.Registers.{fieldAmong, lowestField, fieldCount}
+use Rattle.adv7194_table.proofs.RegisterLaws.{lowestFrom, lowest-fields, lowest-here, lowest-next}
+use Rattle.adv7194_settings.specs.Order.{order}
+use Rattle.adv7194_settings.specs.Rows.{rowHolds, checkOf}
+use Rattle.adv7194_planning.specs.Rows.{listOf}
+use Rattle.adv7194_planning.specs.Planning.{planningOf}
+use Rattle.adv7194_planning.proofs.CaseLaws.{bySettings, allBySettings, order-by-settings, lowestUnfixed, wrong-length, wrong-address, wrong-count}
+use Rattle.adv7194_planning.proofs.CaseLaws.{wrong-settings, passed, wrong-register, wrong-room, no-row}
+
+-- ---- the lowest field that has a register that passes a test
+
+-- where it is none, no field has one
+none-from : (P : ℕ → Bool) (k n : ℕ) → 0 < k → lowestFrom P k n ≡ 0 → (f : ℕ) → k ≤ f → f < k + n → fieldAmong P f ≡ false
+none-from P k zero p e f h l = absurd (omega arith)
+none-from P k (suc n) p e f h l = by (fieldAmong P k) refl (eqb f k) refl (none-from P (suc k) n (omega arith))
+  where
+    by : (a : Bool) → fieldAmong P k ≡ a → (x : Bool) → eqb f k ≡ x
+        → (lowestFrom P (suc k) n ≡ 0 → (f : ℕ) → suc k ≤ f → f < suc k + n → fieldAmong P f ≡ false) → fieldAmong P f ≡ false
+    by true a x q rest = absurd (omega (arith, lowest-here P k n a))
+    by false a true q rest = ap (fieldAmong P) (eqb-true f k q) ∙ a
+    by false a false q rest = let z = eqb-false f k q in rest (sym (lowest-next P k n a) ∙ e) f (omega arith) (omega arith)
+
+pub none-among : (P : ℕ → Bool) → lowestField P ≡ 0 → (f : ℕ) → 0 < f → f < fieldCount → fieldAmong P f ≡ false
+none-among P e f h l = none-from P 1 28 (omega arith) (sym (lowest-fields P) ∙ e) f (omega arith) (omega arith)
+
+-- ---- the settings' rows
+
+-- a refusal by some places is one of them
+refused-by : (holds : ℕ → ℕ → Bool) (ps : List Place) (n f : ℕ) → T (allBySettings ps) → firstOf holds ps (tt {0}) ≡ refusedAt n f → T (bySettings n f)
+unfolding firstOf
+refused-by holds [] n f t e = let z : _≡_ {A = ℕ} 0 1 = cc in absurd (omega arith)
+refused-by holds (p ∷ ps) n f t e =
+    by (holds (p .row) (p .field)) e (refused-by holds ps n f (second (bySettings (p .row) (p .field)) (allBySettings ps) t))
+  where
+    by : (b : Bool) → cond b (refusedAt (p .row) (p .field)) (firstOf holds ps (tt {0})) ≡ refusedAt n f
+        → (firstOf holds ps (tt {0}) ≡ refusedAt n f → T (bySettings n f)) → T (bySettings n f)
+    by true e rest =
+        let r : p .row ≡ n = cc in
+        let g : p .field ≡ f = cc in
+        subst (λ (k : ℕ). T (bySettings n k)) g
+        (subst (λ (k : ℕ). T (bySettings k (p .field))) r (first (bySettings (p .row) (p .field)) (allBySettings ps) t))
+    by false e rest = rest e
+
+-- the settings' refusals are such
+settings-row : (zs : List ℤ) (n f : ℕ) → checkOf zs ≡ refusedAt n f → T (bySettings n f)
+unfolding checkOf
+settings-row zs n f e = refused-by (rowHolds zs) order n f order-by-settings e
+
+-- ---- what an answer tells
+
+-- all before the room has passed: what is said of it below
+pub record Passed (board : Board) (zs : List ℤ) : Type 0 where
+  pub long : length (board .registers) ≡ registerCount
+  pub fixed : lowestUnfixed board zs ≡ 0
+
+-- a refusal before the room's, the room's, or the numbers of the list
+pub data Outcome (board : Board) (zs : List ℤ) (room : ℕ) : Verdict Counts → Type 0 where
+  early : {n f : ℕ} → T (not (eqb n 10)) → Outcome board zs room (refusedAt n f)
+  short : Passed board zs → room < length (packed (listOf board zs)) → Outcome board zs room (refusedAt 10 0)
+  planned : Passed board zs → Outcome board zs room (good (countsOf (listOf board zs)))
+
+module _ (board : Board) (zs : List ℤ) (address room : ℕ) where
+  abbrev Right : Type 0
+  Right = Outcome board zs room (planningOf board zs address room)
+
+  given : {v : Verdict Counts} → planningOf board zs address room ≡ v → Outcome board zs room v → Right
+  given e o = subst⁻¹ (Outcome board zs room) e o
+
+  module _ (h : length (board .registers) ≡ registerCount) (e : addressRight address ≡ true) (c : length zs ≡ numberCount) where
+    by-room : checkOf zs ≡ good tt → lowestUnfixed board zs ≡ 0 → (x : Bool) → ltb room (length (packed (listOf board zs))) ≡ x → Right
+    by-room k u true p =
+        let l = ltb-true room (length (packed (listOf board zs))) p in
+        given (passed board zs address room h e c k ∙ wrong-room board zs address room u l) (short (record { long = h; fixed = u }) l)
+    by-room k u false p =
+        let l = ltb-false room (length (packed (listOf board zs))) p in
+        given (passed board zs address room h e c k ∙ no-row board zs address room u l) (planned (record { long = h; fixed = u }))
+
+    by-register : checkOf zs ≡ good tt → (x : Bool) → eqb (lowestUnfixed board zs) 0 ≡ x → Right
+    by-register k true p = by-room k (eqb-true (lowestUnfixed board zs) 0 p) (ltb room (length (packed (listOf board zs)))) refl
+    by-register k false p =
+        given (passed board zs address room h e c k ∙ wrong-register board zs address room (eqb-false (lowestUnfixed board zs) 0 p)) (early tt)
+
+    by-settings : (v : Verdict (Unit {0})) → checkOf zs ≡ v → Right
+    by-settings (good tt) k = by-register k (eqb (lowestUnfixed board zs) 0) refl
+    by-settings (refusedAt n f) k =
+        given (wrong-settings board zs address room h e c n f k) (early (first (not (eqb n 10)) (not (eqb n 11) && not (eqb f 0)) (settings-row zs n f k)))
+
+  by-count : length (board .registers) ≡ registerCount → addressRight address ≡ true → (x : Bool) → eqb (length zs) numberCount ≡ x → Right
+  by-count h e true p = by-settings h e (eqb-true (length zs) numberCount p) (checkOf zs) refl
+  by-count h e false p = given (wrong-count board zs address room h e (eqb-false (length zs) numberCount p)) (early tt)
+
+  by-address : length (board .registers) ≡ registerCount → (x : Bool) → addressRight address ≡ x → Right
+  by-address h true e = by-count h e (eqb (length zs) numberCount) refl
+  by-address h false e = given (wrong-address board zs address room h e) (early tt)
+
+  by-length : (x : Bool) → eqb (length (board .registers)) registerCount ≡ x → Right
+  by-length true p = by-address (eqb-true (length (board .registers)) registerCount p) (addressRight address) refl
+  by-length false p = given (wrong-length board zs address room (eqb-false (length (board .registers)) registerCount p)) (early tt)
+
+  -- planning's answer is one of the three
+  pub outcome : Right
+  outcome = by-length (eqb (length (board .registers)) registerCount) refl
