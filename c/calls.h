@@ -38,16 +38,16 @@ static void house(numbers *s)
     s->at[ADV7194_CURVE_B_P] = s->at[ADV7194_CURVE_B_Q] = 1;
 }
 
-/* Plans over a board known in part and checks the answer, that inputs are kept,
- * and that after a refusal all is; what lies past the packed plan always is. */
-static adv7194_plan_answer plan_known(const char *what, bytes *image, size_t image_len, uint64_t known,
-                                      numbers *settings, size_t settings_len, uint32_t address, bytes *lent,
-                                      size_t lent_len, uint32_t refusal, uint32_t field)
+/* Plans over a board known in part, with a limit, and checks the answer, that inputs
+ * are kept, and that after a refusal all is; what lies past the packed plan always is. */
+static adv7194_plan_answer plan_limited(const char *what, bytes *image, size_t image_len, uint64_t known,
+                                        numbers *settings, size_t settings_len, uint32_t address, uint32_t limit,
+                                        bytes *lent, size_t lent_len, uint32_t refusal, uint32_t field)
 {
     bytes image_before = *image, lent_before = *lent;
     numbers settings_before = *settings;
     adv7194_plan_answer answer = adv7194_plan(image->at, image_len, known, settings->at, settings_len,
-                                              address, lent->at, lent_len);
+                                              address, limit, lent->at, lent_len);
     bool right = answer.refusal == refusal && answer.field == field;
     bool kept = memcmp(image, &image_before, sizeof *image) == 0 &&
                 memcmp(settings, &settings_before, sizeof *settings) == 0;
@@ -64,7 +64,16 @@ static adv7194_plan_answer plan_known(const char *what, bytes *image, size_t ima
     return answer;
 }
 
-/* Plans over a board known in full. */
+/* Plans over a board known in part, with no limit. */
+static adv7194_plan_answer plan_known(const char *what, bytes *image, size_t image_len, uint64_t known,
+                                      numbers *settings, size_t settings_len, uint32_t address, bytes *lent,
+                                      size_t lent_len, uint32_t refusal, uint32_t field)
+{
+    return plan_limited(what, image, image_len, known, settings, settings_len, address, ADV7194_NO_LIMIT, lent,
+                        lent_len, refusal, field);
+}
+
+/* Plans over a board known in full, with no limit. */
 static adv7194_plan_answer plan(const char *what, bytes *image, size_t image_len, numbers *settings,
                                 size_t settings_len, uint32_t address, bytes *lent, size_t lent_len,
                                 uint32_t refusal, uint32_t field)

@@ -9,6 +9,7 @@
 #include "captions.h"
 #include "compare.h"
 #include "lent.h"
+#include "limits.h"
 #include "players.h"
 #include "transactions.h"
 
@@ -198,14 +199,17 @@ static void test_null(bytes *image)
 {
     static const uint8_t empty[] = {0x00};
     const uint64_t all = ADV7194_ALL_KNOWN;
+    const uint32_t free = ADV7194_NO_LIMIT;
     bytes lent;
     numbers settings;
     house(&settings);
     fill_bytes(&lent, BEFORE_BYTE);
-    check("plan, null image", adv7194_plan(NULL, 0, all, settings.at, NUMBERS, ADDRESS, lent.at, MOST).refusal == 1);
-    check("plan, null settings", adv7194_plan(image->at, IMAGE, all, NULL, 0, ADDRESS, lent.at, MOST).refusal == 3);
-    check("plan, null plan", adv7194_plan(image->at, IMAGE, all, settings.at, NUMBERS, ADDRESS, NULL, 0).refusal == 10);
-    check("plan, all null", adv7194_plan(NULL, 0, all, NULL, 0, 1, NULL, 0).refusal == 1);
+    check("plan, null image",
+          adv7194_plan(NULL, 0, all, settings.at, NUMBERS, ADDRESS, free, lent.at, MOST).refusal == 1);
+    check("plan, null settings", adv7194_plan(image->at, IMAGE, all, NULL, 0, ADDRESS, free, lent.at, MOST).refusal == 3);
+    check("plan, null plan",
+          adv7194_plan(image->at, IMAGE, all, settings.at, NUMBERS, ADDRESS, free, NULL, 0).refusal == 10);
+    check("plan, all null", adv7194_plan(NULL, 0, all, NULL, 0, 1, 0, NULL, 0).refusal == 1);
     check("play, null image", adv7194_play(NULL, 0, all, ADDRESS, ADDRESS, empty, 1).refusal == 1);
     check("play, null plan", adv7194_play(image->at, IMAGE, all, ADDRESS, ADDRESS, NULL, 0).refusal == 9);
     check("transaction, null plan", adv7194_transaction(NULL, 0, 0, lent.at, MOST).refusal == 9);
@@ -226,6 +230,7 @@ int main(void)
     test_transaction();
     test_read(&image);
     test_boards(&image);
+    test_limits(&image);
     test_compare(&image);
     test_captions();
     test_null(&image);

@@ -4,6 +4,8 @@
 
 /* The board's address: the byte that starts a write. */
 #define ADDRESS 0x54
+/* The most data bytes in one transaction. A bus that others wait for takes fewer. */
+#define LIMIT ADV7194_NO_LIMIT
 
 /* The house setting. Numbers that aren't named are 0. */
 static const int32_t house[ADV7194_SETTINGS] = {
@@ -27,7 +29,7 @@ int main(void)
     uint8_t image[ADV7194_REGISTERS], plan[ADV7194_PLAN_ROOM], data[ADV7194_DATA_ROOM];
     size_t length = fread(image, 1, sizeof image, stdin);
     adv7194_plan_answer answer = adv7194_plan(image, length, ADV7194_ALL_KNOWN, house, ADV7194_SETTINGS, ADDRESS,
-                                              plan, sizeof plan);
+                                              LIMIT, plan, sizeof plan);
     if (answer.refusal != ADV7194_ACCEPTED) {
         printf("REFUSED %u %u\n", (unsigned)answer.refusal, (unsigned)answer.field);
         return 1;

@@ -42,8 +42,12 @@ extern "C" {
 #define ADV7194_ALL_KNOWN UINT64_C(0x3FFFFFFFFFFFFF)
 /* Numbers of the settings. */
 #define ADV7194_SETTINGS 49
-/* Room for the longest packed plan. */
-#define ADV7194_PLAN_ROOM 44
+/* The limit on the data bytes of a transaction that is none: the highest. */
+#define ADV7194_NO_LIMIT 54
+/* Room for the longest packed plan, whatever the limit. */
+#define ADV7194_PLAN_ROOM 53
+/* Room for the longest packed plan where the limit is ADV7194_NO_LIMIT. */
+#define ADV7194_PLAN_ROOM_NO_LIMIT 44
 /* Room for the data of any transaction of a packed plan. */
 #define ADV7194_DATA_ROOM 63
 /* Bytes of a gamma curve. */
@@ -113,8 +117,8 @@ enum {
     ADV7194_ACCEPTED = 0,
     ADV7194_IMAGE_LENGTH = 1,        /* an image isn't 54 bytes */
     ADV7194_ADDRESS = 2,             /* a bus address is odd or above 254 */
-    ADV7194_OUT_OF_RANGE = 3,        /* a number is outside its range, or (field 0) the settings aren't 49, or no such transaction,
-                                      * or (field 29) no pair of captions, or not two characters in one */
+    ADV7194_OUT_OF_RANGE = 3,        /* a number is outside its range, or (field 0) the limit is, or the settings aren't 49, or no
+                                      * such transaction, or (field 29) no pair of captions, or not two characters in one */
     ADV7194_RESERVED = 4,            /* a code is reserved, a must-be-zero bit is set, or WSS or a caption byte breaks its odd count */
     ADV7194_SQUARE_FOUR_TIMES = 5,   /* square pixel with 4x oversampling */
     ADV7194_PEDESTAL_PAL = 6,        /* pedestal with PAL */
@@ -208,23 +212,28 @@ typedef struct {
 /*
  * Packs into `plan` the least list of write transactions that brings a chip
  * holding `image` in its known registers to the settings: the fewest bus bytes,
- * then the fewest transactions. Bytes of `plan` past the packed plan stay as
- * they were.
+ * then the fewest transactions; of those the list whose first transaction is
+ * shortest, then the second, and so on. Bytes of `plan` past the packed plan stay
+ * as they were.
+ *
+ * No transaction has more than `limit` data bytes, 4 to 54, so that others on the
+ * bus get their turn; ADV7194_NO_LIMIT is no limit. A small one can make the plan
+ * longer than ADV7194_PLAN_ROOM_NO_LIMIT, but never longer than ADV7194_PLAN_ROOM.
  *
  * A register that isn't known is written where the settings fix all its bits,
  * and else left alone. Whatever the chip holds in unknown registers, it then has
  * the settings, and every other bit of a known register as it was.
  *
- * Refuses, in this order: 1; 2; 3 with field 0 for another length than 49; the
- * settings' fields in order; 11 where they fix only some bits of a register that
- * isn't known, with the lowest such field (00 is field 1's, 02 field 2's, 01
- * field 3's and, with signalling off, 19 field 11's); 10. Of the image only the
- * length is judged.
+ * Refuses, in this order: 1; 2; 3 with field 0 for a limit outside 4 to 54, or
+ * another length than 49; the settings' fields in order; 11 where they fix only
+ * some bits of a register that isn't known, with the lowest such field (00 is
+ * field 1's, 02 field 2's, 01 field 3's and, with signalling off, 19 field 11's);
+ * 10. Of the image only the length is judged.
  */
 adv7194_plan_answer adv7194_plan(const uint8_t *image, size_t image_len,
                                  uint64_t known,
                                  const int32_t *settings, size_t settings_len,
-                                 uint32_t address,
+                                 uint32_t address, uint32_t limit,
                                  uint8_t *plan, size_t plan_len);
 
 /*

@@ -3,4 +3,5 @@ pub mod RuleLaws
 pub mod MapRules
 pub mod KindLaws
 pub mod AddressLaws
+pub mod LimitLaws
 pub mod CopyLaws

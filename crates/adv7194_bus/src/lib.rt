@@ -3,6 +3,7 @@ ghost use mathlib.Core.Path.{_≡_};
 ghost use Prim.Native.Nat.{_+_, _-_, _*_, _^_, _≤_};
 ghost use Rattle.adv7194_bus.specs.Address.{addressRight};
 ghost use Rattle.adv7194_bus.specs.Kind.{registerCount};
+ghost use Rattle.adv7194_bus.specs.Limit.{limitRight};
 ghost use Rattle.adv7194_bus.specs.Rules.{keepsRules};
 ghost use Rattle.adv7194_bus.specs.Step.{stepBy};
 ghost use Rattle.bus.specs.Lent.{steppedOf};
@@ -31,6 +32,12 @@ pub const BOARD_ADDRESS: u32 = 0x54;
 // The highest bus address that a chip writes at.
 const HIGHEST_ADDRESS: u32 = 254;
 
+// The shortest limit on the data of a transaction: the subcarrier word's registers are written together.
+pub const LEAST_LIMIT: u32 = 4;
+
+// The longest: all registers, so that no transaction is longer.
+pub const NO_LIMIT: u32 = REGISTERS;
+
 // One event at an ADV7194 of this address: its state, and its registers, which are lent.
 pub fn step(state: State, event: Event, own: u8, registers: &mut [u8; 54]) -> Stepped
     ensures answer { λ r. ⌜ r ≡ steppedOf (stepBy own state (now (registers .entry)) event) ⌝ }
@@ -44,6 +51,13 @@ pub fn address_right(address: u32) -> bool
     ensures answer { λ r. ⌜ r ≡ addressRight address ⌝ }
 {
     address <= HIGHEST_ADDRESS && address % 2 == 0
+}
+
+// Whether a number is a limit on the data of a transaction: 4 to 54.
+pub fn limit_right(limit: u32) -> bool
+    ensures answer { λ r. ⌜ r ≡ limitRight limit ⌝ }
+{
+    LEAST_LIMIT <= limit && limit <= NO_LIMIT
 }
 
 // The map of count registers from a start on.

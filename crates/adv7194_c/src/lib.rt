@@ -1,7 +1,7 @@
 // What C and Rust link: planning, playing, reading and comparing with settings and answers as numbers, planning, playing and reading captions, and a
 // plan's transactions. A slice is a pointer and a length.
 ghost use mathlib.Core.Path.{_≡_};
-ghost use Prim.Native.Nat.{_<_};
+ghost use Prim.Native.Nat.{_≤_, _<_};
 ghost use lib.ListN.{length, take};
 ghost use Rattle.unpacking.specs.Unpacking.{unpack};
 ghost use Rattle.unpacking.specs.Indexed.{transactionOf, headerOf, dataAfter};
@@ -13,7 +13,7 @@ ghost use Rattle.adv7194_captions.specs.Planning.{captionPlanning, captionPlanL
 ghost use Rattle.adv7194_captions.specs.Reading.{captionReading};
 ghost use Rattle.adv7194_least.specs.Aim.{aimOf};
 ghost use Rattle.adv7194_least.specs.Played.{Played};
-ghost use Rattle.adv7194_least.specs.Demands.{Counted, Least, Only, mostBytes};
+ghost use Rattle.adv7194_least.specs.Demands.{Counted, Least, First, Only, mostBytes, wideLimit, wideBytes};
 ghost use Rattle.adv7194_planning.specs.Rows.{listOf};
 ghost use Rattle.adv7194_planning.specs.Planning.{planningOf, planLeft};
 ghost use Rattle.adv7194_playing.specs.declared.PlanKind.the-variants.{Settings, Captions};
@@ -42,29 +42,36 @@ use adv7194_playing::play;
 use adv7194_reading::read;
 use unpacking::indexed::transaction;
 
-// Plans the settings over an image of which the registers in a map are known, for the chip at a bus address, into the lent plan.
+// Plans the settings over an image of which the registers in a map are known, for the chip at a bus address, with a limit on the data of a transaction, into
+// the lent plan.
 #[no_mangle]
 pub extern "C" fn adv7194_plan(
     image: &[u8],
     known: u64,
     settings: &[i32],
     address: u32,
+    limit: u32,
     plan: &mut [u8],
 ) -> PlanAnswer
-    ensures answer { λ r. ⌜ r ≡ planAnswer (planningOf (boardOf (now (image .entry)) known) (now (settings .entry)) address (length (now (plan .entry)))) ⌝ }
-    ensures memory { λ r. ⌜ now (plan .exit) ≡ planLeft (boardOf (now (image .entry)) known) (now (settings .entry)) address (now (plan .entry)) ⌝ }
+    ensures answer { λ r. ⌜ r ≡ planAnswer (planningOf (boardOf (now (image .entry)) known) (now (settings .entry)) address limit (length (now (plan .entry)))) ⌝ }
+    ensures memory { λ r. ⌜ now (plan .exit) ≡ planLeft (boardOf (now (image .entry)) known) (now (settings .entry)) address limit (now (plan .entry)) ⌝ }
     ensures counted { λ r. ⌜ (r .refusal ≡ 0 → Counted (take (r .length) (now (plan .exit))) (r .length) (r .transactions) (r .«bus_bytes»)) ⌝ }
     ensures demanded { λ r. ⌜
         (r .refusal ≡ 0 → Demanded (now (image .entry)) (now (settings .entry)) (wantedBy (now (image .entry)) (now (settings .entry)))) ⌝ }
     ensures played { λ r. ⌜
-        (r .refusal ≡ 0 → Played (aimOf (boardOf (now (image .entry)) known) (now (settings .entry))) (take (r .length) (now (plan .exit)))) ⌝ }
-    ensures least { λ r. ⌜ (r .refusal ≡ 0 → Least (aimOf (boardOf (now (image .entry)) known) (now (settings .entry))) (r .transactions) (r .«bus_bytes»)) ⌝ }
+        (r .refusal ≡ 0 → Played (aimOf (boardOf (now (image .entry)) known) (now (settings .entry)) limit) (take (r .length) (now (plan .exit)))) ⌝ }
+    ensures least { λ r. ⌜
+        (r .refusal ≡ 0 → Least (aimOf (boardOf (now (image .entry)) known) (now (settings .entry)) limit) (r .transactions) (r .«bus_bytes»)) ⌝ }
+    ensures first { λ r. ⌜
+        (r .refusal ≡ 0 → First (aimOf (boardOf (now (image .entry)) known) (now (settings .entry)) limit)
+        (listOf (boardOf (now (image .entry)) known) (now (settings .entry)) limit)) ⌝ }
     ensures only { λ r. ⌜
-        (r .refusal ≡ 0 → Only (aimOf (boardOf (now (image .entry)) known) (now (settings .entry)))
-        (listOf (boardOf (now (image .entry)) known) (now (settings .entry)))) ⌝ }
-    ensures room { λ r. ⌜ (r .refusal ≡ 10 → length (now (plan .entry)) < mostBytes) ⌝ }
+        (r .refusal ≡ 0 → Only (aimOf (boardOf (now (image .entry)) known) (now (settings .entry)) limit)
+        (listOf (boardOf (now (image .entry)) known) (now (settings .entry)) limit)) ⌝ }
+    ensures room { λ r. ⌜
+        (r .refusal ≡ 10 → (length (now (plan .entry)) < mostBytes) × (wideLimit ≤ limit → length (now (plan .entry)) < wideBytes)) ⌝ }
 {
-    plan_answer(adv7194_planning::plan(image, known, settings, address, plan))
+    plan_answer(adv7194_planning::plan(image, known, settings, address, limit, plan))
 }
 
 // Plays a packed plan of settings, sent at the address used, against a fresh chip of its own address that holds the image, of which the registers in a

@@ -1,29 +1,39 @@
--- Of a board that is known in full, needed registers and lists that reach are document 01's: the known-or-not flags weaken nothing. Assumes nothing.
+-- Of a board that is known in full, with a limit of 54, needed registers and lists that reach are document 01's: flags and limit weaken nothing.
+-- Assumes nothing.
 use mathlib.Core.Path.{_≡_, refl, sym, ap, _∙_}
 use mathlib.Core.Bool.{Bool, true, false, not, false≢true}
 use mathlib.Core.List.{List}
-use Prim.Native.Nat.{ℕ, _<_}
+use Prim.Native.Nat.{ℕ, _-_, _≤_, _<_}
 use native.Mathlib.Omega.{arith}
 use lib.Dec.{ltb}
 use lib.ListN.{getD}
 use lib.Seq.{ext-getD}
 use borrow.Author.Tests.{ltb-true, ltb-false, eq-eqb}
 use Rattle.bus.specs.Registers.{differs}
-use Rattle.bus.specs.Transactions.{Transaction}
+use Rattle.bus.specs.Transactions.{Transaction, size, end}
 use Rattle.bus.specs.Run.{after}
 use Rattle.adv7194_bus.specs.Board.{knows}
 use Rattle.adv7194_bus.specs.Kind.{registerCount, adv7194}
+use Rattle.adv7194_bus.specs.Limit.{noLimit}
 use Rattle.adv7194_bus.specs.Rules.{Rules}
 use Rattle.least_cost.proofs.Cheapest.{map-every}
 use Rattle.least_cost.proofs.Ends.{length-after}
 use Rattle.adv7194_least.specs.Aim.{Aim, must, compared}
 use Rattle.adv7194_least.specs.Change.{Change}
-use Rattle.adv7194_least.specs.Reaching.{idleAt, MayHold, Clear, Reaches}
+use Rattle.adv7194_least.specs.Reaching.{idleAt, MayHold, Clear, Within, Reaches}
 use Rattle.adv7194_least.specs.AllKnown.{KnownInFull, EndsIn, AsInFull}
 use Rattle.adv7194_least.proofs.Differing.{same-past}
 use Rattle.adv7194_least.proofs.Costs.{board-held}
 
-module _ (a : Aim) (χ : Change a) (full : KnownInFull (a .board)) where
+-- a transaction that keeps the rules has no more data than there are registers
+rules-within : (t : Transaction) → Rules t → Within noLimit t
+rules-within t h = split (ltb 0 (size t)) refl
+  where
+    split : (b : Bool) → ltb 0 (size t) ≡ b → size t ≤ noLimit
+    split true e = let d = ltb-true 0 (size t) e in omega (arith, h .inside (end t - 1) (omega arith) .0)
+    split false e = omega (arith, ltb-false 0 (size t) e)
+
+module _ (a : Aim) (χ : Change a) (full : KnownInFull (a .board)) (unlimited : a .limit ≡ noLimit) where
   -- every register is compared
   all-compared : (r : ℕ) → r < registerCount → compared a r ≡ true
   all-compared r h = let k = full r h in rw k
@@ -63,6 +73,7 @@ module _ (a : Aim) (χ : Change a) (full : KnownInFull (a .board)) where
   ends-reaches : (own pointer : ℕ) (ts : List Transaction) → EndsIn own pointer (a .board .registers) (a .wanted) ts → Reaches own pointer a ts
   ends-reaches own pointer ts q = record {
     rules = q .rules;
+    limited = rw unlimited (map-every Rules (Within noLimit) rules-within ts (q .rules));
     clear = map-every Rules (Clear a) (λ t h r u. all-compared r (h .inside r u .0)) ts (q .rules);
     ends = λ image m r h c. rw (held-is image m) (ap (λ (l : List ℕ). getD l r 0) (q .ends));
   }

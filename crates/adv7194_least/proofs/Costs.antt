@@ -1,4 +1,4 @@
--- Demand 3: no list that keeps the rules and ends in the wanted image costs less than the plan, and no other ascending one costs as little.
+-- Demand 3: no list that keeps the rules and ends in the wanted image costs less than the plan, and every other that costs as little comes after it.
 -- Assumes nothing.
 use mathlib.Core.Path.{_≡_, refl, sym, ap, _∙_}
 use mathlib.Core.Logic.{inl, inr, ⊎-elim}
@@ -15,15 +15,17 @@ use Rattle.adv7194_bus.specs.Kind.{registerCount, adv7194}
 use Rattle.adv7194_bus.specs.Board.{knows}
 use Rattle.adv7194_bus.specs.Rules.{Rules}
 use Rattle.adv7194_settings.proofs.FitLaws.{set-bytes}
-use Rattle.least_cost.specs.Order.{NoDearer, Ascending, Holds}
-use Rattle.least_cost.specs.Task.{Allowed}
+use Rattle.least_cost.specs.Order.{NoDearer, SameSpans, Ascending, Holds}
+use Rattle.least_cost.specs.Task.{Allowed, Covers}
+use Rattle.least_cost.specs.Cheapest.{Does}
 use Rattle.least_cost.proofs.Cheapest.{map-every}
 use Rattle.least_cost.proofs.Ends.{Kept, ascending-holds}
+use Rattle.least_cost.proofs.Spans.{spans-ascending, same-list}
 use Rattle.adv7194_least.specs.Aim.{Aim, must, compared}
 use Rattle.adv7194_least.specs.Change.{Change}
 use Rattle.adv7194_least.specs.Plan.{may, task, byteOf, planOf}
-use Rattle.adv7194_least.specs.Reaching.{idleAt, MayHold, Clear, Reaches}
-use Rattle.adv7194_least.specs.Demands.{Least, Only}
+use Rattle.adv7194_least.specs.Reaching.{idleAt, MayHold, Clear, Within, Reaches}
+use Rattle.adv7194_least.specs.Demands.{Least, First}
 use Rattle.adv7194_least.proofs.Registers.{writable-from}
 use Rattle.adv7194_least.proofs.TaskLaws.{rules-writable, allowed, covers-task}
 use Rattle.adv7194_least.proofs.Differing.{not-both, must-settable, must-compared}
@@ -62,10 +64,10 @@ module _ (a : Aim) where
   clear-may : (t : Transaction) → Rules t → Clear a t → (x : ℕ) → Touches t x → may a x ≡ true
   clear-may t h c x u = rw (writable-from x (rules-writable t h x u), c x u)
 
-  -- lists of those are allowed
-  all-allowed : (us : List Transaction) → Every Rules us → Every (Clear a) us → Every (Allowed (task a)) us
-  all-allowed [] hs cs = tt
-  all-allowed (t ∷ us) (h, hs) (c, cs) = (allowed (must a) (may a) t h (clear-may t h c), all-allowed us hs cs)
+  -- lists of those that keep the limit are allowed
+  all-allowed : (us : List Transaction) → Every Rules us → Every (Within (a .limit)) us → Every (Clear a) us → Every (Allowed (task a)) us
+  all-allowed [] hs ls cs = tt
+  all-allowed (t ∷ us) (h, hs) (l, ls) (c, cs) = (allowed (a .limit) (must a) (may a) t h l (clear-may t h c), all-allowed us hs ls cs)
 
   module _ (χ : Change a) where
     -- the chip may hold the board's registers
@@ -99,36 +101,50 @@ module _ (a : Aim) where
             (λ p. other-not (byteOf a x) (sym (getD-set-same (a .board .registers) x b 0 (omega arith)) ∙ p))
 
     -- no list that keeps the rules and touches what must be written costs less
-    pub touching-no-dearer : (us : List Transaction) → Every Rules us → Every (Clear a) us → ((x : ℕ) → must a x ≡ true → Touched us x)
-        → NoDearer (planOf a) us
-    touching-no-dearer us hs cs f = plan-cheapest a χ .least us (all-allowed us hs cs) (covers-task (must a) (may a) us hs f)
+    pub touching-no-dearer : (us : List Transaction) → Every Rules us → Every (Within (a .limit)) us → Every (Clear a) us
+        → ((x : ℕ) → must a x ≡ true → Touched us x) → NoDearer (planOf a) us
+    touching-no-dearer us hs ls cs f = plan-cheapest a χ .least us (all-allowed us hs ls cs) (covers-task (a .limit) (must a) (may a) us hs f)
 
     -- demand 3 of the plan's numbers
     pub plan-least : Least a (length (planOf a)) (busBytes (planOf a))
     unfolding Least NoDearer
-    plan-least own pointer us q = touching-no-dearer us (q .rules) (q .clear) (reaches-touches own pointer us q)
+    plan-least own pointer us q = touching-no-dearer us (q .rules) (q .limited) (q .clear) (reaches-touches own pointer us q)
 
-    -- the plan is the only ascending list that costs no more
-    pub plan-only : Only a (planOf a)
-    unfolding Only
-    plan-only own pointer us α q h =
-        plan-cheapest a χ .only us
-        (record {
-          allowed = all-allowed us (q .rules) (q .clear);
-          covers = covers-task (must a) (may a) us (q .rules) (reaches-touches own pointer us q);
-          holds = held;
-          ascending = α;
-        })
-        h
-      where
-        held : Every (Holds (byteOf a)) us
-        held =
-            let n = χ .found .size in
-            let c = idleAt pointer (a .board .registers) in
-            holds-as (λ x. getD (after (adv7194 own) c us .registers) x 0) (byteOf a) us
-            (ascending-holds (adv7194 own) us c 0 α (map-every Rules (Kept (adv7194 own)) (rules-kept own) us (q .rules)) (omega arith))
-            (λ x u. let r = touched-compared us (q .rules) (q .clear) x u in q .ends (a .board .registers) board-held x (r .0) (r .1))
-
-    -- and it is ascending
+    -- the plan is ascending
     pub plan-ascending : Ascending 0 (planOf a)
     plan-ascending = plan-cheapest a χ .does .ascending
+
+    -- ---- lists that end in the wanted image
+    module _ (own pointer : ℕ) (us : List Transaction) (q : Reaches own pointer a us) where
+      -- their transactions are allowed
+      reaches-allowed : Every (Allowed (task a)) us
+      reaches-allowed = all-allowed us (q .rules) (q .limited) (q .clear)
+
+      -- they touch what is needed
+      reaches-covers : Covers (task a) us
+      reaches-covers = covers-task (a .limit) (must a) (may a) us (q .rules) (reaches-touches own pointer us q)
+
+      -- where they ascend they hold the wanted bytes
+      reaches-holds : Ascending 0 us → Every (Holds (byteOf a)) us
+      reaches-holds α =
+          let n = χ .found .size in
+          let c = idleAt pointer (a .board .registers) in
+          holds-as (λ x. getD (after (adv7194 own) c us .registers) x 0) (byteOf a) us
+          (ascending-holds (adv7194 own) us c 0 α (map-every Rules (Kept (adv7194 own)) (rules-kept own) us (q .rules)) (omega arith))
+          (λ x u. let r = touched-compared us (q .rules) (q .clear) x u in q .ends (a .board .registers) board-held x (r .0) (r .1))
+
+      -- so they do the task
+      pub reaches-does : Ascending 0 us → Does (task a) (byteOf a) us
+      reaches-does α = record { allowed = reaches-allowed; covers = reaches-covers; holds = reaches-holds α; ascending = α }
+
+      -- one with the plan's starts and lengths is the plan
+      same-plan : SameSpans (planOf a) us → us ≡ planOf a
+      same-plan s =
+          same-list (byteOf a) (planOf a) us s (plan-cheapest a χ .does .holds) (reaches-holds (spans-ascending (planOf a) us 0 s plan-ascending))
+
+    -- every such list that costs no more comes after the plan or is the plan
+    pub plan-first : First a (planOf a)
+    unfolding First
+    plan-first own pointer us q h =
+        ⊎-elim inl (λ s. inr (same-plan own pointer us q s))
+        (plan-cheapest a χ .first us (reaches-allowed own pointer us q) (reaches-covers own pointer us q) h)

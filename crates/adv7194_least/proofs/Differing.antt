@@ -17,6 +17,7 @@ use Rattle.adv7194_table.specs.Masks.{maskWhere, fieldMask, zeroMask}
 use Rattle.bus.specs.Registers.{differs}
 use Rattle.adv7194_bus.specs.Kind.{registerCount}
 use Rattle.adv7194_bus.specs.Board.{knows}
+use Rattle.adv7194_bus.proofs.LimitLaws.{right-limit}
 use Rattle.adv7194_least.specs.Aim.{Aim, must, compared}
 use Rattle.adv7194_least.specs.Change.{settable, Change}
 use Rattle.adv7194_least.specs.Plan.{writable, may}
@@ -95,8 +96,9 @@ module _ (a : Aim) (χ : Change a) where
   settable-may r s c = rw (settable-writable r (s .0) (s .1), c)
 
   -- the task of planning is made from such registers
-  pub permits : Permits (must a) (may a)
+  pub permits : Permits (a .limit) (must a) (may a)
   permits = record {
+    least = right-limit (a .limit) (χ .limited) .0;
     writes = λ r e. both-true (writable r) (compared a r) e .0;
     musts = λ r m. settable-may r (must-settable r m) (must-compared r m);
     word = λ r h k. let f = χ .word r (among-in 0x0c 0x0f r h k) in settable-may r (χ .fixed r f) (fixed-compared r f);

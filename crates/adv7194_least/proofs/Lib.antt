@@ -4,6 +4,7 @@ pub mod Differing
 pub mod Keeping
 pub mod Reached
 pub mod Costs
+pub mod Joined
 pub mod PackedPlan
 pub mod PlayedPlan
 pub mod Bridges

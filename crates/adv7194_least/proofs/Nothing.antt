@@ -9,10 +9,10 @@ use Rattle.packing.proofs.PackedLaws.{nothing as nothing-packed}
 use Rattle.adv7194_bus.specs.Kind.{registerCount}
 use Rattle.adv7194_bus.specs.Board.{knows}
 use Rattle.least_cost.specs.Task.{Task}
-use Rattle.least_cost.specs.Plan.{Choice, joining, scan, greedyPlan}
+use Rattle.least_cost.specs.Plan.{Choice, scan, best, plan}
 use Rattle.least_cost.proofs.Rounds.{scan-skips}
 use Rattle.adv7194_least.specs.Aim.{Aim, must}
-use Rattle.adv7194_least.specs.Plan.{inWord, may, needed, taskFor, task, byteOf, planOf}
+use Rattle.adv7194_least.specs.Plan.{inWord, needed, taskFor, task, byteOf, planOf}
 use Rattle.adv7194_least.proofs.Differing.{no-difference}
 
 -- past the last register the plan has no transaction
@@ -40,10 +40,10 @@ module _ (a : Aim) (right : (r : ℕ) → must a r ≡ false) where
 
   -- where no register must be written the plan is empty
   pub plan-empty : planOf a ≡ []
-  unfolding planOf greedyPlan taskFor
+  unfolding planOf plan taskFor
   plan-empty =
-      scan-skips (task a) (joining (task a) (may a)) (a .wanted) registerCount 0 0 registerCount (omega arith) (omega arith) (λ x u v. none-needed x)
-      ∙ scan-none (task a) (joining (task a) (may a)) (byteOf a) registerCount
+      scan-skips (task a) (best (task a)) (a .wanted) registerCount 0 0 registerCount (omega arith) (omega arith) (λ x u v. none-needed x)
+      ∙ scan-none (task a) (best (task a)) (byteOf a) registerCount
 
   -- and its packing is 00
   pub packed-empty : packed (planOf a) ≡ 0x00 ∷ []

@@ -9,10 +9,10 @@ use lib.ListN.{length}
 use Rattle.bits.proofs.FlagLaws.{both}
 use Rattle.refusals.specs.Refusal.{accepted}
 use Rattle.bus.specs.Transactions.{Transaction, end, Every, busBytes}
-use Rattle.packing.specs.Packing.{packed, encodable, behind, arranged, ascending, wellFormed}
+use Rattle.packing.specs.Packing.{packed, encodable, arranged, ascending}
 use Rattle.unpacking.specs.Unpacking.{unpack}
 use Rattle.unpacking.proofs.Tests.{Encodable, encodable-from}
-use Rattle.unpacking.proofs.Exact.{round-trip, unpacks-packed}
+use Rattle.unpacking.proofs.Exact.{round-trip}
 use Rattle.adv7194_bus.specs.Kind.{registerCount}
 use Rattle.least_cost.specs.Order.{Ascending}
 use Rattle.adv7194_least.specs.Aim.{Aim, must}
@@ -38,13 +38,9 @@ module _ (a : Aim) (χ : Change a) where
   plan-unpacks =
       round-trip registerCount (omega arith) (planOf a)
       (ascends 0 (planOf a) (plan-ascending a χ)
-      (plan-each a χ Encodable (right-encodable (must a) (may a) (permits a χ) (byteOf a) (χ .wants .bytes))))
+      (plan-each a χ Encodable (right-encodable (a .limit) (must a) (may a) (permits a χ) (byteOf a) (χ .wants .bytes))))
       (plan-inside a χ)
       .0
-
-  -- the plan is well-formed: its numbers fit the packing's fields
-  pub plan-formed : T (wellFormed (planOf a))
-  plan-formed = unpacks-packed behind (packed (planOf a)) (planOf a) plan-unpacks .0
 
   -- its numbers are the plan's
   pub plan-counted : (let ts = planOf a in Counted (packed ts) (length (packed ts)) (length ts) (busBytes ts))

@@ -1,5 +1,5 @@
--- The plan keeps the rules and touches only what is known or needed; it ends in the wanted image, whatever the unknown registers held, and is acknowledged
--- throughout. Assumes nothing.
+-- The plan keeps the rules and the limit and touches only what is known or needed; it ends in the wanted image, whatever the unknown registers held, and is
+-- acknowledged throughout. Assumes nothing.
 use mathlib.Core.Path.{_≡_, refl, _∙_}
 use mathlib.Core.Logic.{_⊎_, inl, inr, ⊎-elim}
 use mathlib.Core.Bool.{Bool, true, false}
@@ -14,41 +14,48 @@ use Rattle.bus.proofs.Acknowledged.{Fits, acknowledged-list}
 use Rattle.adv7194_bus.specs.Kind.{registerCount, readOnly, adv7194}
 use Rattle.adv7194_bus.specs.Board.{knows}
 use Rattle.adv7194_bus.specs.Rules.{Rules}
-use Rattle.least_cost.specs.Task.{Sound, Free}
+use Rattle.least_cost.specs.Task.{Sound, Limited}
+use Rattle.least_cost.specs.Cheapest.{Cheapest}
 use Rattle.least_cost.proofs.Attained.{Right, planned}
-use Rattle.least_cost.proofs.Greedy.{plan-greedy}
-use Rattle.least_cost.proofs.Cheapest.{Cheapest, map-every, cheapest}
+use Rattle.least_cost.proofs.Gaps.{Later}
+use Rattle.least_cost.proofs.Segments.{later-limited}
+use Rattle.least_cost.proofs.Cheapest.{map-every, cheapest-plan}
 use Rattle.least_cost.proofs.Ends.{Kept, ends-in}
 use Rattle.adv7194_least.specs.Aim.{Aim, must, compared}
 use Rattle.adv7194_least.specs.Change.{Change}
 use Rattle.adv7194_least.specs.Plan.{writable, may, taskFor, task, byteOf, planOf}
-use Rattle.adv7194_least.specs.Reaching.{idleAt, MayHold, AsWanted, Clear, Reaches}
+use Rattle.adv7194_least.specs.Reaching.{idleAt, MayHold, AsWanted, Clear, Within, Reaches}
 use Rattle.adv7194_least.proofs.Registers.{both-true}
-use Rattle.adv7194_least.proofs.TaskLaws.{must-needed, sound, free}
+use Rattle.adv7194_least.proofs.TaskLaws.{must-needed, sound, limited}
 use Rattle.adv7194_least.proofs.Differing.{differs-or-same, permits}
-use Rattle.adv7194_least.proofs.Keeping.{right-may, right-rules, right-fits}
+use Rattle.adv7194_least.proofs.Keeping.{right-may, right-within, right-rules, right-fits}
 
 -- what keeps the rules writes to registers that keep a byte
 pub rules-kept : (own : ℕ) (t : Transaction) → Rules t → Kept (adv7194 own) t
 rules-kept own t h x u = (h .inside x u .0, rw (ne-eqb x readOnly (h .inside x u .1)))
 
 module _ (a : Aim) (χ : Change a) where
-  -- the task of planning is sound, and no limit is in force
-  task-sound : Sound (task a)
-  task-sound = sound (must a) (may a) (permits a χ)
+  -- the task of planning is sound
+  pub task-sound : Sound (task a)
+  task-sound = sound (a .limit) (must a) (may a) (permits a χ)
 
-  task-free : Free (task a) (may a)
-  task-free = free (must a) (may a) (permits a χ)
+  -- the limit is in force
+  pub task-limited : Limited (task a) (may a) (a .limit)
+  task-limited = limited (a .limit) (must a) (may a) (permits a χ)
 
-  -- the plan is the cheapest list that does the task
+  -- so a transaction that starts later may take what an earlier one may
+  pub task-later : Later (task a)
+  task-later = later-limited (task a) task-sound (may a) (a .limit) task-limited
+
+  -- the plan is the cheapest list that does the task, and the first of those
   pub plan-cheapest : Cheapest (task a) (byteOf a) (planOf a)
   unfolding planOf
-  plan-cheapest = cheapest (task a) (byteOf a) task-sound (may a) task-free
+  plan-cheapest = cheapest-plan (task a) (byteOf a) task-sound task-later
 
   -- each of its transactions is as a transaction of a plan is
   pub plan-right : Every (Right (task a) (byteOf a)) (planOf a)
   unfolding planOf
-  plan-right = rw (← (plan-greedy (task a) task-sound (may a) task-free (byteOf a))) (planned (task a) (byteOf a) task-sound .right)
+  plan-right = planned (task a) (byteOf a) task-sound .right
 
   -- so it is as they are
   pub plan-each : (P : Transaction → Type 0) → ((t : Transaction) → Right (task a) (byteOf a) t → P t) → Every P (planOf a)
@@ -56,24 +63,28 @@ module _ (a : Aim) (χ : Change a) where
 
   -- it keeps the rules
   pub plan-rules : Every Rules (planOf a)
-  plan-rules = plan-each Rules (right-rules (must a) (may a) (permits a χ) (byteOf a))
+  plan-rules = plan-each Rules (right-rules (a .limit) (must a) (may a) (permits a χ) (byteOf a))
+
+  -- and the limit
+  plan-limited : Every (Within (a .limit)) (planOf a)
+  plan-limited = plan-each (Within (a .limit)) (right-within (a .limit) (must a) (may a) (permits a χ) (byteOf a))
 
   -- it touches no unknown register that isn't needed
   pub plan-clear : Every (Clear a) (planOf a)
   plan-clear =
       plan-each (Clear a)
-      (λ t h r u. both-true (writable r) (compared a r) (right-may (must a) (may a) (permits a χ) (byteOf a) t h r u) .1)
+      (λ t h r u. both-true (writable r) (compared a r) (right-may (a .limit) (must a) (may a) (permits a χ) (byteOf a) t h r u) .1)
 
   -- and its data are for registers of the chip
   pub plan-inside : Every (λ t. end t ≤ registerCount) (planOf a)
-  plan-inside = plan-each (λ t. end t ≤ registerCount) (λ t h. right-fits (must a) (may a) (permits a χ) (byteOf a) 0 t h .ends)
+  plan-inside = plan-each (λ t. end t ≤ registerCount) (λ t h. right-fits (a .limit) (must a) (may a) (permits a χ) (byteOf a) 0 t h .ends)
 
   -- it is acknowledged throughout, whatever the chip holds
   pub plan-acknowledged : (own pointer : ℕ) (image : List ℕ)
       → allAcknowledged (adv7194 own) (idleAt pointer image) (listEvents own (planOf a)) ≡ true
   plan-acknowledged own pointer image =
       acknowledged-list (adv7194 own) (planOf a) (idleAt pointer image)
-      (plan-each (Fits (adv7194 own)) (right-fits (must a) (may a) (permits a χ) (byteOf a) own))
+      (plan-each (Fits (adv7194 own)) (right-fits (a .limit) (must a) (may a) (permits a χ) (byteOf a) own))
 
   -- it touches every register that must be written
   pub must-touched : (r : ℕ) → r < registerCount → must a r ≡ true → Touched (planOf a) r
@@ -101,4 +112,4 @@ module _ (a : Aim) (χ : Change a) where
 
   -- so it is one of the lists that demand 3 speaks of
   pub plan-reaches : (own pointer : ℕ) → Reaches own pointer a (planOf a)
-  plan-reaches own pointer = record { rules = plan-rules; clear = plan-clear; ends = plan-ends own pointer }
+  plan-reaches own pointer = record { rules = plan-rules; limited = plan-limited; clear = plan-clear; ends = plan-ends own pointer }

@@ -1,11 +1,12 @@
--- A plan never has more than 350 bits, 44 bytes, where no unknown register is fixed only in part. Assumes nothing.
+-- Where no unknown register is fixed only in part, a packed plan has no more than 422 bits, 53 bytes, and from a limit of 23 on no more than 350 bits,
+-- 44 bytes. Assumes nothing.
 use mathlib.Core.Path.{_≡_, refl, sym, _∙_}
 use mathlib.Core.Logic.{_⊎_, inl, inr, ⊎-elim}
 use mathlib.Core.Bool.{Bool, true, false, cond, not, _&&_, false≢true}
 use mathlib.Core.List.{List, [], _∷_}
 use Prim.Native.Nat.{ℕ, zero, suc, _+_, _-_, _≤_, _<_}
 use native.Mathlib.Omega.{arith}
-use lib.Dec.{T, ltb}
+use lib.Dec.{T, leb, ltb, leb→le}
 use lib.ListN.{length, replicate}
 use borrow.Author.Tests.{ltb-true, ltb-false, not-true}
 use Rattle.bits.proofs.FlagLaws.{first, second, holds}
@@ -21,15 +22,17 @@ use Rattle.bus.proofs.KnownLaws.{touchedBy, touched-agree}
 use Rattle.packing.specs.Packing.{packedBits, packed}
 use Rattle.packing.proofs.PackedLaws.{packedBits-length, packed-length}
 use Rattle.adv7194_bus.specs.Kind.{registerCount}
+use Rattle.adv7194_bus.specs.Limit.{leastLimit}
 use Rattle.adv7194_bus.specs.Rules.{Rules, keepsRules, allKeepRules}
+use Rattle.adv7194_bus.proofs.LimitLaws.{right-limit}
 use Rattle.adv7194_bus.proofs.RuleLaws.{agree-all}
 use Rattle.least_cost.specs.Order.{NoDearer, Ascending}
 use Rattle.least_cost.proofs.Attained.{later}
 use Rattle.adv7194_least.specs.Aim.{Aim, must, compared}
 use Rattle.adv7194_least.specs.Change.{settable, Change, Told}
 use Rattle.adv7194_least.specs.Plan.{among, planOf}
-use Rattle.adv7194_least.specs.Reaching.{Clear}
-use Rattle.adv7194_least.specs.Demands.{mostBits, mostBytes}
+use Rattle.adv7194_least.specs.Reaching.{Clear, Within}
+use Rattle.adv7194_least.specs.Demands.{mostBits, mostBytes, wideLimit, wideBits, wideBytes}
 use Rattle.adv7194_least.proofs.Registers.{both-true, among-true}
 use Rattle.adv7194_least.proofs.Differing.{must-settable}
 use Rattle.adv7194_least.proofs.Reached.{plan-inside}
@@ -40,9 +43,12 @@ use Rattle.adv7194_least.proofs.Costs.{touching-no-dearer, plan-ascendi
 abbrev mostData : ℕ
 mostData = 38
 
--- the most bus bytes
+-- the most bus bytes, with any limit and with a wide one
 abbrev mostCost : ℕ
-mostCost = 45
+mostCost = 57
+
+abbrev wideCost : ℕ
+wideCost = 45
 
 -- ---- the data are at most as many as the registers that can be touched
 
@@ -91,7 +97,7 @@ data-below (t ∷ ts) i h e r a =
       count-mono reachable i (t .subaddress) (a .0),
     )
 
--- ---- the bus bytes are at most those of five transactions that touch every register that can be set, and no other
+-- ---- the bus bytes are at most those of a list that touches every register that can be set, and no other
 
 -- 1A and 1B can be set
 settable-1a : settable 0x1a ≡ true
@@ -106,9 +112,15 @@ settable-1b = refl
 abbrev stretch : ℕ → ℕ → Transaction
 stretch subaddress n = record { subaddress = subaddress; bytes = replicate n 0 }
 
--- the five, with n of signalling's registers
-unfoldable stretches : ℕ → List Transaction
-stretches n = stretch 0x00 3 ∷ stretch 0x05 1 ∷ stretch 0x0c 5 ∷ stretch 0x19 n ∷ stretch 0x1d 23 ∷ []
+-- transactions of at most four data, with n of signalling's registers
+unfoldable short : ℕ → List Transaction
+short n =
+    stretch 0x00 3 ∷ stretch 0x05 1 ∷ stretch 0x0c 4 ∷ stretch 0x10 1 ∷ stretch 0x19 n ∷ stretch 0x1d 4 ∷ stretch 0x21 4 ∷ stretch 0x25 4
+    ∷ stretch 0x29 4 ∷ stretch 0x2d 4 ∷ stretch 0x31 3 ∷ []
+
+-- and the longest ones
+unfoldable long : ℕ → List Transaction
+long n = stretch 0x00 3 ∷ stretch 0x05 1 ∷ stretch 0x0c 5 ∷ stretch 0x19 n ∷ stretch 0x1d 23 ∷ []
 
 -- a register that can be set and isn't one that signalling may leave as found
 unfoldable plain : ℕ → Bool
@@ -119,25 +131,40 @@ abbrev within : (ℕ → Bool) → List Transaction → Bool
 within kind [] = true
 within kind (t ∷ ts) = below (λ d. kind (t .subaddress + d)) (size t) && within kind ts
 
--- a list keeps the rules, and touches all registers of a kind and no other
-record Serves (kind : ℕ → Bool) (ts : List Transaction) : Type 0 where
+-- no transaction of a list has more than m data
+abbrev sized : ℕ → List Transaction → Bool
+sized m [] = true
+sized m (t ∷ ts) = leb (size t) m && sized m ts
+
+-- a list keeps the rules and a limit, and touches all registers of a kind and no other
+record Serves (m : ℕ) (kind : ℕ → Bool) (ts : List Transaction) : Type 0 where
   rules : T (allKeepRules ts)
+  sizes : T (sized m ts)
   inside : T (within kind ts)
   all : T (below (λ r. imp (kind r) (touchedBy ts r)) registerCount)
 
 -- so do these
-serves-settable : Serves settable (stretches 3)
-unfolding stretches allKeepRules keepsRules settable fieldMask zeroMask maskWhere table singles timing output picture dnr
-serves-settable = record { rules = tt; inside = tt; all = tt }
+short-settable : Serves leastLimit settable (short 3)
+unfolding short allKeepRules keepsRules settable fieldMask zeroMask maskWhere table singles timing output picture dnr
+short-settable = record { rules = tt; sizes = tt; inside = tt; all = tt }
 
-serves-plain : Serves plain (stretches 1)
-unfolding stretches plain allKeepRules keepsRules settable fieldMask zeroMask maskWhere table singles timing output picture dnr
-serves-plain = record { rules = tt; inside = tt; all = tt }
+short-plain : Serves leastLimit plain (short 1)
+unfolding short plain allKeepRules keepsRules settable fieldMask zeroMask maskWhere table singles timing output picture dnr
+short-plain = record { rules = tt; sizes = tt; inside = tt; all = tt }
 
--- their cost
-stretches-bytes : (busBytes (stretches 3) ≤ mostCost) × (busBytes (stretches 1) ≤ mostCost)
-unfolding stretches busBytes
-stretches-bytes = (omega arith, omega arith)
+long-settable : Serves wideLimit settable (long 3)
+unfolding long allKeepRules keepsRules settable fieldMask zeroMask maskWhere table singles timing output picture dnr
+long-settable = record { rules = tt; sizes = tt; inside = tt; all = tt }
+
+long-plain : Serves wideLimit plain (long 1)
+unfolding long plain allKeepRules keepsRules settable fieldMask zeroMask maskWhere table singles timing output picture dnr
+long-plain = record { rules = tt; sizes = tt; inside = tt; all = tt }
+
+-- a list of transactions so long keeps any limit from there on
+all-within : (m limit : ℕ) → m ≤ limit → (ts : List Transaction) → T (sized m ts) → Every (Within limit) ts
+all-within m limit l [] s = tt
+all-within m limit l (t ∷ ts) s =
+    (omega (arith, leb→le (size t) m (first (leb (size t) m) (sized m ts) s)), all-within m limit l ts (second (leb (size t) m) (sized m ts) s))
 
 -- what is no dearer has no more bus bytes
 no-more-bytes : (ts us : List Transaction) → NoDearer ts us → busBytes ts ≤ busBytes us
@@ -168,12 +195,13 @@ module _ (a : Aim) (χ : Change a) where
           rw e at (holds (kind (t .subaddress + (r - t .subaddress))) (below-at (λ d. kind (t .subaddress + d)) (size t) k (r - t .subaddress) (omega arith)))
 
   -- the plan has no more bytes than a list of all registers of a kind, where these are compared and what must be written is of the kind
-  no-more : (kind : ℕ → Bool) (ts : List Transaction) → Serves kind ts → ((r : ℕ) → r < registerCount → kind r ≡ true → compared a r ≡ true)
-      → ((r : ℕ) → must a r ≡ true → kind r ≡ true) → busBytes (planOf a) ≤ busBytes ts
-  no-more kind ts s c k =
+  no-more : (m : ℕ) → m ≤ a .limit → (kind : ℕ → Bool) (ts : List Transaction) → Serves m kind ts
+      → ((r : ℕ) → r < registerCount → kind r ≡ true → compared a r ≡ true) → ((r : ℕ) → must a r ≡ true → kind r ≡ true)
+      → busBytes (planOf a) ≤ busBytes ts
+  no-more m l kind ts s c k =
       let rules = agree-all ts .0 (s .rules) in
       no-more-bytes (planOf a) ts
-      (touching-no-dearer a χ ts rules (all-clear kind c ts rules (s .inside))
+      (touching-no-dearer a χ ts rules (all-within m (a .limit) l ts (s .sizes)) (all-clear kind c ts rules (s .inside))
       (λ r e. touched-agree ts r .0 (imp→ (kind r) (touchedBy ts r) (below-at (λ x. imp (kind x) (touchedBy ts x)) registerCount (s .all) r
       (must-settable a χ r e .0)) (k r e))))
 
@@ -219,11 +247,18 @@ module _ (a : Aim) (χ : Change a) where
         by (inl x) (inr y) = inr (τ 0x1b (omega arith) settable-1b y .1)
         by (inr x) y = inr (τ 0x1a (omega arith) settable-1a x .1)
 
-    -- the plan's bus bytes
+    -- so the plan's bytes are no more than those of a list with signalling's three registers, or with one of them
+    bounded : (m : ℕ) → m ≤ a .limit → (list : ℕ → List Transaction) → Serves m settable (list 3) → Serves m plain (list 1)
+        → (busBytes (planOf a) ≤ busBytes (list 3)) ⊎ (busBytes (planOf a) ≤ busBytes (list 1))
+    bounded m l list s p =
+        ⊎-elim (λ c. inl (no-more m l settable (list 3) s c (λ r e. must-settable a χ r e .1)))
+        (λ u. inr (no-more m l plain (list 1) p plain-compared (must-plain u))) all-compared
+
+    -- the plan's bus bytes, with any limit
     few-bytes : busBytes (planOf a) ≤ mostCost
+    unfolding short busBytes
     few-bytes =
-        ⊎-elim (λ c. omega (arith, stretches-bytes .0, no-more settable (stretches 3) serves-settable c (λ r m. must-settable a χ r m .1)))
-        (λ s. omega (arith, stretches-bytes .1, no-more plain (stretches 1) serves-plain plain-compared (must-plain s))) all-compared
+        ⊎-elim (λ u. omega arith) (λ u. omega arith) (bounded leastLimit (right-limit (a .limit) (χ .limited) .0) short short-settable short-plain)
 
     -- the plan's bits
     pub plan-bits : length (packedBits (planOf a)) ≤ mostBits
@@ -232,3 +267,17 @@ module _ (a : Aim) (χ : Change a) where
     -- the packed plan's bytes
     pub plan-room : length (packed (planOf a)) ≤ mostBytes
     plan-room = rw (packed-length (planOf a)) (omega (arith, few-data, few-bytes, bytes-count (planOf a)))
+
+    module _ (wide : wideLimit ≤ a .limit) where
+      -- the plan's bus bytes, with a wide limit
+      wide-bytes : busBytes (planOf a) ≤ wideCost
+      unfolding long busBytes
+      wide-bytes = ⊎-elim (λ u. omega arith) (λ u. omega arith) (bounded wideLimit wide long long-settable long-plain)
+
+      -- its bits
+      pub wide-bits : length (packedBits (planOf a)) ≤ wideBits
+      wide-bits = omega (arith, few-data, wide-bytes, bytes-count (planOf a), packedBits-length (planOf a))
+
+      -- the packed plan's bytes
+      pub wide-room : length (packed (planOf a)) ≤ wideBytes
+      wide-room = rw (packed-length (planOf a)) (omega (arith, few-data, wide-bytes, bytes-count (planOf a)))

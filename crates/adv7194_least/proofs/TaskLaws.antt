@@ -1,16 +1,18 @@
--- The task of planning is a sound one in which no limit is in force, and it allows whatever keeps the three rules and touches only registers that may be
--- written. Assumes nothing.
+-- The task of planning is a sound one in which the limit is in force, and it allows whatever keeps the three rules and the limit and touches only registers
+-- that may be written. Assumes nothing.
 use mathlib.Core.Path.{_≡_, refl, sym, _∙_}
 use mathlib.Core.Logic.{_⊎_, inl, inr, ⊎-elim}
 use mathlib.Core.Bool.{Bool, true, false, _&&_, _||_, or-true}
 use mathlib.Core.List.{List, _∷_}
 use Prim.Native.Nat.{ℕ, suc, _-_, _≤_, _<_}
 use native.Mathlib.Omega.{arith}
-use borrow.Author.Tests.{not-false}
+use lib.Dec.{ltb}
+use borrow.Author.Tests.{ltb-true, lt-ltb, not-false}
 use Rattle.rounding.proofs.First.{flag}
-use Rattle.bus.specs.Transactions.{Transaction, end, Touches, Touched, Every}
+use Rattle.bus.specs.Transactions.{Transaction, size, end, Touches, Touched, Every}
+use Rattle.adv7194_bus.specs.Limit.{leastLimit}
 use Rattle.adv7194_bus.specs.Rules.{Rules}
-use Rattle.least_cost.specs.Task.{Allowed, Covers, Stop, Sound, Free}
+use Rattle.least_cost.specs.Task.{Allowed, Covers, Stop, Sound, Limited}
 use Rattle.least_cost.proofs.Attained.{later}
 use Rattle.adv7194_least.specs.Plan.{among, writable, wordIn, withWord, taskFor}
 use Rattle.adv7194_least.proofs.Registers.{both-true, among-true, among-in, among-out, among?, Writable, writable-facts}
@@ -94,48 +96,58 @@ module _ (must : ℕ → Bool) where
           whole-word ts all x (q .at) a (q .from, q .to) (f (q .at) (q .is))
       split (inr a) = f x (sym (need-other x a) ∙ n)
 
--- what a task is made from: registers that may be written, among them those that must be and the word's
-pub record Permits (must may : ℕ → Bool) : Type 0 where
+-- what a task is made from: a limit that is no shorter than the word, and registers that may be written, among them those that must be and the word's
+pub record Permits (limit : ℕ) (must may : ℕ → Bool) : Type 0 where
+  pub least : leastLimit ≤ limit
   pub writes : (x : ℕ) → may x ≡ true → writable x ≡ true
   pub musts : (x : ℕ) → must x ≡ true → may x ≡ true
   pub word : (x : ℕ) → 0x0c ≤ x → x ≤ 0x0f → may x ≡ true
 
-module _ (must may : ℕ → Bool) where
-  -- ---- where a transaction may end
+module _ (limit : ℕ) (must may : ℕ → Bool) where
+  -- ---- what a transaction may take, and where it may end
+
+  -- it may take what may be written, within the limit
+  takes-from : (s x : ℕ) → may x ≡ true → x - s < limit → taskFor limit must may .takes s x ≡ true
+  unfolding taskFor
+  takes-from s x m h = rw (m, lt-ltb (x - s) limit h)
+
+  pub takes-facts : (s x : ℕ) → taskFor limit must may .takes s x ≡ true → (may x ≡ true) × (x - s < limit)
+  unfolding taskFor
+  takes-facts s x e = let q = both-true (may x) (ltb (x - s) limit) e in (q .0, ltb-true (x - s) limit (q .1))
 
   -- a transaction may not end inside a needed word, and may end anywhere else
-  cut-false : (x : ℕ) → taskFor must may .cut x ≡ false → ((0x0d ≤ x) × (x ≤ 0x0f)) × (wordIn must ≡ true)
+  cut-false : (x : ℕ) → taskFor limit must may .cut x ≡ false → ((0x0d ≤ x) × (x ≤ 0x0f)) × (wordIn must ≡ true)
   unfolding taskFor
   cut-false x e =
       let q = both-true (among 0x0d 0x0f x) (wordIn must) (not-false (among 0x0d 0x0f x && wordIn must) e) in
       (among-true 0x0d 0x0f x (q .0), q .1)
 
-  pub cut-inside : (x : ℕ) → 0x0d ≤ x → x ≤ 0x0f → wordIn must ≡ true → taskFor must may .cut x ≡ false
+  pub cut-inside : (x : ℕ) → 0x0d ≤ x → x ≤ 0x0f → wordIn must ≡ true → taskFor limit must may .cut x ≡ false
   unfolding taskFor
   cut-inside x a b w = rw (among-in 0x0d 0x0f x a b, w)
 
-  cut-outside : (x : ℕ) → (x < 0x0d) ⊎ (0x0f < x) → taskFor must may .cut x ≡ true
+  cut-outside : (x : ℕ) → (x < 0x0d) ⊎ (0x0f < x) → taskFor limit must may .cut x ≡ true
   unfolding taskFor
   cut-outside x h = rw (among-out 0x0d 0x0f x h)
 
-  -- ---- what keeps the rules and touches only what may be written is allowed
+  -- ---- what keeps the rules and the limit and touches only what may be written is allowed
 
-  pub allowed : (t : Transaction) → Rules t → ((x : ℕ) → Touches t x → may x ≡ true) → Allowed (taskFor must may) t
+  pub allowed : (t : Transaction) → Rules t → size t ≤ limit → ((x : ℕ) → Touches t x → may x ≡ true) → Allowed (taskFor limit must may) t
   unfolding taskFor
-  allowed t h m = record {
+  allowed t h l m = record {
     within = λ x u. h .inside x u .0;
-    takes = λ s u x v w. m x (omega arith);
+    takes = λ s u x v w. takes-from s x (m x (omega arith)) (omega arith);
     ends = λ x u. cut-outside (end t) (ends-outside t h x u);
   }
 
   -- and covers the task where it touches what must be written
-  pub covers-task : (ts : List Transaction) → Every Rules ts → ((x : ℕ) → must x ≡ true → Touched ts x) → Covers (taskFor must may) ts
+  pub covers-task : (ts : List Transaction) → Every Rules ts → ((x : ℕ) → must x ≡ true → Touched ts x) → Covers (taskFor limit must may) ts
   unfolding taskFor
   covers-task ts all f x g n = touches-needed must ts all f x n
 
   -- ---- soundness
 
-  module _ (π : Permits must may) where
+  module _ (π : Permits limit must may) where
     -- every needed register may be written
     pub needed-may : (x : ℕ) → withWord must x ≡ true → may x ≡ true
     needed-may x n =
@@ -146,7 +158,7 @@ module _ (must may : ℕ → Bool) where
     may-facts x m = writable-facts x (π .writes x m)
 
     -- where a transaction from a needed register may end
-    stop-of : (i : ℕ) → withWord must i ≡ true → Stop (taskFor must may) i
+    stop-of : (i : ℕ) → withWord must i ≡ true → Stop (taskFor limit must may) i
     unfolding taskFor
     stop-of i n = split (among? 0x0c 0x0f i)
       where
@@ -154,11 +166,11 @@ module _ (must may : ℕ → Bool) where
         past (inl a) = inl (omega arith)
         past (inr a) = inr (omega arith)
 
-        split : ((0x0c ≤ i) × (i ≤ 0x0f)) ⊎ ((i < 0x0c) ⊎ (0x0f < i)) → Stop (taskFor must may) i
+        split : ((0x0c ≤ i) × (i ≤ 0x0f)) ⊎ ((i < 0x0c) ⊎ (0x0f < i)) → Stop (taskFor limit must may) i
         split (inl a) = record {
           at = 0x10;
           after = omega arith;
-          takes = λ x u v. π .word x (omega arith) (omega arith);
+          takes = λ x u v. takes-from i x (π .word x (omega arith) (omega arith)) (omega (arith, π .least));
           cut = cut-outside 0x10 (inr (omega arith));
         }
         split (inr a) = record {
@@ -169,11 +181,11 @@ module _ (must may : ℕ → Bool) where
         }
 
     -- the task is sound
-    pub sound : Sound (taskFor must may)
+    pub sound : Sound (taskFor limit must may)
     unfolding taskFor
     sound = record {
       need-in = λ x n. may-facts x (needed-may x n) .inside;
-      takes-in = λ s x e. may-facts x e .inside;
+      takes-in = λ s x e. may-facts x (takes-facts s x e .0) .inside;
       cut-first = cut-outside 0 (inl (omega arith));
       cut-before = λ x e. let q = cut-false (suc x) e in need-word must x (omega arith) (omega arith) ∙ q .1;
       cut-after = λ x e. let q = cut-false x e in need-word must x (omega arith) (omega arith) ∙ q .1;
@@ -181,7 +193,7 @@ module _ (must may : ℕ → Bool) where
       stop = stop-of;
     }
 
-    -- and no limit is in force
-    pub free : Free (taskFor must may) may
+    -- and the limit is in force
+    pub limited : Limited (taskFor limit must may) may limit
     unfolding taskFor
-    free = record { takes = λ s i. refl; needed = needed-may }
+    limited = record { takes = λ s x. refl; needed = needed-may }

@@ -17,6 +17,7 @@ use Rattle.field_table.specs.Writes.{Write, put, puts, Each}
 use Rattle.adv7194_bus.specs.Kind.{registerCount}
 use Rattle.adv7194_bus.specs.declared.board.Board.{Board}
 use Rattle.adv7194_bus.specs.Board.{knows}
+use Rattle.adv7194_bus.specs.Limit.{limitRight}
 use Rattle.adv7194_table.specs.Blocks.{signalling}
 use Rattle.adv7194_table.specs.Fields.{timing, output, picture, dnr}
 use Rattle.adv7194_table.specs.Table.{signals, singles, table}
@@ -121,32 +122,33 @@ module _ (cs : List ℕ) where
 abbrev signalCodes : List ℤ → List ℕ
 signalCodes zs = codesIn (blockCodes zs signals signalling)
 
-module _ (b : Board) (zs : List ℤ) (i : Image (b .registers)) where
-  -- the wanted image of any settings
-  pub settings-change : Change (aimOf b zs)
+module _ (b : Board) (zs : List ℤ) (limit : ℕ) (i : Image (b .registers)) where
+  -- the wanted image of any settings, with a right limit
+  pub settings-change : limitRight limit ≡ true → Change (aimOf b zs limit)
   unfolding wantedBy
-  settings-change = record {
+  settings-change l = record {
     found = i;
     wants = record { size = wanted-length (b .registers) zs ∙ i .size; bytes = wanted-bytes (b .registers) zs (i .bytes) };
     kept = λ r h e. stays (writesOf zs table) (b .registers) r (settings-fit settable table-settable zs) e;
     fixed = full-settable (signalCodes zs);
     word = word-full (signalCodes zs);
+    limited = l;
   }
 
   -- a register without a fixed bit is not needed
-  free-rests : (r : ℕ) → r < registerCount → fixedMask (signalCodes zs) r ≡ 0 → must (aimOf b zs) r ≡ false
+  free-rests : (r : ℕ) → r < registerCount → fixedMask (signalCodes zs) r ≡ 0 → must (aimOf b zs limit) r ≡ false
   free-rests r h e = by (knows b r) refl
     where
-      by : (k : Bool) → knows b r ≡ k → must (aimOf b zs) r ≡ false
+      by : (k : Bool) → knows b r ≡ k → must (aimOf b zs limit) r ≡ false
       by true k = rw (k, found-byte (b .registers) zs r (i .size) (i .bytes) h e) (no-difference (b .registers) r)
       by false k = rw (k, e)
 
   -- where no unknown register is fixed only in part, every register with such a bit is known or fixed, but for 1A and 1B where field 11 is off
-  pub registers-told : ((r : ℕ) → r < registerCount → (unknown b r && fixesSome zs r) ≡ false) → Told (aimOf b zs)
+  pub registers-told : ((r : ℕ) → r < registerCount → (unknown b r && fixesSome zs r) ≡ false) → Told (aimOf b zs limit)
   registers-told h r k s c = by (knows b r) refl (free (signalCodes zs) r) refl (full (signalCodes zs) r) refl
     where
       by : (x : Bool) → knows b r ≡ x → (y : Bool) → free (signalCodes zs) r ≡ y → (z : Bool) → full (signalCodes zs) r ≡ z
-          → (among 0x1a 0x1b r ≡ true) × ((must (aimOf b zs) 0x1a ≡ false) × (must (aimOf b zs) 0x1b ≡ false))
+          → (among 0x1a 0x1b r ≡ true) × ((must (aimOf b zs limit) 0x1a ≡ false) × (must (aimOf b zs limit) 0x1b ≡ false))
       by true p y q z u = absurd (false≢true (sym c ∙ rw p))
       by false p y q true u = absurd (false≢true (sym c ∙ rw (p, u)))
       by false p false q false u = absurd (false≢true (sym (h r k) ∙ rw (p, q, u)))
@@ -156,5 +158,5 @@ module _ (b : Board) (zs : List ℤ) (i : Image (b .registers)) where
           (o .1, (free-rests 0x1a (omega arith) (e .0), free-rests 0x1b (omega arith) (e .1)))
 
   -- the same where row 11 of planning holds at no field
-  pub settings-told : ((f : ℕ) → 0 < f → f < fieldCount → partlyFixed b zs f ≡ false) → Told (aimOf b zs)
+  pub settings-told : ((f : ℕ) → 0 < f → f < fieldCount → partlyFixed b zs f ≡ false) → Told (aimOf b zs limit)
   settings-told h = registers-told (none-partly b zs h)

@@ -1,5 +1,5 @@
--- Document 01, "The bus and its three rules", of a board that is known in full: a register is needed where the starting and the wanted image differ, and a
--- list ends in the wanted image where the chip's registers are that image, all 54 bytes of it.
+-- Document 01, "The bus and its three rules", of a board that is known in full, with no limit: a register is needed where the starting and the wanted image
+-- differ, and a list ends in the wanted image where the chip's registers are that image, all 54 bytes of it.
 use mathlib.Core.Path.{_≡_}
 use mathlib.Core.Logic.{_↔_}
 use mathlib.Core.Bool.{true}

@@ -1,16 +1,19 @@
 -- Document 01, demand 3: of the lists that keep the rules and end in the wanted image, the plan is the ascending one of fewest bus bytes and then fewest
--- transactions; a single claim about whole lists, of any length, with any number of data, none too. Demand 2 is in Played.
+-- transactions; a single claim about whole lists, of any length, with any number of data, none too. Document 02, P6: the lists keep the limit too, and of
+-- those as cheap the plan is the first by first start, first length (shorter first), second start and so on. Demand 2 is in Played.
 use mathlib.Core.Path.{_≡_}
 use mathlib.Core.Logic.{_⊎_}
 use mathlib.Core.List.{List}
 use Prim.Native.Nat.{ℕ, _≤_, _<_}
 use lib.ListN.{length}
 use Rattle.refusals.specs.Refusal.{accepted}
-use Rattle.bus.specs.Transactions.{Transaction, busBytes}
+use Rattle.bus.specs.Transactions.{Transaction, Every, busBytes}
 use Rattle.unpacking.specs.Unpacking.{unpack}
-use Rattle.least_cost.specs.Order.{NoDearer, Ascending}
+use Rattle.least_cost.specs.Order.{NoDearer, Before, Ascending}
+use Rattle.adv7194_bus.specs.Limit.{noLimit}
 use Rattle.adv7194_least.specs.Aim.{Aim}
-use Rattle.adv7194_least.specs.Reaching.{Reaches}
+use Rattle.adv7194_least.specs.Plan.{joinedPlan}
+use Rattle.adv7194_least.specs.Reaching.{Within, Reaches}
 
 -- the numbers answered with a plan's bytes: how many they are, and the transactions and bus bytes of the list that they unpack to
 pub record Counted (plan : List ℕ) (size transactions bytes : ℕ) : Type 0 where
@@ -26,13 +29,34 @@ Least a transactions bytes =
     (own pointer : ℕ) (us : List Transaction) → Reaches own pointer a us
     → (bytes < busBytes us) ⊎ ((bytes ≡ busBytes us) × (transactions ≤ length us))
 
--- and the list is the only ascending one that costs no more
-unfoldable pub Only : Aim → List Transaction → Type 0
-Only a ts = (own pointer : ℕ) (us : List Transaction) → Ascending 0 us → Reaches own pointer a us → NoDearer us ts → us ≡ ts
+-- every such list that costs no more, in any order, overlap and repetition, comes after the list or is the list
+unfoldable pub First : Aim → List Transaction → Type 0
+First a ts = (own pointer : ℕ) (us : List Transaction) → Reaches own pointer a us → NoDearer us ts → Before ts us ⊎ (us ≡ ts)
 
--- the most bits, and the most bytes, that a packed plan has (theorems `plan-bits` and `plan-room` of proofs/Room.antt)
+-- no run of registers is longer than the limit
+abbrev pub RunsWithin : Aim → Type 0
+RunsWithin a = Every (Within (a .limit)) (joinedPlan a)
+
+-- one that doesn't come after the list is the list; where no run is longer than the limit, and so with 54, every ascending one is
+pub record Only (a : Aim) (ts : List Transaction) : Type 0 where
+  pub earliest : (own pointer : ℕ) (us : List Transaction) → Reaches own pointer a us → NoDearer us ts → (Before ts us → ⊥) → us ≡ ts
+  pub ascending : RunsWithin a → (own pointer : ℕ) (us : List Transaction) → Ascending 0 us → Reaches own pointer a us → NoDearer us ts → us ≡ ts
+  pub unlimited : a .limit ≡ noLimit → RunsWithin a
+
+-- the most bits, and the most bytes, that a packed plan has, whatever the limit (theorems `plan-bits` and `plan-room` of proofs/Room.antt)
 abbrev pub mostBits : ℕ
-mostBits = 350
+mostBits = 422
 
 abbrev pub mostBytes : ℕ
-mostBytes = 44
+mostBytes = 53
+
+-- from this limit on the longest run of registers with a field or a must-be-zero bit, 1D to 33, is one transaction
+abbrev pub wideLimit : ℕ
+wideLimit = 23
+
+-- and these are the most bits and bytes of a packed plan (theorems `wide-bits` and `wide-room`)
+abbrev pub wideBits : ℕ
+wideBits = 350
+
+abbrev pub wideBytes : ℕ
+wideBytes = 44

@@ -1,14 +1,15 @@
 -- Document 01, "The bus and its three rules": a register is needed where the two images differ; a transaction that touches one of 0C-0F
--- holds all four; none touches 11-14 or 34. The plan is an ascending list over the registers so needed.
+-- holds all four; none touches 11-14 or 34. Document 02, P6: none has more data than the limit. The plan is the list over the registers so needed that
+-- weighs least, and the first of those.
 use mathlib.Core.Bool.{Bool, cond, not, _&&_, _||_}
 use mathlib.Core.List.{List}
-use Prim.Native.Nat.{ℕ}
+use Prim.Native.Nat.{ℕ, _-_}
 use lib.Dec.{leb, ltb, eqb}
 use lib.ListN.{getD}
 use Rattle.bus.specs.Transactions.{Transaction}
 use Rattle.adv7194_bus.specs.Kind.{registerCount, readOnly}
 use Rattle.least_cost.specs.Task.{Task}
-use Rattle.least_cost.specs.Plan.{greedyPlan}
+use Rattle.least_cost.specs.Plan.{plan, greedyPlan}
 use Rattle.adv7194_least.specs.Aim.{Aim, must, compared}
 
 -- register r is one of first to last
@@ -31,13 +32,13 @@ wordIn must = must 0x0c || (must 0x0d || (must 0x0e || must 0x0f))
 abbrev pub withWord : (ℕ → Bool) → ℕ → Bool
 withWord must r = cond (inWord r) (wordIn must) (must r)
 
--- the task of a planner that must write some registers and may write others: a transaction may take these, and may not end inside the word where that is
--- needed
-unfoldable pub taskFor : (ℕ → Bool) → (ℕ → Bool) → Task
-taskFor must may = record {
+-- the task of a planner with a limit that must write some registers and may write others: a transaction may take these, as many as the limit says, and may
+-- not end inside the word where that is needed
+unfoldable pub taskFor : ℕ → (ℕ → Bool) → (ℕ → Bool) → Task
+taskFor limit must may = record {
   count = registerCount;
   need = withWord must;
-  takes = λ s r. may r;
+  takes = λ s r. may r && ltb (r - s) limit;
   cut = λ r. not (among 0x0d 0x0f r && wordIn must);
 }
 
@@ -51,7 +52,7 @@ needed a r = withWord (must a) r
 
 -- the task of planning
 abbrev pub task : Aim → Task
-task a = taskFor (must a) (may a)
+task a = taskFor (a .limit) (must a) (may a)
 
 -- the byte that is wanted in register r
 abbrev pub byteOf : Aim → ℕ → ℕ
@@ -59,4 +60,8 @@ byteOf a r = getD (a .wanted) r 0
 
 -- the plan's transactions, with the wanted image's bytes
 unfoldable pub planOf : Aim → List Transaction
-planOf a = greedyPlan (task a) (may a) (byteOf a)
+planOf a = plan (task a) (byteOf a)
+
+-- the plan that joins gaps of one and two registers and knows no limit: each of its transactions is a run of registers
+unfoldable pub joinedPlan : Aim → List Transaction
+joinedPlan a = greedyPlan (task a) (may a) (byteOf a)

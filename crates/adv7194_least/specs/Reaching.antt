@@ -1,13 +1,13 @@
 -- Document 01, "The bus and its three rules": a list ends in the registers that an idle chip holding the starting image has after the list's events,
 -- transaction after transaction. Document 02, P5: the starting image is what the chip holds in the known registers; a list ends in given registers only
--- where it does so whatever the unknown ones held, those neither known nor needed left out of the comparison.
+-- where it does so whatever the unknown ones held, those neither known nor needed left out of the comparison. P6: the lists keep the limit too.
 use mathlib.Core.Path.{_≡_}
 use mathlib.Core.Bool.{true}
 use mathlib.Core.List.{List}
-use Prim.Native.Nat.{ℕ, _<_, _^_}
+use Prim.Native.Nat.{ℕ, _≤_, _<_, _^_}
 use lib.ListN.{length, getD}
 use Rattle.bus.specs.declared.chip.Phase.the-variants.{Idle}
-use Rattle.bus.specs.Transactions.{Transaction, Touches, Every}
+use Rattle.bus.specs.Transactions.{Transaction, size, Touches, Every}
 use Rattle.bus.specs.Chip.{Chip}
 use Rattle.bus.specs.Run.{run, listEvents}
 use Rattle.adv7194_bus.specs.declared.board.Board.{Board}
@@ -34,9 +34,14 @@ AsWanted a registers = (r : ℕ) → r < registerCount → compared a r ≡ true
 abbrev pub Clear : Aim → Transaction → Type 0
 Clear a t = (r : ℕ) → Touches t r → compared a r ≡ true
 
--- a list keeps the three rules, touches no unknown register that isn't needed and, written to the chip's own address, ends in the wanted registers,
--- whatever the unknown ones held
+-- a transaction has no more data than a limit
+abbrev pub Within : ℕ → Transaction → Type 0
+Within limit t = size t ≤ limit
+
+-- a list keeps the three rules and the limit, touches no unknown register that isn't needed and, written to the chip's own address, ends in the wanted
+-- registers, whatever the unknown ones held
 pub record Reaches (own pointer : ℕ) (a : Aim) (ts : List Transaction) : Type 0 where
   pub rules : Every Rules ts
+  pub limited : Every (Within (a .limit)) ts
   pub clear : Every (Clear a) ts
   pub ends : (image : List ℕ) → MayHold (a .board) image → AsWanted a (run (adv7194 own) (idleAt pointer image) (listEvents own ts) .registers)

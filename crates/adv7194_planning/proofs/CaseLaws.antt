@@ -15,6 +15,7 @@ use Rattle.packing.specs.Packing.{packed}
 use Rattle.planning.specs.Plan.{Counts, countsOf, packingOf, leftBy}
 use Rattle.adv7194_bus.specs.Kind.{registerCount}
 use Rattle.adv7194_bus.specs.Address.{addressRight}
+use Rattle.adv7194_bus.specs.Limit.{limitRight}
 use Rattle.adv7194_bus.specs.declared.board.Board.{Board}
 use Rattle.adv7194_table.specs.Fields.{numberCount, timing, output, picture, dnr}
 use Rattle.adv7194_table.specs.Table.{singles, table, orderOf}
@@ -61,9 +62,9 @@ table-fields : T (allFields (orderOf table))
 unfolding orderOf table singles timing output picture dnr
 table-fields = tt
 
-module _ (b : Board) (zs : List ℤ) (address room : ℕ) where
+module _ (b : Board) (zs : List ℤ) (address limit room : ℕ) where
   -- a row holds of what is handed to planning where it holds of the settings
-  same-row : (n f : ℕ) → T (bySettings n f) → rowPlanned b zs address room n f ≡ rowHolds zs n f
+  same-row : (n f : ℕ) → T (bySettings n f) → rowPlanned b zs address limit room n f ≡ rowHolds zs n f
   unfolding rowPlanned
   same-row n f t =
       let own = not (eqb n 11) && not (eqb f 0) in
@@ -73,7 +74,7 @@ module _ (b : Board) (zs : List ℤ) (address room : ℕ) where
         not-true (eqb n 11) (holds (not (eqb n 11)) (first (not (eqb n 11)) (not (eqb f 0)) q)),
       )
 
-  same-first : {A : Type 0} (ps : List Place) (a : A) → T (allBySettings ps) → firstOf (rowPlanned b zs address room) ps a ≡ firstOf (rowHolds zs) ps a
+  same-first : {A : Type 0} (ps : List Place) (a : A) → T (allBySettings ps) → firstOf (rowPlanned b zs address limit room) ps a ≡ firstOf (rowHolds zs) ps a
   unfolding firstOf
   same-first [] a t = refl
   same-first (p ∷ ps) a t =
@@ -82,7 +83,7 @@ module _ (b : Board) (zs : List ℤ) (address room : ℕ) where
 
   -- row 11 is given at the lowest field that has such a register
   by-register : (fs : List ℕ) → T (allFields fs) → (let f = lowestIn (unfixed b zs) fs in
-      firstOf (rowPlanned b zs address room) (placesOver 11 fs) (tt {0}) ≡ cond (eqb f 0) (good tt) (refusedAt 11 f))
+      firstOf (rowPlanned b zs address limit room) (placesOver 11 fs) (tt {0}) ≡ cond (eqb f 0) (good tt) (refusedAt 11 f))
   unfolding firstOf placesOver rowPlanned lowestIn
   by-register [] t = refl
   by-register (f ∷ fs) t =
@@ -91,9 +92,9 @@ module _ (b : Board) (zs : List ℤ) (address room : ℕ) where
     where
       by : (x : Bool) → fieldAmong (unfixed b zs) f ≡ x → eqb f 0 ≡ false
           → (let g = lowestIn (unfixed b zs) fs in
-          firstOf (rowPlanned b zs address room) (placesOver 11 fs) (tt {0}) ≡ cond (eqb g 0) (good tt) (refusedAt 11 g))
+          firstOf (rowPlanned b zs address limit room) (placesOver 11 fs) (tt {0}) ≡ cond (eqb g 0) (good tt) (refusedAt 11 g))
           → (let g = lowestIn (unfixed b zs) (f ∷ fs) in
-          firstOf (rowPlanned b zs address room) (placesOver 11 (f ∷ fs)) (tt {0}) ≡ cond (eqb g 0) (good tt) (refusedAt 11 g))
+          firstOf (rowPlanned b zs address limit room) (placesOver 11 (f ∷ fs)) (tt {0}) ≡ cond (eqb g 0) (good tt) (refusedAt 11 g))
       by true p e ih = rw (p, e)
       by false p e ih = rw (p, e) ih
 
@@ -101,16 +102,16 @@ module _ (b : Board) (zs : List ℤ) (address room : ℕ) where
 
   -- row 10, or the numbers of the list
   abbrev byRoom : Verdict Counts
-  byRoom = cond (ltb room (length (packed (listOf b zs)))) (refusedAt 10 0) (good (countsOf (listOf b zs)))
+  byRoom = cond (ltb room (length (packed (listOf b zs limit)))) (refusedAt 10 0) (good (countsOf (listOf b zs limit)))
 
   -- what is answered of settings that pass the check: rows 11 and 10
   abbrev pub lastVerdict : Verdict Counts
-  lastVerdict = firstOf (rowPlanned b zs address room) lastChecks (countsOf (listOf b zs))
+  lastVerdict = firstOf (rowPlanned b zs address limit room) lastChecks (countsOf (listOf b zs limit))
 
   last-is : lastVerdict ≡ after (cond (eqb (lowestUnfixed b zs) 0) (good (tt {0})) (refusedAt 11 (lowestUnfixed b zs))) byRoom
   unfolding firstOf rowPlanned placesAt
   last-is =
-      first-append (rowPlanned b zs address room) (placesOver 11 (orderOf table)) (placesAt (10 ∷ []) 0) (countsOf (listOf b zs))
+      first-append (rowPlanned b zs address limit room) (placesOver 11 (orderOf table)) (placesAt (10 ∷ []) 0) (countsOf (listOf b zs limit))
       ∙ ap (λ (v : Verdict (Unit {0})). after v byRoom) (by-register (orderOf table) table-fields)
 
   -- row 11: an unknown register is fixed only in part
@@ -123,67 +124,73 @@ module _ (b : Board) (zs : List ℤ) (address room : ℕ) where
     by-room = last-is ∙ rw (eq-eqb (lowestUnfixed b zs) 0 u)
 
     -- row 10: the lent plan is shorter than the packed plan
-    pub wrong-room : room < length (packed (listOf b zs)) → lastVerdict ≡ refusedAt 10 0
-    wrong-room l = by-room ∙ rw (lt-ltb room (length (packed (listOf b zs))) l)
+    pub wrong-room : room < length (packed (listOf b zs limit)) → lastVerdict ≡ refusedAt 10 0
+    wrong-room l = by-room ∙ rw (lt-ltb room (length (packed (listOf b zs limit))) l)
 
     -- no row holds
-    pub no-row : length (packed (listOf b zs)) ≤ room → lastVerdict ≡ good (countsOf (listOf b zs))
-    no-row l = by-room ∙ rw (le-ltb room (length (packed (listOf b zs))) l)
+    pub no-row : length (packed (listOf b zs limit)) ≤ room → lastVerdict ≡ good (countsOf (listOf b zs limit))
+    no-row l = by-room ∙ rw (le-ltb room (length (packed (listOf b zs limit))) l)
 
     -- so packing the list answers it
-    pub packing : packingOf (listOf b zs) room ≡ lastVerdict
-    packing = by (leb (length (packed (listOf b zs))) room) refl
+    pub packing : packingOf (listOf b zs limit) room ≡ lastVerdict
+    packing = by (leb (length (packed (listOf b zs limit))) room) refl
       where
-        by : (x : Bool) → leb (length (packed (listOf b zs))) room ≡ x → packingOf (listOf b zs) room ≡ lastVerdict
-        by true p = rw p (sym (no-row (leb-true (length (packed (listOf b zs))) room p)))
-        by false p = rw p (sym (wrong-room (leb-false (length (packed (listOf b zs))) room p)))
+        by : (x : Bool) → leb (length (packed (listOf b zs limit))) room ≡ x → packingOf (listOf b zs limit) room ≡ lastVerdict
+        by true p = rw p (sym (no-row (leb-true (length (packed (listOf b zs limit))) room p)))
+        by false p = rw p (sym (wrong-room (leb-false (length (packed (listOf b zs limit))) room p)))
 
   -- the settings' rows, and then those
-  settings-then : firstOf (rowPlanned b zs address room) (order ++ lastChecks) (countsOf (listOf b zs)) ≡ after (checkOf zs) lastVerdict
+  settings-then : firstOf (rowPlanned b zs address limit room) (order ++ lastChecks) (countsOf (listOf b zs limit)) ≡ after (checkOf zs) lastVerdict
   unfolding checkOf
   settings-then =
-      first-append (rowPlanned b zs address room) order lastChecks (countsOf (listOf b zs))
+      first-append (rowPlanned b zs address limit room) order lastChecks (countsOf (listOf b zs limit))
       ∙ ap (λ (v : Verdict (Unit {0})). after v lastVerdict) (same-first order (tt {0}) order-by-settings)
 
   -- row 1: the image isn't 54 bytes
-  pub wrong-length : (length (b .registers) ≡ registerCount → ⊥) → planningOf b zs address room ≡ refusedAt 1 0
+  pub wrong-length : (length (b .registers) ≡ registerCount → ⊥) → planningOf b zs address limit room ≡ refusedAt 1 0
   unfolding planningOf planOrder placesAt firstOf rowPlanned
   wrong-length h = rw (ne-eqb (length (b .registers)) registerCount h)
 
   module _ (h : length (b .registers) ≡ registerCount) where
     -- row 2: the address
-    pub wrong-address : addressRight address ≡ false → planningOf b zs address room ≡ refusedAt 2 0
+    pub wrong-address : addressRight address ≡ false → planningOf b zs address limit room ≡ refusedAt 2 0
     unfolding planningOf planOrder placesAt firstOf rowPlanned
     wrong-address e = rw (eq-eqb (length (b .registers)) registerCount h, e)
 
     module _ (e : addressRight address ≡ true) where
-      -- row 3 at field 0: the settings aren't 49 numbers
-      pub wrong-count : (length zs ≡ numberCount → ⊥) → planningOf b zs address room ≡ refusedAt 3 0
+      -- row 3 at field 0: the limit
+      pub wrong-limit : limitRight limit ≡ false → planningOf b zs address limit room ≡ refusedAt 3 0
       unfolding planningOf planOrder placesAt firstOf rowPlanned
-      wrong-count c = rw (eq-eqb (length (b .registers)) registerCount h, e, ne-eqb (length zs) numberCount c)
+      wrong-limit l = rw (eq-eqb (length (b .registers)) registerCount h, e, l)
 
-      module _ (c : length zs ≡ numberCount) where
-        -- the settings are left to judge, and then rows 11 and 10
-        right-so-far : planningOf b zs address room ≡ after (checkOf zs) lastVerdict
+      module _ (l : limitRight limit ≡ true) where
+        -- and: the settings aren't 49 numbers
+        pub wrong-count : (length zs ≡ numberCount → ⊥) → planningOf b zs address limit room ≡ refusedAt 3 0
         unfolding planningOf planOrder placesAt firstOf rowPlanned
-        right-so-far = rw (eq-eqb (length (b .registers)) registerCount h, e, eq-eqb (length zs) numberCount c) settings-then
+        wrong-count c = rw (eq-eqb (length (b .registers)) registerCount h, e, l, ne-eqb (length zs) numberCount c)
 
-        -- rows 3 to 7: the settings
-        pub wrong-settings : (n f : ℕ) → checkOf zs ≡ refusedAt n f → planningOf b zs address room ≡ refusedAt n f
-        wrong-settings n f k = right-so-far ∙ ap (λ (v : Verdict (Unit {0})). after v lastVerdict) k
+        module _ (c : length zs ≡ numberCount) where
+          -- the settings are left to judge, and then rows 11 and 10
+          right-so-far : planningOf b zs address limit room ≡ after (checkOf zs) lastVerdict
+          unfolding planningOf planOrder placesAt firstOf rowPlanned
+          right-so-far = rw (eq-eqb (length (b .registers)) registerCount h, e, l, eq-eqb (length zs) numberCount c) settings-then
 
-        -- rows 11 and 10 are left to judge
-        pub passed : checkOf zs ≡ good tt → planningOf b zs address room ≡ lastVerdict
-        passed k = right-so-far ∙ ap (λ (v : Verdict (Unit {0})). after v lastVerdict) k
+          -- rows 3 to 7: the settings
+          pub wrong-settings : (n f : ℕ) → checkOf zs ≡ refusedAt n f → planningOf b zs address limit room ≡ refusedAt n f
+          wrong-settings n f k = right-so-far ∙ ap (λ (v : Verdict (Unit {0})). after v lastVerdict) k
+
+          -- rows 11 and 10 are left to judge
+          pub passed : checkOf zs ≡ good tt → planningOf b zs address limit room ≡ lastVerdict
+          passed k = right-so-far ∙ ap (λ (v : Verdict (Unit {0})). after v lastVerdict) k
 
 -- ---- what is left
 
-module _ (b : Board) (zs : List ℤ) (address : ℕ) (plan : List ℕ) where
+module _ (b : Board) (zs : List ℤ) (address limit : ℕ) (plan : List ℕ) where
   -- a refusal leaves the lent plan
-  pub refuse : (n f : ℕ) → planningOf b zs address (length plan) ≡ refusedAt n f → plan ≡ planLeft b zs address plan
-  refuse n f e = sym (ap (leftBy (listOf b zs) plan) e)
+  pub refuse : (n f : ℕ) → planningOf b zs address limit (length plan) ≡ refusedAt n f → plan ≡ planLeft b zs address limit plan
+  refuse n f e = sym (ap (leftBy (listOf b zs limit) plan) e)
 
   -- a plan leaves its packed bytes and what was past them
-  pub accept : planningOf b zs address (length plan) ≡ good (countsOf (listOf b zs))
-      → planLeft b zs address plan ≡ packed (listOf b zs) ++ drop (length (packed (listOf b zs))) plan
-  accept e = ap (leftBy (listOf b zs) plan) e
+  pub accept : planningOf b zs address limit (length plan) ≡ good (countsOf (listOf b zs limit))
+      → planLeft b zs address limit plan ≡ packed (listOf b zs limit) ++ drop (length (packed (listOf b zs limit))) plan
+  accept e = ap (leftBy (listOf b zs limit) plan) e

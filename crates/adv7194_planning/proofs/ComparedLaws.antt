@@ -7,8 +7,8 @@ use native.Mathlib.Nat.{mod-lt}
 use native.Mathlib.Omega.{arith}
 use lib.Bits.{bitOr}
 use lib.Dec.{T, eqb, leb, ltb}
-use lib.ListN.{length, getD, take, drop, List·getD-eq-default}
-use lib.Seq.{getD-take, getD-drop}
+use lib.ListN.{length, getD, take, drop, length-drop, List·getD-eq-default}
+use lib.Seq.{length-take-le, getD-take, getD-drop}
 use borrow.Author.Tests.{leb-true, leb-false, ltb-true, ltb-false}
 use Rattle.rounding.proofs.Range.{below, below-at, imp, imp→, T→true}
 use Rattle.bits.specs.Maps.{has}
@@ -16,7 +16,6 @@ use Rattle.bits.proofs.SetLaws.{has-or}
 use Rattle.bus.specs.Registers.{differs}
 use Rattle.planning.specs.Registers.{differsIn}
 use Rattle.planning.proofs.ShiftLaws.{has-past, has-shl, has-below}
-use Rattle.planning.proofs.RoundLaws.{span-size}
 use Rattle.adv7194_bus.specs.Kind.{registerCount}
 use Rattle.adv7194_table.specs.Fields.{timing, output, picture, dnr}
 use Rattle.adv7194_table.specs.Table.{singles, table}
@@ -36,7 +35,7 @@ inPart start end r = leb start r && ltb r end
 
 module _ (masks : List ℕ) {image wanted : List ℕ} (χ : Comparable image wanted) (start end : ℕ) (ordered : start ≤ end) (ends : end ≤ registerCount) where
   sized : (l : List ℕ) → length l ≡ registerCount → length (part start end l) ≡ end - start
-  sized l e = span-size l start end ordered (omega arith)
+  sized l e = length-take-le (end - start) (drop start l) (omega (arith, length-drop start l))
 
   -- m is the map of the registers of a part that have a bit and where two images differ, the part's first register the lowest
   module _ (m : ℕ) (compared : (j : ℕ) → has m j ≡ differsIn (part start end masks) (part start end image) (part start end wanted) j) where

@@ -6,3 +6,4 @@ pub mod CaseLaws
 pub mod Outcomes
 pub mod KnownLaws
 pub mod Clauses
+pub mod NoLimit

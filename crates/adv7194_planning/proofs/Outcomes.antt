@@ -15,6 +15,7 @@ use Rattle.packing.specs.Packing.{packed}
 use Rattle.planning.specs.Plan.{Counts, countsOf}
 use Rattle.adv7194_bus.specs.Kind.{registerCount}
 use Rattle.adv7194_bus.specs.Address.{addressRight}
+use Rattle.adv7194_bus.specs.Limit.{limitRight}
 use Rattle.adv7194_bus.specs.declared.board.Board.{Board}
 use Rattle.adv7194_table.specs.Fields.{numberCount}
 use Rattle.adv7194_table.specs.Registers.{fieldAmong, lowestField, fieldCount}
@@ -23,8 +24,8 @@ use Rattle.adv7194_settings.specs.Order.{order}
 use Rattle.adv7194_settings.specs.Rows.{rowHolds, checkOf}
 use Rattle.adv7194_planning.specs.Rows.{listOf}
 use Rattle.adv7194_planning.specs.Planning.{planningOf}
-use Rattle.adv7194_planning.proofs.CaseLaws.{bySettings, allBySettings, order-by-settings, lowestUnfixed, wrong-length, wrong-address, wrong-count}
-use Rattle.adv7194_planning.proofs.CaseLaws.{wrong-settings, passed, wrong-register, wrong-room, no-row}
+use Rattle.adv7194_planning.proofs.CaseLaws.{bySettings, allBySettings, order-by-settings, lowestUnfixed, wrong-length, wrong-address, wrong-limit}
+use Rattle.adv7194_planning.proofs.CaseLaws.{wrong-count, wrong-settings, passed, wrong-register, wrong-room, no-row}
 
 -- ---- the lowest field that has a register that passes a test
 
@@ -68,53 +69,61 @@ settings-row zs n f e = refused-by (rowHolds zs) order n f order-by-settings e
 -- ---- what an answer tells
 
 -- all before the room has passed: what is said of it below
-pub record Passed (board : Board) (zs : List ℤ) : Type 0 where
+pub record Passed (board : Board) (zs : List ℤ) (limit : ℕ) : Type 0 where
   pub long : length (board .registers) ≡ registerCount
   pub fixed : lowestUnfixed board zs ≡ 0
+  pub limited : limitRight limit ≡ true
 
 -- a refusal before the room's, the room's, or the numbers of the list
-pub data Outcome (board : Board) (zs : List ℤ) (room : ℕ) : Verdict Counts → Type 0 where
-  early : {n f : ℕ} → T (not (eqb n 10)) → Outcome board zs room (refusedAt n f)
-  short : Passed board zs → room < length (packed (listOf board zs)) → Outcome board zs room (refusedAt 10 0)
-  planned : Passed board zs → Outcome board zs room (good (countsOf (listOf board zs)))
+pub data Outcome (board : Board) (zs : List ℤ) (limit room : ℕ) : Verdict Counts → Type 0 where
+  early : {n f : ℕ} → T (not (eqb n 10)) → Outcome board zs limit room (refusedAt n f)
+  short : Passed board zs limit → room < length (packed (listOf board zs limit)) → Outcome board zs limit room (refusedAt 10 0)
+  planned : Passed board zs limit → Outcome board zs limit room (good (countsOf (listOf board zs limit)))
 
-module _ (board : Board) (zs : List ℤ) (address room : ℕ) where
+module _ (board : Board) (zs : List ℤ) (address limit room : ℕ) where
   abbrev Right : Type 0
-  Right = Outcome board zs room (planningOf board zs address room)
+  Right = Outcome board zs limit room (planningOf board zs address limit room)
 
-  given : {v : Verdict Counts} → planningOf board zs address room ≡ v → Outcome board zs room v → Right
-  given e o = subst⁻¹ (Outcome board zs room) e o
+  given : {v : Verdict Counts} → planningOf board zs address limit room ≡ v → Outcome board zs limit room v → Right
+  given e o = subst⁻¹ (Outcome board zs limit room) e o
 
-  module _ (h : length (board .registers) ≡ registerCount) (e : addressRight address ≡ true) (c : length zs ≡ numberCount) where
-    by-room : checkOf zs ≡ good tt → lowestUnfixed board zs ≡ 0 → (x : Bool) → ltb room (length (packed (listOf board zs))) ≡ x → Right
+  module _ (h : length (board .registers) ≡ registerCount) (e : addressRight address ≡ true) (l : limitRight limit ≡ true)
+      (c : length zs ≡ numberCount) where
+    by-room : checkOf zs ≡ good tt → lowestUnfixed board zs ≡ 0 → (x : Bool) → ltb room (length (packed (listOf board zs limit))) ≡ x → Right
     by-room k u true p =
-        let l = ltb-true room (length (packed (listOf board zs))) p in
-        given (passed board zs address room h e c k ∙ wrong-room board zs address room u l) (short (record { long = h; fixed = u }) l)
+        let s = ltb-true room (length (packed (listOf board zs limit))) p in
+        given (passed board zs address limit room h e l c k ∙ wrong-room board zs address limit room u s) (short (record { long = h; fixed = u; limited = l }) s)
     by-room k u false p =
-        let l = ltb-false room (length (packed (listOf board zs))) p in
-        given (passed board zs address room h e c k ∙ no-row board zs address room u l) (planned (record { long = h; fixed = u }))
+        let s = ltb-false room (length (packed (listOf board zs limit))) p in
+        given (passed board zs address limit room h e l c k ∙ no-row board zs address limit room u s) (planned (record { long = h; fixed = u; limited = l }))
 
     by-register : checkOf zs ≡ good tt → (x : Bool) → eqb (lowestUnfixed board zs) 0 ≡ x → Right
-    by-register k true p = by-room k (eqb-true (lowestUnfixed board zs) 0 p) (ltb room (length (packed (listOf board zs)))) refl
+    by-register k true p = by-room k (eqb-true (lowestUnfixed board zs) 0 p) (ltb room (length (packed (listOf board zs limit)))) refl
     by-register k false p =
-        given (passed board zs address room h e c k ∙ wrong-register board zs address room (eqb-false (lowestUnfixed board zs) 0 p)) (early tt)
+        given (passed board zs address limit room h e l c k ∙ wrong-register board zs address limit room (eqb-false (lowestUnfixed board zs) 0 p)) (early tt)
 
     by-settings : (v : Verdict (Unit {0})) → checkOf zs ≡ v → Right
     by-settings (good tt) k = by-register k (eqb (lowestUnfixed board zs) 0) refl
     by-settings (refusedAt n f) k =
-        given (wrong-settings board zs address room h e c n f k) (early (first (not (eqb n 10)) (not (eqb n 11) && not (eqb f 0)) (settings-row zs n f k)))
+        given (wrong-settings board zs address limit room h e l c n f k)
+        (early (first (not (eqb n 10)) (not (eqb n 11) && not (eqb f 0)) (settings-row zs n f k)))
 
-  by-count : length (board .registers) ≡ registerCount → addressRight address ≡ true → (x : Bool) → eqb (length zs) numberCount ≡ x → Right
-  by-count h e true p = by-settings h e (eqb-true (length zs) numberCount p) (checkOf zs) refl
-  by-count h e false p = given (wrong-count board zs address room h e (eqb-false (length zs) numberCount p)) (early tt)
+  by-count : length (board .registers) ≡ registerCount → addressRight address ≡ true → limitRight limit ≡ true
+      → (x : Bool) → eqb (length zs) numberCount ≡ x → Right
+  by-count h e l true p = by-settings h e l (eqb-true (length zs) numberCount p) (checkOf zs) refl
+  by-count h e l false p = given (wrong-count board zs address limit room h e l (eqb-false (length zs) numberCount p)) (early tt)
+
+  by-limit : length (board .registers) ≡ registerCount → addressRight address ≡ true → (x : Bool) → limitRight limit ≡ x → Right
+  by-limit h e true l = by-count h e l (eqb (length zs) numberCount) refl
+  by-limit h e false l = given (wrong-limit board zs address limit room h e l) (early tt)
 
   by-address : length (board .registers) ≡ registerCount → (x : Bool) → addressRight address ≡ x → Right
-  by-address h true e = by-count h e (eqb (length zs) numberCount) refl
-  by-address h false e = given (wrong-address board zs address room h e) (early tt)
+  by-address h true e = by-limit h e (limitRight limit) refl
+  by-address h false e = given (wrong-address board zs address limit room h e) (early tt)
 
   by-length : (x : Bool) → eqb (length (board .registers)) registerCount ≡ x → Right
   by-length true p = by-address (eqb-true (length (board .registers)) registerCount p) (addressRight address) refl
-  by-length false p = given (wrong-length board zs address room (eqb-false (length (board .registers)) registerCount p)) (early tt)
+  by-length false p = given (wrong-length board zs address limit room (eqb-false (length (board .registers)) registerCount p)) (early tt)
 
   -- planning's answer is one of the three
   pub outcome : Right

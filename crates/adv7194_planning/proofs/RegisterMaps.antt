@@ -1,4 +1,5 @@
--- A map against a test on registers, and the maps of the registers that must and may be written and that are needed. Assumes nothing.
+-- A map against a test on registers, and the maps of the registers that must and may be written, that are needed, and before which no transaction may end.
+-- Assumes nothing.
 use mathlib.Core.Path.{_≡_, refl, sym, ap, ap₂, _∙_}
 use mathlib.Core.Logic.{inr}
 use mathlib.Core.Bool.{Bool, true, false, cond, not, _&&_, _||_, and-true, and-false, or-true, or-false}
@@ -6,15 +7,14 @@ use Prim.Native.Nat.{ℕ, _^_, _≤_, _<_}
 use native.Mathlib.Omega.{arith}
 use lib.Bits.{bitAnd, bitOr, and-le-l}
 use lib.Count.{trailingZeros}
-use lib.Dec.{T, ltb, lit<}
-use borrow.Author.Tests.{ltb-true, ltb-false, le-ltb}
+use lib.Dec.{T, ltb, eqb, lit<}
+use borrow.Author.Tests.{ltb-true, ltb-false, le-ltb, eqb-true, ne-eqb}
 use Rattle.rounding.proofs.Range.{below, below-at}
 use Rattle.bits.specs.Maps.{has, complement}
 use Rattle.bits.proofs.MapLaws.{least}
-use Rattle.bits.proofs.SetLaws.{has-and, has-or}
-use Rattle.planning.proofs.ShiftLaws.{has-past, has-not}
+use Rattle.bits.proofs.SetLaws.{has-and, has-or, has-past, has-not, same-map}
 use Rattle.adv7194_bus.specs.Kind.{registerCount}
-use Rattle.adv7194_least.specs.Plan.{writable, inWord, wordIn, withWord}
+use Rattle.adv7194_least.specs.Plan.{among, writable, inWord, wordIn, withWord}
 use Rattle.adv7194_least.proofs.Registers.{both-true, among-true, among-out}
 use Rattle.adv7194_least.proofs.TaskLaws.{need-word, must-needed}
 
@@ -50,6 +50,10 @@ word-is = map-is wordMap inWord (lit< tt) tt (λ i h. among-out 0x0c 0x0f i (inr
 -- the registers that a byte may be written to
 writable-is : (i : ℕ) → has 0x2F_FFFF_FFE1_FFFF i ≡ writable i
 writable-is = map-is 0x2F_FFFF_FFE1_FFFF writable (lit< tt) tt (λ i h. rw (le-ltb i registerCount (omega arith)))
+
+-- the empty map has no register
+none-has : (i : ℕ) → has 0 i ≡ false
+none-has i = has-past 0 0 i (omega arith) (omega arith)
 
 -- ---- by which registers are known
 
@@ -100,7 +104,7 @@ module _ (d : ℕ) where
   none-in-word e i = split (inWord i) refl
     where
       none : (r : ℕ) → (has d r && inWord r) ≡ false
-      none r = sym (in-both r) ∙ ap (λ (m : ℕ). has m r) e ∙ has-past 0 0 r (omega arith) (omega arith)
+      none r = sym (in-both r) ∙ ap (λ (m : ℕ). has m r) e ∙ none-has r
 
       out : (a : Bool) → (a && true) ≡ false → a ≡ false
       out true p = p
@@ -129,3 +133,36 @@ module _ (d : ℕ) where
       split : (b : Bool) → (has d i || b) ≡ cond b (wordIn (has d)) (has d i)
       split true = or-true (has d i) ∙ sym word
       split false = or-false (has d i)
+
+-- ---- the registers before which no transaction may end
+
+-- the word's first register, and the others
+first-is : (i : ℕ) → has 0x1000 i ≡ eqb i 0x0c
+first-is = map-is 0x1000 (λ i. eqb i 0x0c) (lit< tt) tt (λ i h. ne-eqb i 0x0c (omega arith))
+
+rest-is : (i : ℕ) → has 0xE000 i ≡ among 0x0d 0x0f i
+rest-is = map-is 0xE000 (among 0x0d 0x0f) (lit< tt) tt (λ i h. among-out 0x0d 0x0f i (inr (omega arith)))
+
+module _ (n : ℕ) where
+  -- where the first is not needed
+  pub held-none : bitAnd n 0x1000 ≡ 0 → (i : ℕ) → has 0 i ≡ (among 0x0d 0x0f i && has n 0x0c)
+  held-none e i =
+      let w = sym (and-true (has n 0x0c)) ∙ sym (has-and n 0x1000 0x0c) ∙ ap (λ (m : ℕ). has m 0x0c) e in
+      none-has i ∙ sym (rw w (and-false (among 0x0d 0x0f i)))
+
+  -- where it is
+  pub held-some : (bitAnd n 0x1000 ≡ 0 → ⊥) → (i : ℕ) → has 0xE000 i ≡ (among 0x0d 0x0f i && has n 0x0c)
+  held-some e i = by (has n 0x0c) refl
+    where
+      -- a map without it
+      without : has n 0x0c ≡ false → (x : ℕ) (b : Bool) → eqb x 0x0c ≡ b → (has n x && b) ≡ false
+      without w x true u = rw (eqb-true x 0x0c u, w)
+      without w x false u = and-false (has n x)
+
+      by : (b : Bool) → has n 0x0c ≡ b → has 0xE000 i ≡ (among 0x0d 0x0f i && b)
+      by true w = rest-is i ∙ sym (and-true (among 0x0d 0x0f i))
+      by false w =
+          absurd
+          (e
+          (same-map (bitAnd n 0x1000) 0
+          (λ x. has-and n 0x1000 x ∙ ap (λ (b : Bool). has n x && b) (first-is x) ∙ without w x (eqb x 0x0c) refl ∙ sym (none-has x))))

@@ -16,9 +16,9 @@ use Rattle.adv7194_settings.specs.Rows.{checkOf}
 use Rattle.adv7194_least.specs.Aim.{Aim, aimOf}
 use Rattle.adv7194_least.specs.Change.{settable, Change}
 
--- from a board to a wanted image, the fixed registers being those of a map
-abbrev pub aimBy : Board → List ℕ → ℕ → Aim
-aimBy b wanted fixed = record { board = b; wanted = wanted; fixes = has fixed }
+-- from a board to a wanted image, the fixed registers being those of a map, with a limit
+abbrev pub aimBy : Board → List ℕ → ℕ → ℕ → Aim
+aimBy b wanted fixed limit = record { board = b; wanted = wanted; fixes = has fixed; limit = limit }
 
 -- two images of a byte a register that differ only in registers that have a field or a must-be-zero bit
 pub record Comparable (image wanted : List ℕ) : Type 0 where
@@ -31,8 +31,8 @@ pub record Passing (zs : List ℤ) : Type 0 where
   pub size : length zs ≡ numberCount
   pub passes : checkOf zs ≡ good tt
 
--- settings that pass the check, and the image that they want over a board
-pub record Ready (b : Board) (zs : List ℤ) (wanted : List ℕ) : Type 0 where
+-- settings that pass the check, the image that they want over a board, and a right limit
+pub record Ready (b : Board) (zs : List ℤ) (wanted : List ℕ) (limit : ℕ) : Type 0 where
   pub passing : Passing zs
-  pub change : Change (aimOf b zs)
+  pub change : Change (aimOf b zs limit)
   pub wants : wanted ≡ wantedBy (b .registers) zs

@@ -1,3 +1,4 @@
 pub mod Aims
 pub mod Rows
 pub mod Planning
+pub mod NoLimit

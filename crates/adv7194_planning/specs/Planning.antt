@@ -11,9 +11,9 @@ use Rattle.adv7194_bus.specs.declared.board.Board.{Board}
 use Rattle.adv7194_planning.specs.Rows.{listOf, rowPlanned, planOrder}
 
 -- planning: row n at field f where it is the first of the checking order that holds; else the numbers of the packed list
-unfoldable pub planningOf : Board → List ℤ → ℕ → ℕ → Verdict Counts
-planningOf b zs address room = firstOf (rowPlanned b zs address room) planOrder (countsOf (listOf b zs))
+unfoldable pub planningOf : Board → List ℤ → ℕ → ℕ → ℕ → Verdict Counts
+planningOf b zs address limit room = firstOf (rowPlanned b zs address limit room) planOrder (countsOf (listOf b zs limit))
 
 -- the lent plan that planning leaves
-abbrev pub planLeft : Board → List ℤ → ℕ → List ℕ → List ℕ
-planLeft b zs address plan = leftBy (listOf b zs) plan (planningOf b zs address (length plan))
+abbrev pub planLeft : Board → List ℤ → ℕ → ℕ → List ℕ → List ℕ
+planLeft b zs address limit plan = leftBy (listOf b zs limit) plan (planningOf b zs address limit (length plan))

@@ -1,6 +1,6 @@
 // Planning: the fewest register writes that turn a board into what settings mean, packed into a lent plan.
 ghost use mathlib.Core.Path.{_≡_};
-ghost use Prim.Native.Nat.{ℕ, _<_};
+ghost use Prim.Native.Nat.{ℕ, _≤_, _<_};
 ghost use lib.ListN.{length, take};
 ghost use Rattle.refusals.specs.Verdict.{refusedAt};
 ghost use Rattle.refusals.specs.Order.{firstOf, Exactly};
@@ -12,13 +12,14 @@ ghost use Rattle.adv7194_least.specs.Aim.{aimOf};
 ghost use Rattle.adv7194_least.specs.Change.{Change};
 ghost use Rattle.adv7194_least.specs.Plan.{planOf};
 ghost use Rattle.adv7194_least.specs.Played.{Played};
-ghost use Rattle.adv7194_least.specs.Demands.{Counted, Least, Only, mostBytes};
+ghost use Rattle.adv7194_least.specs.Demands.{Counted, Least, First, Only, mostBytes, wideLimit, wideBytes};
 ghost use Rattle.adv7194_planning.specs.Aims.{aimBy, Ready};
 ghost use Rattle.adv7194_planning.specs.Rows.{listOf, rowPlanned, lastChecks, planOrder};
 ghost use Rattle.adv7194_planning.specs.Planning.{planningOf, planLeft};
 use crate::registers::allowed_registers;
 use crate::registers::changed_registers;
 use crate::registers::fixed_registers;
+use crate::registers::held_registers;
 use crate::registers::must_registers;
 use crate::registers::needed_registers;
 use crate::registers::partly_fixed_registers;
@@ -27,6 +28,7 @@ use adv7194_bus::REGISTERS;
 use adv7194_bus::address_right;
 use adv7194_bus::board::Board;
 use adv7194_bus::board::board_of;
+use adv7194_bus::limit_right;
 use adv7194_settings::NUMBERS;
 use adv7194_table::lowest_field;
 use adv7194_wanted::want;
@@ -38,25 +40,26 @@ use refusals::Refusal;
 
 mod registers;
 
-// Plans the change from a board to a wanted image, of which every bit of the registers of a map is fixed, into the lent plan.
-fn plan_change(board: Board, fixed: u64, wanted: &[u8], plan: &mut [u8]) -> Planned
-    requires { ⌜ Change (aimBy board (now wanted) fixed) ⌝ }
-    ensures answer { λ r. ⌜ answerOf r ≡ packingOf (planOf (aimBy board (now (wanted .entry)) fixed)) (length (now (plan .entry))) ⌝ }
-    ensures memory { λ r. ⌜ now (plan .exit) ≡ planAfter (planOf (aimBy board (now (wanted .entry)) fixed)) (now (plan .entry)) ⌝ }
+// Plans the change from a board to a wanted image, of which every bit of the registers of a map is fixed, with a limit, into the lent plan.
+fn plan_change(board: Board, fixed: u64, wanted: &[u8], limit: u32, plan: &mut [u8]) -> Planned
+    requires { ⌜ Change (aimBy board (now wanted) fixed limit) ⌝ }
+    ensures answer { λ r. ⌜ answerOf r ≡ packingOf (planOf (aimBy board (now (wanted .entry)) fixed limit)) (length (now (plan .entry))) ⌝ }
+    ensures memory { λ r. ⌜ now (plan .exit) ≡ planAfter (planOf (aimBy board (now (wanted .entry)) fixed limit)) (now (plan .entry)) ⌝ }
 {
     let registers = board.registers;
     let known = board.known;
     let must = must_registers(changed_registers(&registers, wanted), known, fixed);
     let needed = needed_registers(must);
     let allowed = allowed_registers(known, fixed);
-    pack(plan, needed, allowed, wanted)
+    let held = held_registers(needed);
+    pack(plan, needed, allowed, held, limit as usize, wanted)
 }
 
-// Plans settings that pass the check over a board, with the image that they want, into the lent plan.
-fn plan_board(board: Board, numbers: &[i32], wanted: &[u8], plan: &mut [u8]) -> Planned
-    requires { ⌜ Ready board (now numbers) (now wanted) ⌝ }
-    ensures answer { λ r. ⌜ ((address : ℕ) → answerOf r ≡ firstOf (rowPlanned board (now (numbers .entry)) address (length (now (plan .entry)))) lastChecks (countsOf (listOf board (now (numbers .entry))))) ⌝ }
-    ensures memory { λ r. ⌜ now (plan .exit) ≡ leftBy (listOf board (now (numbers .entry))) (now (plan .entry)) (answerOf r) ⌝ }
+// Plans settings that pass the check over a board, with the image that they want and a right limit, into the lent plan.
+fn plan_board(board: Board, numbers: &[i32], wanted: &[u8], limit: u32, plan: &mut [u8]) -> Planned
+    requires { ⌜ Ready board (now numbers) (now wanted) limit ⌝ }
+    ensures answer { λ r. ⌜ ((address : ℕ) → answerOf r ≡ firstOf (rowPlanned board (now (numbers .entry)) address limit (length (now (plan .entry)))) lastChecks (countsOf (listOf board (now (numbers .entry)) limit))) ⌝ }
+    ensures memory { λ r. ⌜ now (plan .exit) ≡ leftBy (listOf board (now (numbers .entry)) limit) (now (plan .entry)) (answerOf r) ⌝ }
 {
     let unfixed = unfixed_registers(partly_fixed_registers(numbers), board.known);
     let field = lowest_field(unfixed);
@@ -66,21 +69,32 @@ fn plan_board(board: Board, numbers: &[i32], wanted: &[u8], plan: &mut [u8]) -> 
             field,
         };
     }
-    plan_change(board, fixed_registers(numbers), wanted, plan)
+    plan_change(board, fixed_registers(numbers), wanted, limit, plan)
 }
 
-// Plans the settings over an image of which the registers in a map are known, for the chip at a bus address, into the lent plan.
-pub fn plan(image: &[u8], known: u64, numbers: &[i32], address: u32, plan: &mut [u8]) -> Planned
-    ensures answer { λ r. ⌜ answerOf r ≡ planningOf (boardOf (now (image .entry)) known) (now (numbers .entry)) address (length (now (plan .entry))) ⌝ }
-    ensures memory { λ r. ⌜ now (plan .exit) ≡ planLeft (boardOf (now (image .entry)) known) (now (numbers .entry)) address (now (plan .entry)) ⌝ }
+// Plans the settings over an image of which the registers in a map are known, for the chip at a bus address, with a limit on the data of a transaction, into
+// the lent plan.
+pub fn plan(
+    image: &[u8],
+    known: u64,
+    numbers: &[i32],
+    address: u32,
+    limit: u32,
+    plan: &mut [u8],
+) -> Planned
+    ensures answer { λ r. ⌜ answerOf r ≡ planningOf (boardOf (now (image .entry)) known) (now (numbers .entry)) address limit (length (now (plan .entry))) ⌝ }
+    ensures memory { λ r. ⌜ now (plan .exit) ≡ planLeft (boardOf (now (image .entry)) known) (now (numbers .entry)) address limit (now (plan .entry)) ⌝ }
     ensures counted { λ r. ⌜ ((l t b : ℕ) → answerOf r ≡ done l t b → Counted (take l (now (plan .exit))) l t b) ⌝ }
     ensures demanded { λ r. ⌜ ((l t b : ℕ) → answerOf r ≡ done l t b → Demanded (now (image .entry)) (now (numbers .entry)) (wantedBy (now (image .entry)) (now (numbers .entry)))) ⌝ }
-    ensures played { λ r. ⌜ ((l t b : ℕ) → answerOf r ≡ done l t b → Played (aimOf (boardOf (now (image .entry)) known) (now (numbers .entry))) (take l (now (plan .exit)))) ⌝ }
-    ensures least { λ r. ⌜ ((l t b : ℕ) → answerOf r ≡ done l t b → Least (aimOf (boardOf (now (image .entry)) known) (now (numbers .entry))) t b) ⌝ }
-    ensures only { λ r. ⌜ ((l t b : ℕ) → answerOf r ≡ done l t b → Only (aimOf (boardOf (now (image .entry)) known) (now (numbers .entry))) (listOf (boardOf (now (image .entry)) known) (now (numbers .entry)))) ⌝ }
-    ensures room { λ r. ⌜ ((f : ℕ) → answerOf r ≡ refusedAt 10 f → length (now (plan .entry)) < mostBytes) ⌝ }
-    ensures judged { λ r. ⌜ Exactly (rowPlanned (boardOf (now (image .entry)) known) (now (numbers .entry)) address (length (now (plan .entry)))) planOrder
-        (countsOf (listOf (boardOf (now (image .entry)) known) (now (numbers .entry)))) (answerOf r) ⌝ }
+    ensures played { λ r. ⌜ ((l t b : ℕ) → answerOf r ≡ done l t b → Played (aimOf (boardOf (now (image .entry)) known) (now (numbers .entry)) limit) (take l (now (plan .exit)))) ⌝ }
+    ensures least { λ r. ⌜ ((l t b : ℕ) → answerOf r ≡ done l t b → Least (aimOf (boardOf (now (image .entry)) known) (now (numbers .entry)) limit) t b) ⌝ }
+    ensures first { λ r. ⌜ ((l t b : ℕ) → answerOf r ≡ done l t b → First (aimOf (boardOf (now (image .entry)) known) (now (numbers .entry)) limit)
+        (listOf (boardOf (now (image .entry)) known) (now (numbers .entry)) limit)) ⌝ }
+    ensures only { λ r. ⌜ ((l t b : ℕ) → answerOf r ≡ done l t b → Only (aimOf (boardOf (now (image .entry)) known) (now (numbers .entry)) limit)
+        (listOf (boardOf (now (image .entry)) known) (now (numbers .entry)) limit)) ⌝ }
+    ensures room { λ r. ⌜ ((f : ℕ) → answerOf r ≡ refusedAt 10 f → (length (now (plan .entry)) < mostBytes) × (wideLimit ≤ limit → length (now (plan .entry)) < wideBytes)) ⌝ }
+    ensures judged { λ r. ⌜ Exactly (rowPlanned (boardOf (now (image .entry)) known) (now (numbers .entry)) address limit (length (now (plan .entry)))) planOrder
+        (countsOf (listOf (boardOf (now (image .entry)) known) (now (numbers .entry)) limit)) (answerOf r) ⌝ }
 {
     if image.len() != REGISTERS as usize {
         return Planned::Refused {
@@ -94,6 +108,12 @@ pub fn plan(image: &[u8], known: u64, numbers: &[i32], address: u32, plan: &mut 
             field: NO_FIELD,
         };
     }
+    if !limit_right(limit) {
+        return Planned::Refused {
+            refusal: Refusal::OutOfRange,
+            field: NO_FIELD,
+        };
+    }
     if numbers.len() != NUMBERS {
         return Planned::Refused {
             refusal: Refusal::OutOfRange,
@@ -104,6 +124,6 @@ pub fn plan(image: &[u8], known: u64, numbers: &[i32], address: u32, plan: &mut 
     let mut wanted = board.registers;
     match want(numbers, &mut wanted) {
         Checked::Refused { refusal, field } => Planned::Refused { refusal, field },
-        Checked::Good => plan_board(board, numbers, &wanted, plan),
+        Checked::Good => plan_board(board, numbers, &wanted, limit, plan),
     }
 }

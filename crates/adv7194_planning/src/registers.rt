@@ -11,7 +11,7 @@ ghost use Rattle.adv7194_table.specs.Blocks.{signalling};
 ghost use Rattle.adv7194_signalling.specs.Signalling.{numberOf};
 ghost use Rattle.adv7194_settings.specs.Codes.{numbersIn};
 ghost use Rattle.adv7194_settings.specs.Known.{fixesAll, fixesSome};
-ghost use Rattle.adv7194_least.specs.Plan.{writable, withWord};
+ghost use Rattle.adv7194_least.specs.Plan.{among, writable, withWord};
 ghost use Rattle.adv7194_planning.specs.Aims.{Comparable, Passing};
 use adv7194_bus::BARRED;
 use adv7194_bus::REGISTERS;
@@ -38,6 +38,9 @@ const KIND: u64 = 0x200_0000;
 
 // The kind of signalling that is none.
 const OFF: i32 = 0;
+
+// The first register of the word, 0C.
+const WORD_FIRST: u64 = 1 << 0x0C;
 
 // The registers are compared in two halves, each short enough for the compiler to write out: it then leaves out those without a bit.
 const HALF: usize = 0x1B;
@@ -108,6 +111,16 @@ pub fn needed_registers(must: u64) -> u64
         return must;
     }
     must | WORD
+}
+
+// The registers before which no transaction may end: those of the word past its first, where it is needed.
+pub fn held_registers(needed: u64) -> u64
+    ensures answer { λ r. ⌜ ((i : ℕ) → has r i ≡ (among 0x0d 0x0f i && has needed 0x0c)) ⌝ }
+{
+    if needed & WORD_FIRST == 0 {
+        return 0;
+    }
+    WORD & !WORD_FIRST
 }
 
 // The registers that are not known and of which settings fix only some bits.

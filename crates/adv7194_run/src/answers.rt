@@ -2,9 +2,9 @@
 use crate::calls;
 use crate::chip;
 use crate::codings;
-use crate::flags;
-use crate::flags::Flags;
-use crate::flags::Given;
+use crate::context;
+use crate::context::Context;
+use crate::context::Given;
 use crate::print;
 use crate::tokens;
 use crate::tokens::Tokens;
@@ -32,7 +32,7 @@ const CODE: u64 = 0x636F_6465;
 const SETTING: u64 = 0x73_6574_7469_6E67;
 
 // Answers a record of planning or playing, if it is one.
-fn with_plan(tokens: Tokens, word: u64, image: &mut [u8], flags: Flags) -> bool {
+fn with_plan(tokens: Tokens, word: u64, image: &mut [u8], context: Context) -> bool {
     let held = tokens.held;
     let numbers = tokens.numbers;
     let mut plan = [0u8; MOST_BYTES];
@@ -41,36 +41,36 @@ fn with_plan(tokens: Tokens, word: u64, image: &mut [u8], flags: Flags) -> bool 
         return false;
     }
     if word == PLAN {
-        return calls::plan(held, numbers, image, flags.known, &mut plan[0..n]);
+        return calls::plan(held, numbers, image, context, &mut plan[0..n]);
     }
     if numbers != 3 {
         return false;
     }
     if word == PLAYCAP {
-        return calls::play_captions(held[1], held[2], image, flags, &plan[0..n]);
+        return calls::play_captions(held[1], held[2], image, context, &plan[0..n]);
     }
-    calls::play(held[1], held[2], image, flags, &plan[0..n])
+    calls::play(held[1], held[2], image, context, &plan[0..n])
 }
 
 // Answers a record with an image, if it is one.
-fn with_image(tokens: Tokens, word: u64, image: &mut [u8], flags: Flags) -> bool {
+fn with_image(tokens: Tokens, word: u64, image: &mut [u8], context: Context) -> bool {
     if (word == READ) & (tokens.numbers == 1) & (tokens.middle == tokens.count) {
-        return calls::read(image, flags.known);
+        return calls::read(image, context.known);
     }
     if word == READCAP {
         if (tokens.numbers != 2) | (tokens.middle != tokens.count) {
             return false;
         }
         let held = tokens.held;
-        return calls::read_captions(held[1], image, flags.known);
+        return calls::read_captions(held[1], image, context.known);
     }
     if word == READ {
         return false;
     }
     if word == EVENTS {
-        return chip::events(tokens, image, flags);
+        return chip::events(tokens, image, context);
     }
-    with_plan(tokens, word, image, flags)
+    with_plan(tokens, word, image, context)
 }
 
 // Whether an operation has an image.
@@ -112,8 +112,8 @@ fn coding(word: u64, count: usize, numbers: usize, field: u64, token: u64) -> bo
     false
 }
 
-// Answers a record other than of flags, where these are known; whether it is one.
-fn record(tokens: Tokens, flags: Flags) -> bool {
+// Answers a record that gives nothing to those after it; whether it is one.
+fn record(tokens: Tokens, context: Context) -> bool {
     let held = tokens.held;
     let word = held[0];
     if word == CAPTION {
@@ -127,7 +127,7 @@ fn record(tokens: Tokens, flags: Flags) -> bool {
     if MOST_BYTES < n {
         return false;
     }
-    with_image(tokens, word, &mut image[0..n], flags)
+    with_image(tokens, word, &mut image[0..n], context)
 }
 
 // Whether a line asks for nothing.
@@ -143,29 +143,45 @@ fn no_record() {
     print::text(b"NOT A RECORD");
 }
 
-// Answers a line that asks for something; the flags after it.
-fn line(text: &[u8], flags: Flags) -> Flags {
+// Answers a line that asks for something; the context after it.
+fn line(text: &[u8], context: Context) -> Context {
     let tokens = tokens::split(text);
     if !tokens.good {
         no_record();
-        return flags;
+        return context;
     }
-    if let Given::Map(known) = flags::given_by(tokens) {
-        print::verdict(0, 0);
-        return Flags { known, given: true };
+    match context::given_by(tokens) {
+        Given::Map(known) => {
+            print::verdict(0, 0);
+            Context {
+                known,
+                given: true,
+                limit: context.limit,
+            }
+        }
+        Given::Limit(limit) => {
+            print::verdict(0, 0);
+            Context {
+                known: context.known,
+                given: context.given,
+                limit,
+            }
+        }
+        Given::Nothing => {
+            if !record(tokens, context) {
+                no_record();
+            }
+            context
+        }
     }
-    if !record(tokens, flags) {
-        no_record();
-    }
-    flags
 }
 
-// Answers a line; the flags after it.
-pub(crate) fn answer(text: &[u8], flags: Flags) -> Flags {
+// Answers a line; the context after it.
+pub(crate) fn answer(text: &[u8], context: Context) -> Context {
     let after = if is_blank(text) {
-        flags
+        context
     } else {
-        line(text, flags)
+        line(text, context)
     };
     print::text(b"\n");
     after

@@ -1,5 +1,5 @@
 // The calls of the C interface.
-use crate::flags::Flags;
+use crate::context::Context;
 use crate::print;
 use crate::tokens;
 use adv7194_answers::plan_numbers::PlanAnswer;
@@ -30,12 +30,12 @@ fn settings(held: [u64; 192]) -> [i32; 64] {
     settings
 }
 
-// Planning: the word and numbers, the image with its known registers and the lent plan.
+// Planning: the word and numbers, the image, the known registers and the limit, and the lent plan.
 pub(crate) fn plan(
     held: [u64; 192],
     numbers: usize,
     image: &[u8],
-    known: u64,
+    context: Context,
     plan: &mut [u8],
 ) -> bool {
     if numbers < 2 {
@@ -48,9 +48,10 @@ pub(crate) fn plan(
     let settings = settings(held);
     let answer = adv7194_c::adv7194_plan(
         image,
-        known,
+        context.known,
         &settings[0..count],
         tokens::unsigned(held[1]),
+        context.limit,
         plan,
     );
     planned(answer);
@@ -95,15 +96,15 @@ pub(crate) fn plan_captions(held: [u64; 192], numbers: usize, plan: &mut [u8]) -
 }
 
 // Playing.
-pub(crate) fn play(used: u64, own: u64, image: &mut [u8], flags: Flags, plan: &[u8]) -> bool {
+pub(crate) fn play(used: u64, own: u64, image: &mut [u8], context: Context, plan: &[u8]) -> bool {
     let answer = adv7194_c::adv7194_play(
         image,
-        flags.known,
+        context.known,
         tokens::unsigned(used),
         tokens::unsigned(own),
         plan,
     );
-    played(answer, flags.given, image);
+    played(answer, context.given, image);
     true
 }
 
@@ -112,17 +113,17 @@ pub(crate) fn play_captions(
     used: u64,
     own: u64,
     image: &mut [u8],
-    flags: Flags,
+    context: Context,
     plan: &[u8],
 ) -> bool {
     let answer = adv7194_c::adv7194_play_captions(
         image,
-        flags.known,
+        context.known,
         tokens::unsigned(used),
         tokens::unsigned(own),
         plan,
     );
-    played(answer, flags.given, image);
+    played(answer, context.given, image);
     true
 }
 

@@ -1,5 +1,5 @@
 // The chip at bus events.
-use crate::flags::Flags;
+use crate::context::Context;
 use crate::print;
 use crate::tokens::BYTE;
 use crate::tokens::Tokens;
@@ -94,18 +94,18 @@ fn all(tokens: Tokens, own: u8, known: u64, registers: &mut [u8; 54]) -> After {
 
 // The events of a record at a chip with these registers: what came of each, the pointer and the phase after them, and the registers; those that are known
 // too where flags were given.
-fn run(tokens: Tokens, own: u8, flags: Flags, registers: &mut [u8; 54]) {
+fn run(tokens: Tokens, own: u8, context: Context, registers: &mut [u8; 54]) {
     print::verdict(0, 0);
-    let after = all(tokens, own, flags.known, registers);
+    let after = all(tokens, own, context.known, registers);
     let state = after.state;
     let phase = state.phase;
     print::marked((state.pointer % 256) as u8, letter(phase));
     print::bytes(registers);
-    print::known(flags.given, after.known);
+    print::known(context.given, after.known);
 }
 
 // Answers a record of events, if the image has all registers.
-pub(crate) fn events(tokens: Tokens, image: &[u8], flags: Flags) -> bool {
+pub(crate) fn events(tokens: Tokens, image: &[u8], context: Context) -> bool {
     let held = tokens.held;
     if (tokens.numbers != 2) | (OWN_LIMIT <= held[1]) {
         return false;
@@ -114,6 +114,6 @@ pub(crate) fn events(tokens: Tokens, image: &[u8], flags: Flags) -> bool {
         return false;
     }
     let mut registers = copied(image);
-    run(tokens, (held[1] % 256) as u8, flags, &mut registers);
+    run(tokens, (held[1] % 256) as u8, context, &mut registers);
     true
 }

@@ -14,6 +14,7 @@
 //                                           D data, T sends) and the image
 //   known:FLAGS..                           which registers are known in the records after it: eight bytes, the highest first, bit r for register r; all
 //                                           are where no line says so
+//   limit N                                 the most data bytes in one transaction, for the records of planning after it: 54 where no line says so
 //   code FIELD SETTING, setting FIELD:CODE  the code of a field's setting, the setting of its code
 //
 // What is answered stands after `ok`; a refusal is `REFUSED number field`. Where a line gave flags, `play`, `playcap` and `events` end in `known` and
@@ -23,12 +24,12 @@ mod answers;
 mod calls;
 mod chip;
 mod codings;
-mod flags;
+mod context;
 mod lines;
 mod print;
 mod tokens;
 
-use flags::all_known;
+use context::initial;
 use lines::read_line;
 
 // Room for a line and its end.
@@ -36,7 +37,7 @@ const LINE_WIDTH: usize = 1024;
 
 // A proved loop has to end, and nothing says that the input does: turns are counted down from a number that no run uses up.
 fn main() {
-    let mut flags = all_known();
+    let mut context = initial();
     let mut turns = u64::MAX;
     while turns > 0 {
         let mut line = [0u8; LINE_WIDTH];
@@ -44,7 +45,7 @@ fn main() {
         if n == 0 {
             return;
         }
-        flags = answers::answer(&line[0..n - 1], flags);
+        context = answers::answer(&line[0..n - 1], context);
         turns -= 1;
     }
 }

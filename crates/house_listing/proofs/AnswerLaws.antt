@@ -12,6 +12,7 @@ use Rattle.unpacking.specs.Unpacking.{unpack}
 use Rattle.planning.specs.Plan.{Counts, countsOf, leftBy}
 use Rattle.answer_listing.proofs.AnswerLaws.{Plans}
 use Rattle.adv7194_bus.specs.Address.{boardAddress}
+use Rattle.adv7194_bus.specs.Limit.{noLimit}
 use Rattle.adv7194_settings.specs.House.{house}
 use Rattle.adv7194_least.specs.Aim.{aimOf}
 use Rattle.adv7194_least.proofs.PackedPlan.{plan-unpacks}
@@ -24,24 +25,25 @@ use Rattle.house_listing.specs.HouseText.{boardIn}
 module _ (image plan : List ℕ) where
   -- what is planned
   abbrev list : List Transaction
-  list = listOf (boardIn image) house
+  list = listOf (boardIn image) house noLimit
 
   -- an answered plan: all before the room has passed, and the counts answered are those of the list
-  sized : (v : Verdict Counts) → Outcome (boardIn image) house (length plan) v → (n : Counts) → v ≡ good n → Passed (boardIn image) house × (countsOf list ≡ n)
+  sized : (v : Verdict Counts) → Outcome (boardIn image) house noLimit (length plan) v → (n : Counts) → v ≡ good n
+      → Passed (boardIn image) house noLimit × (countsOf list ≡ n)
   sized _ (early h) n e = let z : _≡_ {A = ℕ} 0 1 = cc in absurd (omega arith)
   sized _ (short p h) n e = let z : _≡_ {A = ℕ} 0 1 = cc in absurd (omega arith)
   sized _ (planned p) n e = (p, cc)
 
   -- the list's bytes unpack to it
-  unpacked : ((r : ℕ) → getD image r 0 < 2 ^ 8) → Passed (boardIn image) house → unpack (packed list) ≡ accepted list
+  unpacked : ((r : ℕ) → getD image r 0 < 2 ^ 8) → Passed (boardIn image) house noLimit → unpack (packed list) ≡ accepted list
   unfolding listOf
-  unpacked bytes p = plan-unpacks (aimOf (boardIn image) house) (change (boardIn image) house bytes p)
+  unpacked bytes p = plan-unpacks (aimOf (boardIn image) house noLimit) (change (boardIn image) house noLimit bytes p)
 
   -- the house setting's planner is one of its list
-  pub plans : ((r : ℕ) → getD image r 0 < 2 ^ 8) → (after : List ℕ) → after ≡ planLeft (boardIn image) house boardAddress plan
-      → (v : Verdict Counts) → v ≡ planningOf (boardIn image) house boardAddress (length plan) → Plans list plan after v
+  pub plans : ((r : ℕ) → getD image r 0 < 2 ^ 8) → (after : List ℕ) → after ≡ planLeft (boardIn image) house boardAddress noLimit plan
+      → (v : Verdict Counts) → v ≡ planningOf (boardIn image) house boardAddress noLimit (length plan) → Plans list plan after v
   plans bytes after memory v answer =
-      let came = subst (Outcome (boardIn image) house (length plan)) (sym answer) (outcome (boardIn image) house boardAddress (length plan)) in
+      let came = subst (Outcome (boardIn image) house noLimit (length plan)) (sym answer) (outcome (boardIn image) house boardAddress noLimit (length plan)) in
       record {
         left = memory ∙ ap (leftBy list plan) (sym answer);
         counts = λ n e. sized v came n e .1;

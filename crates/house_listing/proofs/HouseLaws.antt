@@ -23,6 +23,7 @@ use Rattle.plan_listing.proofs.TextLaws.{first-length, text-length}
 use Rattle.answer_listing.specs.AnswerText.{answerText}
 use Rattle.adv7194_bus.specs.Kind.{registerCount}
 use Rattle.adv7194_bus.specs.Address.{boardAddress}
+use Rattle.adv7194_bus.specs.Limit.{noLimit}
 use Rattle.field_table.specs.Coding.{encode}
 use Rattle.field_table.specs.Blocks.{numbersFrom}
 use Rattle.adv7194_table.specs.Fields.{numberCount, timing, output, picture, dnr}
@@ -33,9 +34,10 @@ use Rattle.adv7194_settings.specs.Order.{placesOf, order}
 use Rattle.adv7194_settings.specs.Rows.{someOf, rowHolds, checkOf}
 use Rattle.adv7194_settings.specs.House.{house}
 use Rattle.adv7194_settings.proofs.ReadingLaws.{none-unknown}
-use Rattle.adv7194_least.specs.Aim.{aimOf}
-use Rattle.adv7194_least.specs.Demands.{mostBits, mostBytes}
-use Rattle.adv7194_least.proofs.Room.{plan-bits, plan-room}
+use Rattle.adv7194_least.specs.Aim.{Aim, aimOf}
+use Rattle.adv7194_least.specs.Change.{Change, Told}
+use Rattle.adv7194_least.specs.Demands.{wideLimit, wideBits, wideBytes}
+use Rattle.adv7194_least.proofs.Room.{wide-bits, wide-room}
 use Rattle.adv7194_planning.specs.Rows.{listOf}
 use Rattle.adv7194_planning.proofs.CaseLaws.{wrong-length, passed, no-row}
 use Rattle.adv7194_planning.proofs.Outcomes.{Passed}
@@ -65,7 +67,7 @@ house-count = refl
 -- an image that isn't 54 bytes is refused so
 pub not-an-image : (image : List ℕ) → (length image ≡ registerCount → ⊥) → houseText image ≡ refusedLine 1 0
 unfolding houseTextIn
-not-an-image image h = ap (answerText (listOf (boardIn image) house)) (wrong-length (boardIn image) house boardAddress mostBytes h)
+not-an-image image h = ap (answerText (listOf (boardIn image) house noLimit)) (wrong-length (boardIn image) house boardAddress noLimit wideBytes h)
 
 -- that line
 refused-length : length (refusedLine 1 0) ≡ 12
@@ -79,7 +81,7 @@ some-or-none [] = inr refl
 some-or-none (t ∷ ts) = inl (omega arith)
 
 -- the text of a list of at most so many bits is short
-text-short : (ts : List Transaction) → length (packedBits ts) ≤ mostBits → length (planText ts) ≤ mostText
+text-short : (ts : List Transaction) → length (packedBits ts) ≤ wideBits → length (planText ts) ≤ mostText
 text-short ts bits =
     let tens = decimal-most 1 (length ts) (omega (arith, bits, packedBits-length ts, bytes-count ts)) in
     let cost = decimal-most 1 (busBytes ts) (omega (arith, bits, packedBits-length ts, bytes-count ts)) in
@@ -91,24 +93,38 @@ text-short ts bits =
 
 module _ (image : List ℕ) (bytes : (r : ℕ) → getD image r 0 < 2 ^ 8) (h : length image ≡ registerCount) where
   -- all before the room passes
-  all-passed : Passed (boardIn image) house
-  all-passed = record { long = h; fixed = none-unfixed (boardIn image) house (none-unknown image) }
+  all-passed : Passed (boardIn image) house noLimit
+  all-passed = record { long = h; fixed = none-unfixed (boardIn image) house (none-unknown image); limited = refl }
+
+  -- what the house setting aims at is a change of the board, in which every register with a field is known or fixed
+  abbrev aim : Aim
+  aim = aimOf (boardIn image) house noLimit
+
+  changes : Change aim
+  changes = change (boardIn image) house noLimit bytes all-passed
+
+  tells : Told aim
+  tells = told (boardIn image) house noLimit bytes all-passed
+
+  -- and no limit is a wide one
+  wide : wideLimit ≤ noLimit
+  wide = omega arith
 
   -- any other image is planned
-  pub an-image : houseText image ≡ planText (listOf (boardIn image) house)
+  pub an-image : houseText image ≡ planText (listOf (boardIn image) house noLimit)
   unfolding houseTextIn listOf
   an-image =
-      let room = plan-room (aimOf (boardIn image) house) (change (boardIn image) house bytes all-passed) (told (boardIn image) house bytes all-passed) in
-      ap (answerText (listOf (boardIn image) house))
-      (passed (boardIn image) house boardAddress mostBytes h refl house-count house-good
-      ∙ no-row (boardIn image) house boardAddress mostBytes (all-passed .fixed) room)
+      let room = wide-room aim changes tells wide in
+      ap (answerText (listOf (boardIn image) house noLimit))
+      (passed (boardIn image) house boardAddress noLimit wideBytes h refl refl house-count house-good
+      ∙ no-row (boardIn image) house boardAddress noLimit wideBytes (all-passed .fixed) room)
 
   -- a plan's text is short
-  planned-short : length (planText (listOf (boardIn image) house)) ≤ mostText
+  planned-short : length (planText (listOf (boardIn image) house noLimit)) ≤ mostText
   unfolding listOf
   planned-short =
-      text-short (listOf (boardIn image) house)
-      (plan-bits (aimOf (boardIn image) house) (change (boardIn image) house bytes all-passed) (told (boardIn image) house bytes all-passed))
+      text-short (listOf (boardIn image) house noLimit)
+      (wide-bits aim changes tells wide)
 
 -- no text is longer
 pub short : (image : List ℕ) → ((r : ℕ) → getD image r 0 < 2 ^ 8) → length (houseText image) ≤ mostText

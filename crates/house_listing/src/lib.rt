@@ -3,26 +3,28 @@ ghost use mathlib.Core.Path.{_≡_};
 ghost use lib.ListN.{length};
 ghost use Rattle.text.specs.Line.{placeAfter, appended};
 ghost use Rattle.adv7194_bus.specs.Address.{boardAddress};
+ghost use Rattle.adv7194_bus.specs.Limit.{noLimit};
 ghost use Rattle.adv7194_settings.specs.House.{house as houseSetting};
 ghost use Rattle.adv7194_planning.specs.Planning.{planLeft};
 ghost use Rattle.house_listing.specs.HouseText.{boardIn, houseTextIn, houseText};
 use adv7194_bus::BOARD_ADDRESS;
+use adv7194_bus::NO_LIMIT;
 use adv7194_bus::board::ALL_KNOWN;
 use adv7194_settings::house;
 use answer_listing::answer_listing;
 use text::Place;
 
-// The most bytes that a packed plan has.
+// The most bytes that a packed plan has where there is no limit.
 const MOST_BYTES: usize = 44;
 
 // Plans the house setting over an image into the lent plan, and writes the text of what planning answers.
 fn list_house(out: &mut [u8], image: &[u8], plan: &mut [u8]) -> Place
     ensures answer { λ r. ⌜ r ≡ placeAfter (now (out .entry)) 0 (houseTextIn (now (image .entry)) (length (now (plan .entry)))) ⌝ }
     ensures memory { λ r. ⌜ now (out .exit) ≡ appended (now (out .entry)) 0 (houseTextIn (now (image .entry)) (length (now (plan .entry)))) ⌝ }
-    ensures planned { λ r. ⌜ now (plan .exit) ≡ planLeft (boardIn (now (image .entry))) houseSetting boardAddress (now (plan .entry)) ⌝ }
+    ensures planned { λ r. ⌜ now (plan .exit) ≡ planLeft (boardIn (now (image .entry))) houseSetting boardAddress noLimit (now (plan .entry)) ⌝ }
 {
     let numbers = house();
-    let planned = adv7194_planning::plan(image, ALL_KNOWN, &numbers, BOARD_ADDRESS, plan);
+    let planned = adv7194_planning::plan(image, ALL_KNOWN, &numbers, BOARD_ADDRESS, NO_LIMIT, plan);
     answer_listing(out, planned, plan)
 }
 

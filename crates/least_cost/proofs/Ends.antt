@@ -16,7 +16,7 @@ pub use Rattle.bus.proofs.Play.{Kept}
 use Rattle.bus.proofs.Play.{stores, run-transaction, stores-other, touches?, run-list, touched-or-same}
 use Rattle.least_cost.specs.Order.{Ascending, Holds}
 use Rattle.least_cost.proofs.Attained.{later, getD-later, getD-here}
-use Rattle.least_cost.proofs.Unique.{ascending-past}
+use Rattle.least_cost.proofs.Spans.{ascending-past}
 
 module _ (κ : Kind) where
   length-store : (l : List ℕ) (i b : ℕ) → length (store (κ .keeps) l i b) ≡ length l

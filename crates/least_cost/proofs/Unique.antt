@@ -1,127 +1,24 @@
 -- Where to go on and to end never weigh the same, an ascending list that weighs the least is the plan. Assumes nothing.
 use mathlib.Core.Path.{_≡_, refl, sym, ap₂, _∙_}
-use mathlib.Core.Logic.{_⊎_, inl, inr, ⊎-elim}
 use mathlib.Core.Bool.{Bool, true, false}
 use mathlib.Core.List.{List, [], _∷_}
 use Prim.Native.Nat.{ℕ, zero, suc, _+_, _-_, _*_, _≤_, _<_}
 use native.Mathlib.Omega.{arith}
-use lib.ListN.{length, getD}
-use lib.Seq.{ext-getD}
+use lib.ListN.{length}
 use lib.Dec.{ltb}
 use borrow.Author.Tests.{ltb-true, ltb-false}
-use Rattle.bus.specs.Transactions.{Transaction, size, end, Touched, Every}
+use Rattle.bus.specs.Transactions.{Transaction, end, Every}
 use Rattle.least_cost.specs.Order.{Ascending, Holds}
 use Rattle.least_cost.specs.Task.{Task, Allowed, CoversFrom, Covers}
-use Rattle.least_cost.specs.Plan.{Open, Choice, begin, leaving, scan, extend}
-use Rattle.least_cost.proofs.Weight.{byteWeight, weights, leastClosed, leastOpen}
-use Rattle.least_cost.proofs.WeightLaws.{closed-need, closed-skip, open-shut, reach}
-use Rattle.least_cost.proofs.LowerBound.{least-from}
-use Rattle.least_cost.proofs.Best.{best, plan, NoTie, scan-need, scan-skip, extend-goes, extend-leaves, best-true, best-goes}
+use Rattle.least_cost.specs.Weight.{byteWeight, weights, leastClosed, leastOpen}
+use Rattle.least_cost.specs.Plan.{Open, Choice, begin, scan, extend, best, plan}
+use Rattle.least_cost.proofs.WeightLaws.{closed-skip, open-shut, reach}
+use Rattle.least_cost.proofs.Best.{NoTie, scan-need, scan-skip, extend-goes, extend-leaves, best-goes}
 use Rattle.least_cost.proofs.Attained.{ascending-from, Wanted, wanted-more}
-
--- two transactions of one span that hold the wanted bytes are one
-same-transaction : (want : ℕ → ℕ) (t u : Transaction) → t .subaddress ≡ u .subaddress → size t ≡ size u → Holds want t → Holds want u → t ≡ u
-same-transaction want t u e n a b = ap₂ (λ i l. record { subaddress = i; bytes = l }) e (ext-getD 0 (t .bytes) (u .bytes) n at)
-  where
-    at : (i : ℕ) → i < size t → getD (t .bytes) i 0 ≡ getD (u .bytes) i 0
-    at i h =
-        let x : t .subaddress + i - t .subaddress ≡ i = omega arith in
-        let y : t .subaddress + i - u .subaddress ≡ i = omega arith in
-        rw x at (a (t .subaddress + i) (omega arith)) ∙ sym (rw y at (b (t .subaddress + i) (omega arith)))
-
--- a list of some weight is not empty
-no-weight : (ts : List Transaction) → weights ts ≤ 0 → ts ≡ []
-unfolding weights
-no-weight [] h = refl
-no-weight (t ∷ ts) h = absurd (omega arith)
-
--- in an ascending list nothing is touched before the first start
-pub ascending-past : (i r : ℕ) (ts : List Transaction) → Ascending i ts → r < i → Touched ts r → ⊥
-ascending-past i r (t ∷ ts) a h (inl u) = omega arith
-ascending-past i r (t ∷ ts) a h (inr u) = ascending-past (end t) r ts (a .1) (omega arith) u
+use Rattle.least_cost.proofs.Spans.{same-transaction, ascending-past}
+use Rattle.least_cost.proofs.Earliest.{no-weight, ended, Met, met, past}
 
 module _ (p : Task) (want : ℕ → ℕ) where
-  -- past an open transaction the plan goes on with none open
-  abbrev Ended : ℕ → ℕ → Open → Type 0
-  Ended k i q = (k′ j : ℕ) → i + k ≡ j + k′ → j ≡ i + length (q .bytes) → q .rest ≡ scan p (best p) want k′ j
-
-  ended-left : (k i : ℕ) → Ended k i (leaving (scan p (best p) want k i))
-  ended-left k i k′ j e f =
-      let a : k′ ≡ k = omega arith in
-      let b : j ≡ i = omega arith in
-      rw (a, b)
-
-  ended : (k i r : ℕ) → Ended k i (extend p (best p) want k i r)
-  unfolding scan
-  ended zero i r = ended-left zero i
-  ended (suc k) i r = split (best p k i r) refl (ended k (suc i) r)
-    where
-      split : (b : Bool) → best p k i r ≡ b → Ended k (suc i) (extend p (best p) want k (suc i) r) → Ended (suc k) i (extend p (best p) want (suc k) i r)
-      split true e ih = rw (extend-goes p (best p) want k i r e) (λ k′ j a b. ih k′ j (omega arith) (omega arith))
-      split false e ih = rw (extend-leaves p (best p) want k i r e) (ended-left (suc k) i)
-
-  -- no end that weighs as little comes earlier
-  abbrev Short : ℕ → ℕ → ℕ → Open → Type 0
-  Short k i r q = (k′ j : ℕ) → i + k ≡ j + k′ → i ≤ j → p .cut j ≡ true → byteWeight * j + leastClosed p k′ j ≤ leastOpen p k i r + byteWeight * i
-      → i + length (q .bytes) ≤ j
-
-  short : (k i r : ℕ) → Short k i r (extend p (best p) want k i r)
-  unfolding scan
-  short zero i r = λ k′ j a b c d. omega arith
-  short (suc k) i r = split (best p k i r) refl (short k (suc i) r)
-    where
-      split : (b : Bool) → best p k i r ≡ b → Short k (suc i) r (extend p (best p) want k (suc i) r) → Short (suc k) i r (extend p (best p) want (suc k) i r)
-      split false e ih = rw (extend-leaves p (best p) want k i r e) (λ k′ j a b c d. omega arith)
-      split true e ih = rw (extend-goes p (best p) want k i r e) (λ k′ j a b c d. later? k′ j a b c d (ltb i j) refl)
-        where
-          later? : (k′ j : ℕ) → i + suc k ≡ j + k′ → i ≤ j → p .cut j ≡ true → byteWeight * j + leastClosed p k′ j ≤ leastOpen p (suc k) i r + byteWeight * i
-              → (t : Bool) → ltb i j ≡ t → i + suc (length (extend p (best p) want k (suc i) r .bytes)) ≤ j
-          later? k′ j a b c d true f =
-              omega (arith, ih k′ j (omega arith) (ltb-true i j f) c (omega (arith, best-goes p k i r e)))
-          later? k′ j a b c d false f =
-              let g = ltb-false i j f in
-              let x : j ≡ i = omega arith in
-              let y : k′ ≡ suc k = omega arith in
-              absurd (omega (arith, best-goes p k i r e, rw (rw x at c) at (best-true p k i r e .1), rw (x, y) at d))
-
-  -- a list without its first transaction covers what lies past that
-  drop-first : (t : Transaction) (ts : List Transaction) (i b : ℕ) → CoversFrom p i (t ∷ ts) → i ≤ b → end t ≤ b → CoversFrom p b ts
-  drop-first t ts i b covers h g r a c n = ⊎-elim (λ u. absurd (omega arith)) (λ u. u) (covers r (omega arith) c n)
-
-  -- the first transaction of a list that weighs the least and covers from i on, where it touches i: it starts at i, is no shorter
-  -- than the plan's, and what follows weighs the least too
-  record Met (k i : ℕ) (t : Transaction) (ts : List Transaction) : Type 0 where
-    starts : i ≡ t .subaddress
-    longer : suc i + length (extend p (best p) want k (suc i) i .bytes) ≤ end t
-    within : end t ≤ p .count
-    covers : CoversFrom p (end t) ts
-    least : weights ts ≤ leastClosed p (p .count - end t) (end t)
-    light : byteWeight * end t + leastClosed p (p .count - end t) (end t) ≤ leastOpen p k (suc i) i + byteWeight * suc i
-
-  module _ (k i : ℕ) (e : i + suc k ≡ p .count) (n : p .need i ≡ true) (t : Transaction) (ts : List Transaction) (ok : Allowed p t) (all : Every (Allowed p) ts)
-      (covers : CoversFrom p i (t ∷ ts)) (h : weights (t ∷ ts) ≤ leastClosed p (suc k) i) where
-    met : t .subaddress ≤ i → i < end t → Met k i t ts
-    unfolding weights
-    met a b =
-        let j = end t in
-        let w = ok .within (j - 1) (omega arith) in
-        let c = drop-first t ts i j covers (omega arith) (omega arith) in
-        let x = least-from p ts all (p .count - j) j (omega arith) c in
-        let y = reach p k (suc i) i (p .count - j) j (omega arith) b (ok .takes i (a, b)) (ok .ends i (a, b)) in
-        let f = closed-need p k i n in
-        record {
-          starts = omega arith;
-          longer = short k (suc i) i (p .count - j) j (omega arith) b (ok .ends i (a, b)) (omega arith);
-          within = omega arith;
-          covers = c;
-          least = omega arith;
-          light = omega arith;
-        }
-
-    past : end t ≤ i → ⊥
-    unfolding weights
-    past d = omega (arith, least-from p ts all (suc k) i e (drop-first t ts i i covers (omega arith) d))
-
   -- the data that an open transaction goes on with are the wanted bytes
   extend-wanted : (goes : Choice) (k i s : ℕ) → Wanted want i (extend p goes want k i s .bytes)
   unfolding scan
@@ -134,11 +31,12 @@ module _ (p : Task) (want : ℕ → ℕ) where
       split false e ih = rw (extend-leaves p goes want k i s e) (λ x a b. absurd (omega arith))
 
 module _ (p : Task) (want : ℕ → ℕ) (τ : NoTie p) where
-  -- no end that weighs as little comes later than the plan's
+  -- no end that weighs as little comes later
   abbrev Long : ℕ → ℕ → ℕ → Open → Type 0
   Long k i r q = (k′ j : ℕ) → i + k ≡ j + k′ → i ≤ j → ((x : ℕ) → i ≤ x → x < j → p .takes r x ≡ true) → p .cut j ≡ true
       → byteWeight * j + leastClosed p k′ j ≤ leastOpen p k i r + byteWeight * i → j ≤ i + length (q .bytes)
 
+  -- than the plan's
   long : (k i r : ℕ) → r ≤ i → i + k ≡ p .count → Long k i r (extend p (best p) want k i r)
   unfolding scan
   long zero i r h e = λ k′ j a b t c d. omega arith
@@ -172,8 +70,8 @@ module _ (p : Task) (want : ℕ → ℕ) (τ : NoTie p) where
   Same m = (k i : ℕ) → k ≤ m → i + k ≡ p .count → (ts : List Transaction) → Every (Allowed p) ts → Every (Holds want) ts → Ascending 0 ts
       → CoversFrom p i ts → weights ts ≤ leastClosed p k i → ts ≡ scan p (best p) want k i
 
-  -- a list whose first needed register is i
   module _ (m k i : ℕ) (e : i + suc k ≡ p .count) (g : suc k ≤ suc m) (n : p .need i ≡ true) (ih : Same m) where
+    -- a list whose first needed register is i begins as the plan does
     begins : (t : Transaction) (ts : List Transaction) → Every (Allowed p) (t ∷ ts) → Every (Holds want) (t ∷ ts) → Ascending 0 (t ∷ ts)
         → CoversFrom p i (t ∷ ts) → weights (t ∷ ts) ≤ leastClosed p (suc k) i
         → (t ∷ ts) ≡ begin i (want i) (extend p (best p) want k (suc i) i)
@@ -205,6 +103,7 @@ module _ (p : Task) (want : ℕ → ℕ) (τ : NoTie p) where
         reaching true d = same (met p want k i e n t ts ok all covers h first (ltb-true i (end t) d))
         reaching false d = absurd (past p want k i e n t ts ok all covers h (ltb-false i (end t) d))
 
+  -- so for all registers
   unique : (m : ℕ) → Same m
   unfolding scan leastClosed
   unique zero zero i g e ts all holds a covers h = no-weight ts h

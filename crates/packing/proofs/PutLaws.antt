@@ -18,7 +18,7 @@ use Rattle.bus.specs.Transactions.{Transaction}
 use Rattle.packing.proofs.FillLaws.{msb-zero, take-bytes, filled-bytes}
 use Rattle.packing.specs.declared.Pending.{Pending}
 use Rattle.packing.specs.Packing.{listBits, packedBits, packed}
-use Rattle.packing.specs.Written.{Sound, Put, written}
+use Rattle.packing.specs.Written.{Sound, Put, written, finishedWith}
 
 -- ---- one string after another
 
@@ -189,14 +189,10 @@ put-fill before after p r w h s e k =
 
 -- ---- the whole plan
 
--- a plan that was begun with its transaction count, into which its transactions were put and that was finished: what a planner leaves in the lent plan
-pub finished : (before mid after : List ℕ) (ts : List Transaction) (r : Pending) (n : ℕ) → length ts < 64 → r .at ≤ length mid
-    → Put before mid (record { at = 0; count = 6; bits = length ts }) (listBits ts) r
-    → n ≡ length (bytesOf (written mid r)) → after ≡ bytesOf (written mid r) ++ drop n mid
-    → (n ≡ length (packed ts)) × (after ≡ packed ts ++ drop n before)
-unfolding packed packedBits
-finished before mid after ts r n few room k e f =
-    let bits : written mid r ≡ packedBits ts = k .wrote ∙ ap (λ (l : List Bool). l ++ listBits ts) (begun before (length ts) few .1) in
+-- a plan into which a string was put after what was written before, and that was finished: what a planner leaves in the lent plan
+pub finished : (before mid after : List ℕ) (p : Pending) (bs : List Bool) (r : Pending) (n : ℕ) → r .at ≤ length mid → Put before mid p bs r
+    → n ≡ length (bytesOf (written mid r)) → after ≡ bytesOf (written mid r) ++ drop n mid → after ≡ finishedWith before (written before p ++ bs)
+finished before mid after p bs r n room k e f =
     let size : length (written mid r) ≡ r .at * 8 + r .count =
     omega (
       arith,
@@ -206,4 +202,11 @@ finished before mid after ts r n few room k e f =
       msb-length (r .count) (r .bits),
     ) in
     let past : drop n mid ≡ drop n before = drop-further mid before (r .at) n (omega (arith, bytesOf-length (written mid r))) (k .past) in
-    (e ∙ ap (λ (l : List Bool). length (bytesOf l)) bits, f ∙ ap₂ (λ (l : List Bool) (d : List ℕ). bytesOf l ++ d) bits past)
+    let long : n ≡ length (bytesOf (written before p ++ bs)) = e ∙ ap (λ (l : List Bool). length (bytesOf l)) (k .wrote) in
+    f ∙ ap₂ (λ (l : List Bool) (d : List ℕ). bytesOf l ++ d) (k .wrote) past ∙ ap (λ (m : ℕ). bytesOf (written before p ++ bs) ++ drop m before) long
+
+-- a plan begun with its transaction count and finished with its transactions is the packed plan
+pub finished-packed : (before : List ℕ) (ts : List Transaction) → length ts < 64
+    → finishedWith before (written before (record { at = 0; count = 6; bits = length ts }) ++ listBits ts) ≡ packed ts ++ drop (length (packed ts)) before
+unfolding packed packedBits
+finished-packed before ts few = ap (λ (l : List Bool). finishedWith before (l ++ listBits ts)) (begun before (length ts) few .1)

@@ -1,45 +1,41 @@
--- Document 01, "The bus and its three rules" and "Packing": the plan for the needed registers, packed into the lent plan. Its byte count is that of the
--- list packed; the lent plan past the packed bytes stays as it was. A lent plan shorter than the packed one is refusal 10, which writes nothing.
+-- Document 01, "Packing", document 02, P6: the plan for the needed registers, packed into the lent plan. Its byte count is that of the list packed; the lent
+-- plan past the packed bytes stays as it was. A lent plan shorter than the packed one is refusal 10, which writes nothing.
 use mathlib.Core.Path.{_≡_}
 use mathlib.Core.Bool.{true, cond}
 use mathlib.Core.List.{List, _++_}
-use Prim.Native.Nat.{ℕ, _≤_, _<_}
+use Prim.Native.Nat.{ℕ, _-_, _≤_, _<_}
 use lib.Dec.{leb}
 use lib.ListN.{length, getD, drop}
-use Rattle.bits.specs.Maps.{has}
+use Rattle.bits.specs.Maps.{mapWidth, has}
 use Rattle.refusals.specs.Refusal.{numberOf}
 use Rattle.refusals.specs.Verdict.{Verdict, good, refusedAt}
 use Rattle.bus.specs.Transactions.{Transaction, busBytes}
-use Rattle.packing.specs.Packing.{packed}
-use Rattle.least_cost.specs.Task.{Task}
-use Rattle.least_cost.specs.Plan.{greedyPlan}
+use Rattle.packing.specs.declared.Pending.{Pending}
+use Rattle.packing.specs.Packing.{listBits, packed}
+use Rattle.packing.specs.Written.{Sound, Room}
+use Rattle.least_cost.specs.Plan.{scan}
+use Rattle.cutting.specs.Task.{largestCount, mapTask}
 use Rattle.planning.specs.declared.plan.Planned.{Planned}
 use Rattle.planning.specs.declared.plan.Planned.the-variants.{Done, Refused}
 
--- the largest number that a 6-bit count of a packed plan can hold
-abbrev pub largestCount : ℕ
-largestCount = 63
+-- the list of two maps from register i on: it touches the registers of the first, and its transactions go on over those of the second; with the wanted
+-- bytes
+abbrev pub listFrom : ℕ → ℕ → List ℕ → ℕ → List Transaction
+listFrom taken goes wanted i =
+    scan (mapTask (length wanted) taken taken 0 mapWidth) (λ k x s. has goes x) (λ r. getD wanted r 0) (length wanted - i) i
 
--- the needed registers may be written, each that may be written has a wanted byte, and there are no more than a data count can hold
-pub record Plannable (needed allowed : ℕ) (wanted : List ℕ) : Type 0 where
-  pub writable : (i : ℕ) → has needed i ≡ true → has allowed i ≡ true
-  pub inside : (i : ℕ) → has allowed i ≡ true → i < length wanted
+-- and from the first register on
+abbrev pub listOf : ℕ → ℕ → List ℕ → List Transaction
+listOf taken goes wanted = listFrom taken goes wanted 0
+
+-- the list of two maps can be packed after what is written and pending: its registers have wanted bytes, no more than a count can hold, and the lent plan
+-- has room for it
+pub record Packable (taken goes : ℕ) (wanted plan : List ℕ) (first : Pending) : Type 0 where
+  pub inside : (i : ℕ) → has taken i ≡ true → i < length wanted
+  pub over : (i : ℕ) → has goes i ≡ true → has taken i ≡ true
   pub small : length wanted ≤ largestCount
-
--- the task of two maps: to write the needed registers, with no register written that is not allowed
-abbrev pub mapTask : ℕ → ℕ → ℕ → Task
-mapTask count needed allowed = record { count = count; need = has needed; takes = λ s i. has allowed i; cut = λ i. true }
-
--- the plan of two maps, with the wanted bytes
-abbrev pub planBy : ℕ → ℕ → List ℕ → List Transaction
-planBy needed allowed wanted = greedyPlan (mapTask (length wanted) needed allowed) (has allowed) (λ r. getD wanted r 0)
-
--- the runs of a map can be packed: `transactions` is how many there are, a 6-bit count can hold it, and the lent plan has room for them
-pub record Packable (map transactions : ℕ) (wanted plan : List ℕ) : Type 0 where
-  pub plannable : Plannable map map wanted
-  pub counted : transactions ≡ length (planBy map map wanted)
-  pub few : transactions ≤ largestCount
-  pub fits : length (packed (planBy map map wanted)) ≤ length plan
+  pub sound : Sound first
+  pub room : Room plan first (length (listBits (listOf taken goes wanted)))
 
 -- the numbers of a packed list: its bytes, its transactions, and its bus bytes
 pub record Counts : Type 0 where

@@ -1,11 +1,14 @@
 ghost use mathlib.Core.Path.{_≡_};
 ghost use mathlib.Core.List.{_++_};
-ghost use lib.ListN.{length, drop};
-ghost use Rattle.packing.specs.Packing.{packed, packedLength};
-ghost use Rattle.planning.specs.Plan.{Plannable, Packable, planBy, answerOf, packingOf, planAfter};
-use crate::maps;
+ghost use lib.ListN.{length};
+ghost use Rattle.packing.specs.Packing.{packedLength, listBits};
+ghost use Rattle.packing.specs.Written.{written, finishedWith};
+ghost use Rattle.cutting.specs.Task.{Plannable, planBy};
+ghost use Rattle.planning.specs.Plan.{Packable, listOf, answerOf, packingOf, planAfter};
+use crate::spans::plan_spans;
 use packing::BYTE_BITS;
 use packing::FIELD_BITS;
+use packing::Pending;
 use refusals::Refusal;
 
 // The width of a transaction's header in a packed plan: subaddress and data count.
@@ -38,35 +41,43 @@ pub fn packed_length(transactions: u32, data_bytes: u32) -> u64
     (bits + MOST_FILL) / BYTE_BITS
 }
 
-// Packs each run of registers of a map as a transaction with the wanted bytes.
-fn pack_runs(plan: &mut [u8], map: u64, transactions: u8, wanted: &[u8])
-    requires { ⌜ Packable map transactions (now wanted) (now plan) ⌝ }
-    ensures memory { λ r. ⌜ now (plan .exit) ≡ packed (planBy map map (now (wanted .entry))) ++ drop (length (packed (planBy map map (now (wanted .entry))))) (now (plan .entry)) ⌝ }
+// Packs the transactions that touch the registers of one map and go on over those of another, with the wanted bytes, after what is written and pending, and
+// fills the last byte.
+fn pack_spans(plan: &mut [u8], first: Pending, taken: u64, goes: u64, wanted: &[u8])
+    requires { ⌜ Packable taken goes (now wanted) (now plan) first ⌝ }
+    ensures memory { λ r. ⌜ now (plan .exit) ≡ finishedWith (now (plan .entry)) (written (now (plan .entry)) first ++ listBits (listOf taken goes (now (wanted .entry)))) ⌝ }
 {
-    let mut pending = packing::begin(transactions);
-    let mut rest = map;
+    let mut pending = first;
+    let mut rest = taken;
     let mut from: usize = 0;
     while rest != 0 {
-        let gap = bits::maps::lowest(rest);
-        let run = rest >> gap;
-        let size = bits::maps::run(run);
-        let start = from + gap as usize;
-        let end = start + size as usize;
+        let start = from + bits::maps::lowest(rest) as usize;
+        let more = bits::maps::run((goes >> start) >> 1);
+        let end = start + more as usize + 1;
         pending = packing::pack_transaction(plan, pending, start as u8, &wanted[start..end]);
-        rest = run >> size;
+        rest = taken >> end;
         from = end;
     }
     packing::finish(plan, pending);
 }
 
-// Packs the plan that writes the needed registers, where it fits the lent plan.
-pub fn pack(plan: &mut [u8], needed: u64, allowed: u64, wanted: &[u8]) -> Planned
-    requires { ⌜ Plannable needed allowed (now wanted) ⌝ }
-    ensures answer { λ r. ⌜ answerOf r ≡ packingOf (planBy needed allowed (now (wanted .entry))) (length (now (plan .entry))) ⌝ }
-    ensures memory { λ r. ⌜ now (plan .exit) ≡ planAfter (planBy needed allowed (now (wanted .entry))) (now (plan .entry)) ⌝ }
+// Packs the plan that writes the needed registers, where it fits the lent plan: no transaction ends before a held register or has more data than the limit.
+pub fn pack(
+    plan: &mut [u8],
+    needed: u64,
+    allowed: u64,
+    held: u64,
+    limit: usize,
+    wanted: &[u8],
+) -> Planned
+    requires { ⌜ Plannable needed allowed held limit (now wanted) ⌝ }
+    ensures answer { λ r. ⌜ answerOf r ≡ packingOf (planBy needed allowed held limit (now (wanted .entry))) (length (now (plan .entry))) ⌝ }
+    ensures memory { λ r. ⌜ now (plan .exit) ≡ planAfter (planBy needed allowed held limit (now (wanted .entry))) (now (plan .entry)) ⌝ }
 {
-    let taken = maps::covered(needed, allowed);
-    let transactions = bits::maps::count(maps::starts(taken));
+    let found = plan_spans(needed, allowed, held, limit);
+    let taken = found.taken;
+    let starts = found.starts;
+    let transactions = bits::maps::count(starts);
     let data_bytes = bits::maps::count(taken);
     let length = packed_length(transactions, data_bytes);
     if (plan.len() as u64) < length {
@@ -75,7 +86,13 @@ pub fn pack(plan: &mut [u8], needed: u64, allowed: u64, wanted: &[u8]) -> Planne
             field: NO_FIELD,
         };
     }
-    pack_runs(plan, taken, transactions as u8, wanted);
+    pack_spans(
+        plan,
+        packing::begin(transactions as u8),
+        taken,
+        taken & !starts,
+        wanted,
+    );
     Planned::Done {
         length: length as u32,
         transactions: transactions,

@@ -1,10 +1,12 @@
 //! Plans the house setting for the image on standard input, and sends the plan.
 
-use adv7194::{plan, transactions, Board, Settings, PLAN_ROOM};
+use adv7194::{plan, transactions, Board, Settings, NO_LIMIT, PLAN_ROOM};
 use std::io::Read;
 
 /// The board's address: the byte that starts a write.
 const ADDRESS: u8 = 0x54;
+/// The most data bytes in one transaction. A bus that others wait for takes fewer.
+const LIMIT: u32 = NO_LIMIT;
 
 /// Start, address, subaddress, data, stop. A board's own bus driver goes here;
 /// this prints the bytes.
@@ -19,7 +21,13 @@ fn main() -> Result<(), Box<dyn std::error::Error>> {
     std::io::stdin().read_to_end(&mut image)?;
     let board = Board::try_from(image.as_slice())?;
     let mut bytes = [0; PLAN_ROOM];
-    let planned = plan(&board, &Settings::house(), ADDRESS.into(), &mut bytes)?;
+    let planned = plan(
+        &board,
+        &Settings::house(),
+        ADDRESS.into(),
+        LIMIT,
+        &mut bytes,
+    )?;
     for transaction in transactions(&bytes[..planned.length])? {
         bus_write(transaction.subaddress(), transaction.data());
     }

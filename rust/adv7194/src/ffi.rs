@@ -98,6 +98,7 @@ extern "C" {
         settings: *const i32,
         settings_len: usize,
         address: u32,
+        limit: u32,
         plan: *mut u8,
         plan_len: usize,
     ) -> PlanAnswer;
@@ -165,6 +166,7 @@ pub fn plan(
     known: u64,
     settings: &[i32],
     address: u32,
+    limit: u32,
     plan: &mut [u8],
 ) -> PlanAnswer {
     // Sound: each pointer comes with the length of its own slice, and the
@@ -177,6 +179,7 @@ pub fn plan(
             settings.as_ptr(),
             settings.len(),
             address,
+            limit,
             plan.as_mut_ptr(),
             plan.len(),
         )

@@ -15,7 +15,7 @@
 //! setting. Nothing is kept between calls and nothing is allocated.
 //!
 //! ```
-//! use adv7194::{plan, play, read, Board, Settings, PLAN_ROOM, REGISTERS};
+//! use adv7194::{plan, play, read, Board, Settings, NO_LIMIT, PLAN_ROOM, REGISTERS};
 //!
 //! // What the chip holds now, all of it known.
 //! let mut board = Board::known([0u8; REGISTERS]);
@@ -23,7 +23,7 @@
 //! settings.hue = 40;
 //!
 //! let mut bytes = [0u8; PLAN_ROOM];
-//! let planned = plan(&board, &settings, 0x54, &mut bytes).unwrap();
+//! let planned = plan(&board, &settings, 0x54, NO_LIMIT, &mut bytes).unwrap();
 //!
 //! // What the chip holds after the plan.
 //! let acknowledged = play(&mut board, 0x54, 0x54, &bytes[..planned.length]).unwrap();
@@ -32,7 +32,7 @@
 //!
 //! // Of the settings with the same codes, reading gives those nearest zero.
 //! let found = read(&board).unwrap();
-//! let again = plan(&board, &found, 0x54, &mut bytes).unwrap();
+//! let again = plan(&board, &found, 0x54, NO_LIMIT, &mut bytes).unwrap();
 //! assert_eq!((again.length, again.transactions, again.bus_bytes), (1, 0, 0));
 //! assert_eq!(bytes[0], 0x00);
 //! ```
@@ -57,8 +57,12 @@ pub use refusal::{Reason, Refusal};
 pub use settings::{Curve, Settings, Signalling, Standard, YLevel, CURVE_BYTES};
 pub use transactions::{transactions, Transaction, Transactions, DATA_ROOM};
 
-/// Room for the longest packed plan.
-pub const PLAN_ROOM: usize = 44;
+/// The limit on a transaction's data bytes that is none: the highest.
+pub const NO_LIMIT: u32 = 54;
+/// Room for the longest packed plan, whatever the limit.
+pub const PLAN_ROOM: usize = 53;
+/// Room for the longest packed plan where the limit is [`NO_LIMIT`].
+pub const PLAN_ROOM_NO_LIMIT: usize = 44;
 
 /// What planning answers.
 #[derive(Clone, Copy, Debug, PartialEq, Eq)]
@@ -83,52 +87,68 @@ impl Planned {
     }
 }
 
-/// Plans the way from `board` to `settings`, for a chip at the even `address`.
-/// A register that isn't known is written where the settings fix all its bits;
-/// where they fix only some, planning is refused.
+/// Plans the way from `board` to `settings`, for a chip at the even `address`, in
+/// transactions of at most `limit` data bytes, 4 to 54. A register that isn't known
+/// is written where the settings fix all its bits; where they fix only some,
+/// planning is refused.
+///
+/// Of all lists that do it, the plan takes the fewest bus bytes, then the fewest
+/// transactions, and of those it is the one whose first transaction is shortest,
+/// then the second, and so on.
 ///
 /// The packed plan goes to the front of `plan`; bytes past it stay as they
 /// were. After a refusal all of `plan` is as it was.
 ///
 /// ```
-/// use adv7194::{plan, Board, Reason, Settings};
+/// use adv7194::{plan, Board, Reason, Settings, NO_LIMIT, PLAN_ROOM};
 ///
-/// let mut board = Board::known([0; 54]);
+/// let mut board = Board::known([0xFF; 54]);
 /// let mut settings = Settings::house();
+/// let free = plan(&board, &settings, 0x54, NO_LIMIT, &mut [0; PLAN_ROOM]).unwrap();
+/// let short = plan(&board, &settings, 0x54, 8, &mut [0; PLAN_ROOM]).unwrap();
+/// assert_eq!((free.transactions, free.bus_bytes), (4, 43));
+/// assert_eq!((short.transactions, short.bus_bytes), (6, 47));
+///
+/// // A limit of three would cut the subcarrier word.
+/// let refusal = plan(&board, &settings, 0x54, 3, &mut [0; PLAN_ROOM]).unwrap_err();
+/// assert_eq!((refusal.reason, refusal.field), (Reason::OutOfRange, 0));
+///
 /// settings.hue = 225;
-/// let refusal = plan(&board, &settings, 0x54, &mut [0; 44]).unwrap_err();
+/// let refusal = plan(&board, &settings, 0x54, 8, &mut [0; PLAN_ROOM]).unwrap_err();
 /// assert_eq!((refusal.reason, refusal.field), (Reason::OutOfRange, 15));
 ///
 /// // The standard has two bits of register 00; the others are to stay as found.
 /// board.flags &= !(1 << 0x00);
-/// let refusal = plan(&board, &Settings::house(), 0x54, &mut [0; 44]).unwrap_err();
+/// let refusal = plan(&board, &Settings::house(), 0x54, 8, &mut [0; PLAN_ROOM]).unwrap_err();
 /// assert_eq!((refusal.reason, refusal.field), (Reason::RegisterUnknown, 1));
 /// ```
 pub fn plan(
     board: &Board,
     settings: &Settings,
     address: u32,
+    limit: u32,
     plan: &mut [u8],
 ) -> Result<Planned, Refusal> {
-    plan_numbers(board, &settings.to_numbers(), address, plan)
+    plan_numbers(board, &settings.to_numbers(), address, limit, plan)
 }
 
 /// The same with settings as numbers, of any length and any value.
 ///
 /// ```
-/// use adv7194::{plan_numbers, Board, Reason};
+/// use adv7194::{plan_numbers, Board, Reason, NO_LIMIT};
 ///
 /// let board = Board::known([0; 54]);
-/// let refusal = plan_numbers(&board, &[0; 48], 0x54, &mut [0; 44]).unwrap_err();
+/// let refusal = plan_numbers(&board, &[0; 48], 0x54, NO_LIMIT, &mut []).unwrap_err();
 /// assert_eq!((refusal.reason, refusal.field), (Reason::OutOfRange, 0));
 /// ```
 pub fn plan_numbers(
     board: &Board,
     settings: &[i32],
     address: u32,
+    limit: u32,
     plan: &mut [u8],
 ) -> Result<Planned, Refusal> {
-    let answer = ffi::plan(&board.bytes, board.flags, settings, address, plan);
+    let answer = ffi::plan(&board.bytes, board.flags, settings, address, limit, plan);
     Planned::of(answer)
 }
 

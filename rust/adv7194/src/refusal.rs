@@ -11,8 +11,8 @@ pub enum Reason {
     ImageLength = 1,
     /// 2: a bus address is odd or above 254.
     Address = 2,
-    /// 3: a number is outside its range, the settings aren't 49 numbers, there is
-    /// no such transaction, or no pair of captions.
+    /// 3: a number or the limit is outside its range, the settings aren't 49
+    /// numbers, there is no such transaction, or no pair of captions.
     OutOfRange = 3,
     /// 4: a code is reserved, a must-be-zero bit is set, or WSS or a caption byte
     /// breaks its odd count.

@@ -52,11 +52,11 @@ impl FusedIterator for Transactions<'_> {}
 /// the bus rules aren't judged here ([`play`](crate::play) does).
 ///
 /// ```
-/// use adv7194::{plan, transactions, Board, Reason, Settings, PLAN_ROOM};
+/// use adv7194::{plan, transactions, Board, Reason, Settings, NO_LIMIT, PLAN_ROOM};
 ///
 /// let mut bytes = [0; PLAN_ROOM];
 /// let board = Board::known([0; 54]);
-/// let planned = plan(&board, &Settings::house(), 0x54, &mut bytes)?;
+/// let planned = plan(&board, &Settings::house(), 0x54, NO_LIMIT, &mut bytes)?;
 /// let mut bus_bytes = 0;
 /// for transaction in transactions(&bytes[..planned.length])? {
 ///     // Here a board writes to its bus.

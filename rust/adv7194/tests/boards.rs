@@ -2,7 +2,7 @@
 
 use adv7194::{
     plan, play, read, transactions, Board, Reason, Refusal, Settings, Signalling, ALL_KNOWN,
-    PLAN_ROOM, REGISTERS,
+    NO_LIMIT, PLAN_ROOM, REGISTERS,
 };
 
 /// An even address.
@@ -26,7 +26,7 @@ fn cgms() -> Settings {
 /// Plans and plays, and gives what is written: each transaction's subaddress and data count.
 fn settle(board: &mut Board, settings: &Settings) -> Result<Vec<(u8, usize)>, Refusal> {
     let mut bytes = [0; PLAN_ROOM];
-    let planned = plan(board, settings, ADDRESS, &mut bytes)?;
+    let planned = plan(board, settings, ADDRESS, NO_LIMIT, &mut bytes)?;
     let plan = &bytes[..planned.length];
     let list = transactions(plan)?.map(|one| (one.subaddress(), one.data().len()));
     let list = list.collect();

@@ -2,7 +2,7 @@
 
 use adv7194::{
     compare, index, plan, play, read, Board, Curve, Reason, Refusal, Settings, Signalling,
-    Standard, YLevel, PLAN_ROOM, REGISTERS,
+    Standard, YLevel, NO_LIMIT, PLAN_ROOM, REGISTERS,
 };
 
 /// An even address.
@@ -36,7 +36,7 @@ fn pal() -> Settings {
 fn settled(settings: &Settings) -> Result<[u8; REGISTERS], Refusal> {
     let mut board = Board::known([0xFF; REGISTERS]);
     let mut bytes = [0; PLAN_ROOM];
-    let planned = plan(&board, settings, ADDRESS, &mut bytes)?;
+    let planned = plan(&board, settings, ADDRESS, NO_LIMIT, &mut bytes)?;
     assert!(play(
         &mut board,
         ADDRESS,

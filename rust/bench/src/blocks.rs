@@ -4,12 +4,14 @@ use compare::cases::{self, Image, Numbers};
 use compare::damage;
 use compare::flags;
 use compare::random::Random;
-use plain::ALL_KNOWN;
+use plain::{ALL_KNOWN, NO_LIMIT};
 
 /// Cases in a block.
 pub const CASES: usize = 4096;
 /// The most bits that differ from what is wanted, in an image that is near it.
 const FLIPPED: i32 = 6;
+/// The least limit.
+const LEAST_LIMIT: i32 = 4;
 
 /// One case for each entry point.
 pub struct Case {
@@ -19,6 +21,8 @@ pub struct Case {
     pub known: u64,
     /// Settings.
     pub settings: Numbers,
+    /// The limit.
+    pub limit: u32,
     /// A packed plan.
     pub plan: Vec<u8>,
     /// An image to read.
@@ -34,6 +38,8 @@ pub struct Mixture {
     pub spoilt: Option<u64>,
     /// Whether flags are seeded, a third of them all known; else all are.
     pub flags: bool,
+    /// Whether limits are drawn from the least to the highest; else there is none.
+    pub limits: bool,
 }
 
 /// A block of cases.
@@ -59,8 +65,14 @@ fn case(random: &mut Random, mixture: Mixture) -> Case {
     } else {
         (ALL_KNOWN, ALL_KNOWN)
     };
+    let limit = if mixture.limits {
+        random.within(LEAST_LIMIT, NO_LIMIT as i32) as u32
+    } else {
+        NO_LIMIT
+    };
     // What is played is planned all the same where flags would refuse it.
-    let (planned, bytes) = cases::packed(&start, known | flags::PARTS, &settings);
+    let all = known | flags::PARTS;
+    let (planned, bytes) = cases::packed(&start, all, &settings, limit);
     let mut plan = bytes[..planned.length as usize].to_vec();
     let mut image = cases::settled(&start, &settings);
     let spoilt = mixture.spoilt;
@@ -73,6 +85,7 @@ fn case(random: &mut Random, mixture: Mixture) -> Case {
         start,
         known,
         settings,
+        limit,
         plan,
         image,
         image_known,

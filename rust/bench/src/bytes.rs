@@ -5,7 +5,7 @@ use compare::cases::{self, Image, Numbers, ADDRESS, ROOM};
 use compare::random::Random;
 use plain::least;
 use plain::registers::{BARRED_MAP, WORD_BYTES, WORD_MAP};
-use plain::ALL_KNOWN;
+use plain::{ALL_KNOWN, NO_LIMIT};
 
 /// Cases of each kind.
 const CASES: u32 = 16_384;
@@ -52,7 +52,7 @@ fn one_changed(random: &mut Random) -> (Image, Numbers) {
         let mut changed = settings;
         let place = random.below(changed.len() as u64) as usize;
         changed[place] = others[place];
-        let (answer, _) = cases::packed(&image, ALL_KNOWN, &changed);
+        let (answer, _) = cases::packed(&image, ALL_KNOWN, &changed, NO_LIMIT);
         if answer.refusal == 0 && answer.transactions > 0 {
             return (image, changed);
         }
@@ -62,7 +62,7 @@ fn one_changed(random: &mut Random) -> (Image, Numbers) {
 /// Bus bytes of each way for one case; the least plan is the archive's.
 fn bytes(image: &Image, settings: &Numbers) -> [u32; WAYS] {
     let board = Board::known(*image);
-    let planned = adv7194::plan_numbers(&board, settings, ADDRESS, &mut [0; ROOM]);
+    let planned = adv7194::plan_numbers(&board, settings, ADDRESS, NO_LIMIT, &mut [0; ROOM]);
     let least = planned.expect("an accepted case").bus_bytes;
     let needed = least::differing(image, &cases::settled(image, settings));
     let word = needed & WORD_MAP != 0;

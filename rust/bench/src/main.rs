@@ -54,12 +54,17 @@ fn main() -> ExitCode {
     let mut random = Random::new(seed);
     let (size, count) = (blocks::CASES, BLOCKS);
     println!("median of {rounds} rounds over {count} blocks of {size} cases, sides in turn");
-    for (name, spoilt, flags) in [
-        ("all accepted", None, false),
-        ("a quarter spoilt", Some(SPOILT), false),
-        ("known in part", None, true),
+    for (name, spoilt, flags, limits) in [
+        ("all accepted", None, false, false),
+        ("a quarter spoilt", Some(SPOILT), false, false),
+        ("known in part", None, true, false),
+        ("limits 4 to 54", None, false, true),
     ] {
-        let mixture = Mixture { spoilt, flags };
+        let mixture = Mixture {
+            spoilt,
+            flags,
+            limits,
+        };
         let block = |_| Block::new(&mut random, mixture);
         let blocks: Vec<Block> = (0..BLOCKS).map(block).collect();
         family(name, &blocks, rounds);

@@ -10,9 +10,10 @@ pub fn proved_plan(
     known: u64,
     settings: &[i32],
     address: u32,
+    limit: u32,
     plan: &mut [u8],
 ) -> u64 {
-    let answer = ffi::plan(image, known, settings, address, plan);
+    let answer = ffi::plan(image, known, settings, address, limit, plan);
     let counts = answer.length + answer.transactions + answer.bus_bytes;
     (answer.refusal + answer.field + counts).into()
 }
@@ -24,9 +25,10 @@ pub fn plain_plan(
     known: u64,
     settings: &[i32],
     address: u32,
+    limit: u32,
     plan: &mut [u8],
 ) -> u64 {
-    let answer = plain::plan(image, known, settings, address, plan);
+    let answer = plain::plan(image, known, settings, address, limit, plan);
     let counts = answer.length + answer.transactions + answer.bus_bytes;
     (answer.refusal + answer.field + counts).into()
 }

@@ -11,8 +11,8 @@ use std::time::Instant;
 /// Times one entry over blocks and rounds: nanoseconds a case, proved and plain.
 pub type Timer = fn(&[Block], u64) -> (f64, f64);
 
-/// A planner: an image, its flags, settings, an address and the lent plan.
-type Planner = fn(&[u8], u64, &[i32], u32, &mut [u8]) -> u64;
+/// A planner: an image, its flags, settings, an address, a limit and the lent plan.
+type Planner = fn(&[u8], u64, &[i32], u32, u32, &mut [u8]) -> u64;
 
 /// Planning.
 pub fn plan(blocks: &[Block], rounds: u64) -> (f64, f64) {
@@ -20,7 +20,8 @@ pub fn plan(blocks: &[Block], rounds: u64) -> (f64, f64) {
         let mut plan = [0; ROOM];
         sum(block, |case| {
             let lent = black_box(&mut plan);
-            entry(&case.start, case.known, &case.settings, ADDRESS, lent)
+            let (known, limit) = (case.known, case.limit);
+            entry(&case.start, known, &case.settings, ADDRESS, limit, lent)
         })
     };
     medians(

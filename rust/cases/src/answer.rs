@@ -6,7 +6,7 @@ use crate::{decimal, hex};
 use plain::chip::{Acknowledge, Chip, Phase};
 use plain::fields::SETTINGS;
 use plain::refusal::Refusal;
-use plain::{PlanAnswer, PlayAnswer, ALL_KNOWN};
+use plain::{PlanAnswer, PlayAnswer, ALL_KNOWN, NO_LIMIT};
 
 /// The answer to a line that is no record.
 const NOT_A_RECORD: &str = "NOT A RECORD";
@@ -14,26 +14,33 @@ const NOT_A_RECORD: &str = "NOT A RECORD";
 const MOST_CHARACTERS: usize = 8;
 
 /// The answers to all lines of a text, a line each. All registers are known until
-/// a line says which are.
+/// a line says which are, and there is no limit until a line gives one.
 pub fn answers(text: &str) -> String {
-    let mut flags = Flags(None);
-    let answers = text.lines().map(|line| answer(line, &mut flags) + "\n");
+    let mut given = Given {
+        flags: None,
+        limit: NO_LIMIT,
+    };
+    let answers = text.lines().map(|line| answer(line, &mut given) + "\n");
     answers.collect()
 }
 
-/// The flags of known registers that a line gave, for the records after it.
+/// What lines gave, for the records after them.
 #[derive(Clone, Copy)]
-struct Flags(Option<u64>);
+struct Given {
+    // The flags of known registers.
+    flags: Option<u64>,
+    limit: u32,
+}
 
-impl Flags {
-    /// Them, or all.
+impl Given {
+    /// The flags, or all.
     fn known(self) -> u64 {
-        self.0.unwrap_or(ALL_KNOWN)
+        self.flags.unwrap_or(ALL_KNOWN)
     }
 
     /// The flags after a call, shown where a line gave some.
     fn shown(self, after: u64) -> String {
-        match self.0 {
+        match self.flags {
             Some(_) => format!("known {}", hex(&after.to_be_bytes())),
             None => String::new(),
         }
@@ -41,26 +48,30 @@ impl Flags {
 }
 
 /// The answer to a line; nothing to an empty one or a comment.
-fn answer(line: &str, flags: &mut Flags) -> String {
+fn answer(line: &str, given: &mut Given) -> String {
     if line.is_empty() || line.starts_with('#') {
         return String::new();
     }
-    let answered = Record::of(line).and_then(|record| answer_record(&record, flags));
+    let answered = Record::of(line).and_then(|record| answer_record(&record, given));
     answered.unwrap_or_else(|| NOT_A_RECORD.to_string())
 }
 
 /// The answer to a record, if it is of a kind.
-fn answer_record(record: &Record, flags: &mut Flags) -> Option<String> {
+fn answer_record(record: &Record, given: &mut Given) -> Option<String> {
     let lists = (record.has_first(), record.has_second());
     match (record.word, record.numbers.as_slice(), lists) {
-        ("known", [], (_, false)) => known(record, flags),
-        ("plan", [address, settings @ ..], _) => plan(record, *flags, *address, settings),
+        ("known", [], (_, false)) => known(record, given),
+        ("limit", [limit], (false, false)) => {
+            given.limit = unsigned(*limit);
+            Some(verdict(0, 0))
+        }
+        ("plan", [address, settings @ ..], _) => plan(record, *given, *address, settings),
         ("caption", [address, numbers @ ..], (false, _)) => caption(record, *address, numbers),
-        ("play", [used, own], _) => play(record, plain::play, *flags, *used, *own),
-        ("playcap", [used, own], _) => play(record, plain::play_captions, *flags, *used, *own),
-        ("readcap", [pair], (_, false)) => readcap(record, *flags, *pair),
-        ("read", [], (_, false)) => read(record, *flags),
-        ("events", [own], _) => events(record, *flags, *own),
+        ("play", [used, own], _) => play(record, plain::play, *given, *used, *own),
+        ("playcap", [used, own], _) => play(record, plain::play_captions, *given, *used, *own),
+        ("readcap", [pair], (_, false)) => readcap(record, *given, *pair),
+        ("read", [], (_, false)) => read(record, *given),
+        ("events", [own], _) => events(record, *given, *own),
         ("code", [field, setting], (false, false)) => codings::code(*field, signed(*setting)),
         ("setting", [field], (true, false)) => match record.first()?.as_slice() {
             [code] => codings::setting(*field, *code),
@@ -107,19 +118,20 @@ fn joined(words: &[String]) -> String {
 }
 
 /// The flags for the records after it: eight bytes, the highest first.
-fn known(record: &Record, flags: &mut Flags) -> Option<String> {
+fn known(record: &Record, given: &mut Given) -> Option<String> {
     let bytes = record.first()?.try_into().ok()?;
-    *flags = Flags(Some(u64::from_be_bytes(bytes)));
+    given.flags = Some(u64::from_be_bytes(bytes));
     Some(verdict(0, 0))
 }
 
 /// Planning.
-fn plan(record: &Record, flags: Flags, address: i64, settings: &[i64]) -> Option<String> {
+fn plan(record: &Record, given: Given, address: i64, settings: &[i64]) -> Option<String> {
     let settings: Vec<i32> = settings.iter().map(|&number| signed(number)).collect();
     let mut lent = record.second()?;
     let image = record.first()?;
-    let known = flags.known();
-    let answer = plain::plan(&image, known, &settings, unsigned(address), &mut lent);
+    let (known, limit) = (given.known(), given.limit);
+    let address = unsigned(address);
+    let answer = plain::plan(&image, known, &settings, address, limit, &mut lent);
     Some(planned(answer, &lent))
 }
 
@@ -157,23 +169,23 @@ fn caption(record: &Record, address: i64, numbers: &[i64]) -> Option<String> {
 type Player = fn(&mut [u8], u64, u32, u32, &[u8]) -> PlayAnswer;
 
 /// Playing.
-fn play(record: &Record, player: Player, flags: Flags, used: i64, own: i64) -> Option<String> {
+fn play(record: &Record, player: Player, given: Given, used: i64, own: i64) -> Option<String> {
     let mut image = record.first()?;
     let plan = record.second()?;
     let (used, own) = (unsigned(used), unsigned(own));
-    let answer = player(&mut image, flags.known(), used, own, &plan);
+    let answer = player(&mut image, given.known(), used, own, &plan);
     Some(joined(&[
         verdict(answer.refusal, answer.field),
         answer.acknowledged.to_string(),
         hex(&image),
-        flags.shown(answer.known),
+        given.shown(answer.known),
     ]))
 }
 
 /// Reading.
-fn read(record: &Record, flags: Flags) -> Option<String> {
+fn read(record: &Record, given: Given) -> Option<String> {
     let mut settings = [0; SETTINGS];
-    let answer = plain::read(&record.first()?, flags.known(), &mut settings);
+    let answer = plain::read(&record.first()?, given.known(), &mut settings);
     Some(joined(&[
         verdict(answer.refusal, answer.field),
         decimal(&settings),
@@ -181,8 +193,8 @@ fn read(record: &Record, flags: Flags) -> Option<String> {
 }
 
 /// Reading a pair of captions back.
-fn readcap(record: &Record, flags: Flags, pair: i64) -> Option<String> {
-    let answer = plain::read_captions(&record.first()?, flags.known(), unsigned(pair));
+fn readcap(record: &Record, given: Given, pair: i64) -> Option<String> {
+    let answer = plain::read_captions(&record.first()?, given.known(), unsigned(pair));
     Some(joined(&[
         verdict(answer.refusal, answer.field),
         answer.first.to_string(),
@@ -191,9 +203,9 @@ fn readcap(record: &Record, flags: Flags, pair: i64) -> Option<String> {
 }
 
 /// The chip at its events.
-fn events(record: &Record, flags: Flags, own: i64) -> Option<String> {
+fn events(record: &Record, given: Given, own: i64) -> Option<String> {
     let registers = record.first()?.try_into().ok()?;
-    let mut chip = Chip::fresh(own.try_into().ok()?, registers, flags.known());
+    let mut chip = Chip::fresh(own.try_into().ok()?, registers, given.known());
     let mut words = vec![verdict(0, 0)];
     for event in record.events()? {
         let (byte, acknowledge) = chip.step(event);
@@ -213,6 +225,6 @@ fn events(record: &Record, flags: Flags, own: i64) -> Option<String> {
     };
     words.push(format!("{:02X}{phase}", chip.pointer));
     words.push(hex(&chip.registers));
-    words.push(flags.shown(chip.known));
+    words.push(given.shown(chip.known));
     Some(joined(&words))
 }

@@ -6,7 +6,7 @@ use plain::fields::{self as at, number, SETTINGS};
 use plain::refusal::{self, Refusal};
 use plain::registers::{self as reg, REGISTERS, WORD_BYTES};
 use plain::subcarrier;
-use plain::ALL_KNOWN;
+use plain::{ALL_KNOWN, NO_LIMIT};
 
 /// An even address.
 const ADDRESS: u32 = 0x54;
@@ -65,7 +65,7 @@ fn wanted(settings: &[i32; SETTINGS]) -> Result<[u8; REGISTERS], Refusal> {
     plain::check(settings)?;
     let mut image = [0; REGISTERS];
     let mut plan = [0; ROOM];
-    let planned = plain::plan(&image, ALL_KNOWN, settings, ADDRESS, &mut plan);
+    let planned = plain::plan(&image, ALL_KNOWN, settings, ADDRESS, NO_LIMIT, &mut plan);
     plain::play(
         &mut image,
         ALL_KNOWN,

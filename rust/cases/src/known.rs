@@ -113,7 +113,7 @@ pub fn plans() -> Vec<String> {
 }
 
 /// The flags, and planning settings over an image.
-fn planned(flags: u64, image: &[u8], settings: &[i32], room: usize) -> [String; 2] {
+pub(crate) fn planned(flags: u64, image: &[u8], settings: &[i32], room: usize) -> [String; 2] {
     [known(flags), plan(image, settings, ADDRESS, room)]
 }
 

@@ -17,6 +17,7 @@ mod events;
 mod known;
 mod known_plays;
 mod known_reads;
+mod limits;
 mod plans;
 mod plays;
 mod random;

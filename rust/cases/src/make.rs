@@ -2,7 +2,8 @@
 
 use crate::codings::PLACES;
 use crate::{
-    captions, events, hex, known, known_plays, known_reads, plans, plays, signalling, together,
+    captions, events, hex, known, known_plays, known_reads, limits, plans, plays, signalling,
+    together,
 };
 use plain::registers::REGISTERS;
 
@@ -52,6 +53,7 @@ pub fn files() -> Vec<(&'static str, String)> {
         ("known_plans", text(known::plans())),
         ("known_plays", text(known_plays::plays())),
         ("known_reads", text(known_reads::reads())),
+        ("limits", text(limits::limits())),
         ("plans", text(plans::plans())),
         ("plays", text(plays::plays())),
         ("refused_together", text(together::refused_together())),

@@ -4,7 +4,7 @@ use crate::make::record;
 use crate::{decimal, hex};
 use plain::fields::{self as at, SETTINGS};
 use plain::registers::{self as reg, REGISTERS};
-use plain::ALL_KNOWN;
+use plain::{ALL_KNOWN, NO_LIMIT};
 
 /// The boards' address.
 pub(crate) const ADDRESS: u32 = 0x54;
@@ -53,7 +53,7 @@ pub(crate) fn with(mut settings: [i32; SETTINGS], changed: &[(usize, i32)]) -> [
 pub(crate) fn wanted(settings: &[i32; SETTINGS], found: u8) -> [u8; REGISTERS] {
     let mut image = [found; REGISTERS];
     let mut plan = [0; 64];
-    let planned = plain::plan(&image, ALL_KNOWN, settings, ADDRESS, &mut plan);
+    let planned = plain::plan(&image, ALL_KNOWN, settings, ADDRESS, NO_LIMIT, &mut plan);
     plain::play(
         &mut image,
         ALL_KNOWN,

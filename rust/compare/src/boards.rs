@@ -5,10 +5,11 @@ use crate::captions::{three, with_captions, EXTENDED, ORDINARY};
 use crate::cases::{self, Image, Numbers, ADDRESS, BEFORE, ROOM};
 use crate::comparer::Comparer;
 use crate::flags::{PARTS, PAST};
+use crate::limits;
 use crate::random::Random;
 use plain::fields::{self as at, SETTINGS};
 use plain::registers::{self as reg, CAPTION_BYTES, REGISTERS};
-use plain::ALL_KNOWN;
+use plain::{ALL_KNOWN, NO_LIMIT};
 
 /// Kinds of signalling.
 const KINDS: [i32; 3] = [at::OFF, at::CGMS, at::WSS];
@@ -22,7 +23,7 @@ pub fn all(comparer: &mut Comparer, random: &mut Random) {
     for kind in KINDS {
         let settings = of_kind(random, kind);
         let image = cases::settled(&cases::any_image(random), &settings);
-        every_two(comparer, &image, &settings);
+        every_two(comparer, random, &image, &settings);
         in_part(comparer, random, &settings);
         held(comparer, &image, &settings);
         plays(comparer, random, &image);
@@ -41,15 +42,16 @@ pub(crate) fn of_kind(random: &mut Random, kind: i32) -> Numbers {
 
 /// No, every and every two registers unknown, with and without flags past the last, on a board
 /// that has what is wanted and on one whose every register is wrong.
-fn every_two(comparer: &mut Comparer, image: &Image, settings: &Numbers) {
+fn every_two(comparer: &mut Comparer, random: &mut Random, image: &Image, settings: &Numbers) {
     let wrong = image.map(|byte| !byte);
     for first in 0..REGISTERS {
         for second in first..REGISTERS {
             let unknown = 1 << first | 1 << second;
+            let limit = limits::right(random);
             for past in [0, PAST] {
                 for known in [ALL_KNOWN & !unknown | past, unknown | past] {
-                    comparer.plan(image, known, settings, ADDRESS, &[BEFORE; ROOM]);
-                    comparer.plan(&wrong, known, settings, ADDRESS, &[BEFORE; ROOM]);
+                    comparer.plan(image, known, settings, ADDRESS, limit, &[BEFORE; ROOM]);
+                    comparer.plan(&wrong, known, settings, ADDRESS, limit, &[BEFORE; ROOM]);
                     comparer.read(image, known, &[BEFORE as i32; SETTINGS]);
                 }
             }
@@ -66,13 +68,14 @@ fn in_part(comparer: &mut Comparer, random: &mut Random, settings: &Numbers) {
     loop {
         let image = cases::near_image(random, settings, 2);
         let known = ALL_KNOWN & !set;
+        let limit = limits::any(random);
         for room in ROOMS {
             let room = &[BEFORE; ROOM][..room];
-            comparer.plan(&image, known, settings, ADDRESS, room);
-            comparer.plan(&image, known, &spoilt, ADDRESS, room);
-            comparer.plan(&image, known, settings, ADDRESS + 1, room);
-            comparer.plan(&image[1..], known, settings, ADDRESS, room);
-            comparer.plan(&image, known, &settings[1..], ADDRESS, room);
+            comparer.plan(&image, known, settings, ADDRESS, limit, room);
+            comparer.plan(&image, known, &spoilt, ADDRESS, limit, room);
+            comparer.plan(&image, known, settings, ADDRESS + 1, limit, room);
+            comparer.plan(&image[1..], known, settings, ADDRESS, limit, room);
+            comparer.plan(&image, known, &settings[1..], ADDRESS, limit, room);
         }
         if set == 0 {
             break;
@@ -88,7 +91,7 @@ fn held(comparer: &mut Comparer, image: &Image, settings: &Numbers) {
             let mut image = *image;
             image[register] = byte;
             let known = ALL_KNOWN & !(1 << register);
-            comparer.plan(&image, known, settings, ADDRESS, &[BEFORE; ROOM]);
+            comparer.plan(&image, known, settings, ADDRESS, NO_LIMIT, &[BEFORE; ROOM]);
             comparer.read(&image, known, &[BEFORE as i32; SETTINGS]);
             comparer.read(&image[1..], known, &[BEFORE as i32; SETTINGS]);
             comparer.read(&image, known, &[BEFORE as i32; SETTINGS - 1]);
@@ -105,7 +108,7 @@ fn held(comparer: &mut Comparer, image: &Image, settings: &Numbers) {
 /// Plans played with each flag alone, and with all but it.
 fn plays(comparer: &mut Comparer, random: &mut Random, image: &Image) {
     let settings = cases::accepted(random);
-    let (planned, bytes) = cases::packed(image, ALL_KNOWN, &settings);
+    let (planned, bytes) = cases::packed(image, ALL_KNOWN, &settings, limits::right(random));
     let plan = &bytes[..planned.length as usize];
     for place in 0..u64::BITS {
         for known in [1 << place, !(1 << place)] {

@@ -3,7 +3,7 @@
 use crate::random::Random;
 use plain::fields::{self as at, SETTINGS};
 use plain::registers::{CURVE_BYTES, REGISTERS};
-use plain::{signal, PlanAnswer, ALL_KNOWN};
+use plain::{signal, PlanAnswer, ALL_KNOWN, NO_LIMIT};
 
 /// Settings as numbers.
 pub type Numbers = [i32; SETTINGS];
@@ -157,7 +157,7 @@ pub fn any_image(random: &mut Random) -> Image {
 
 /// The image that a chip holds after the settings are planned over `image` and played.
 pub fn settled(image: &Image, settings: &Numbers) -> Image {
-    let (planned, bytes) = packed(image, ALL_KNOWN, settings);
+    let (planned, bytes) = packed(image, ALL_KNOWN, settings, NO_LIMIT);
     let mut after = *image;
     let plan = &bytes[..planned.length as usize];
     plain::play(&mut after, ALL_KNOWN, ADDRESS, ADDRESS, plan);
@@ -165,9 +165,14 @@ pub fn settled(image: &Image, settings: &Numbers) -> Image {
 }
 
 /// The plain implementation's packed plan over a board, with its answer.
-pub fn packed(image: &Image, known: u64, settings: &Numbers) -> (PlanAnswer, [u8; ROOM]) {
+pub fn packed(
+    image: &Image,
+    known: u64,
+    settings: &Numbers,
+    limit: u32,
+) -> (PlanAnswer, [u8; ROOM]) {
     let mut bytes = [BEFORE; ROOM];
-    let planned = plain::plan(image, known, settings, ADDRESS, &mut bytes);
+    let planned = plain::plan(image, known, settings, ADDRESS, limit, &mut bytes);
     (planned, bytes)
 }
 

@@ -63,6 +63,7 @@ impl Comparer {
         known: u64,
         settings: &[i32],
         address: u32,
+        limit: u32,
         plan: &[u8],
     ) -> (PlanAnswer, Lent<u8>) {
         let given = (
@@ -71,12 +72,20 @@ impl Comparer {
         );
         let before = Lent::new(plan, GUARD_BYTE);
         let (mut one, mut other, mut lent) = (before, before, given);
-        let answer = plain::plan(image, known, settings, address, one.lend());
-        let proved = ffi::plan(lent.0.lend(), known, lent.1.lend(), address, other.lend());
+        let answer = plain::plan(image, known, settings, address, limit, one.lend());
+        let (image_lent, settings_lent) = (lent.0.lend(), lent.1.lend());
+        let proved = ffi::plan(
+            image_lent,
+            known,
+            settings_lent,
+            address,
+            limit,
+            other.lend(),
+        );
         let show = |what: &str| {
-            let room = plan.len();
-            let given = format!("{image:02X?} known {known:X} {settings:?} {address} room {room}");
-            format!("plan, {what}: {answer:?} {proved:?} for {given}")
+            let board = format!("{image:02X?} known {known:X}");
+            let given = format!("{settings:?} {address} limit {limit} room {}", plan.len());
+            format!("plan, {what}: {answer:?} {proved:?} for {board} {given}")
         };
         self.expect(lent == given, || show("given memory"));
         self.planned(Entry::Plan, (answer, proved), (&before, &one, &other), show);

@@ -13,6 +13,7 @@ pub mod comparer;
 pub mod damage;
 pub mod flags;
 pub mod lent;
+pub mod limits;
 pub mod pairs;
 pub mod random;
 pub mod round;

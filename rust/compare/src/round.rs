@@ -7,7 +7,8 @@ use crate::random::Random;
 use crate::sending;
 use plain::fields::{number, SETTINGS};
 use plain::registers::REGISTERS;
-use plain::{least, refusal, search};
+use plain::search::{Cost, Window};
+use plain::{least, order, refusal};
 
 /// One in so many plans is compared with the search over the whole chip.
 const SEARCHED: u64 = 16;
@@ -22,6 +23,8 @@ pub struct Made<'a> {
     pub known: u64,
     /// The settings.
     pub settings: &'a Numbers,
+    /// The limit.
+    pub limit: u32,
     /// The packed plan.
     pub plan: &'a [u8],
     /// Bus bytes and transactions.
@@ -43,7 +46,7 @@ pub fn round(comparer: &mut Comparer, random: &mut Random, made: &Made) {
     if random.once_in(SEARCHED) {
         searched(comparer, made, &after);
     }
-    again(comparer, &after);
+    again(comparer, &after, made.limit);
 }
 
 /// Plays the plan, and sends it transaction by transaction.
@@ -72,7 +75,8 @@ fn whatever_is_unknown(comparer: &mut Comparer, random: &mut Random, made: &Made
         image[register] = random.byte();
     }
     let room = [BEFORE; ROOM];
-    let (answer, lent) = comparer.plan(&image, made.known, made.settings, ADDRESS, &room);
+    let (known, limit) = (made.known, made.limit);
+    let (answer, lent) = comparer.plan(&image, known, made.settings, ADDRESS, limit, &room);
     let cost = (answer.bus_bytes, answer.transactions);
     let same = cost == made.cost && lent.get().starts_with(made.plan);
     comparer.expect(same && answer.length as usize == made.plan.len(), || {
@@ -81,22 +85,28 @@ fn whatever_is_unknown(comparer: &mut Comparer, random: &mut Random, made: &Made
     });
 }
 
-/// Compares what the plan costs with the search. Of the unknown registers those are needed that
-/// are known after it, and only they may be touched.
+/// Compares the plan with the search: what it costs, and which of the lists that cost that it is.
+/// Of the unknown registers those are needed that are known after it, and only they may be touched.
 fn searched(comparer: &mut Comparer, made: &Made, after: &After) {
     let changed = least::differing(made.image, &after.image) & made.known;
     let needed = changed | after.known & !made.known;
-    let spans = search::spans(0, REGISTERS - 1, made.known | needed);
-    let found = search::least(needed, &spans).map(|least| (least.bytes, least.transactions));
-    comparer.expect(found == Some(made.cost), || {
-        let (known, cost) = (made.known, made.cost);
-        format!("not least: {needed:X} known {known:X} {cost:?} {found:?}")
+    let spans = Window::chip(made.known | needed, made.limit).spans();
+    let first = order::first_of_least(needed, &spans);
+    let (bytes, transactions) = made.cost;
+    let cost = Cost {
+        bytes,
+        transactions,
+    };
+    let planned = Some((cost, sending::listed(made.plan)));
+    comparer.expect(first == planned, || {
+        let (known, limit) = (made.known, made.limit);
+        format!("not first: {needed:X} known {known:X} limit {limit} {planned:?} {first:?}")
     });
 }
 
-/// Reads the board, and plans what was read: nothing is to do. Only under off can a field's
+/// Reads the board, and plans what was read with the same limit: nothing is to do. Only under off can a field's
 /// register be left unknown.
-fn again(comparer: &mut Comparer, after: &After) {
+fn again(comparer: &mut Comparer, after: &After, limit: u32) {
     let image = &after.image;
     let (read, numbers) = comparer.read(image, after.known, &[NUMBER_BEFORE; SETTINGS]);
     let expected = if after.known & FIELDS == FIELDS {
@@ -110,7 +120,8 @@ fn again(comparer: &mut Comparer, after: &After) {
     if read.refusal != 0 {
         return;
     }
-    let (again, plan) = comparer.plan(image, after.known, numbers.get(), ADDRESS, &[BEFORE; 2]);
+    let room = [BEFORE; 2];
+    let (again, plan) = comparer.plan(image, after.known, numbers.get(), ADDRESS, limit, &room);
     let nothing = (
         again.refusal,
         again.length,

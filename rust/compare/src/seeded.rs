@@ -4,6 +4,7 @@ use crate::cases::{self, Numbers, BEFORE, ROOM};
 use crate::comparer::Comparer;
 use crate::damage;
 use crate::flags;
+use crate::limits;
 use crate::pairs;
 use crate::random::Random;
 use crate::round::{round, Made};
@@ -18,8 +19,8 @@ const SELDOM: u64 = 24;
 const FLIPPED: i32 = 6;
 /// The longest image or settings tried.
 const LONGEST: u64 = 61;
-/// Bytes of the longest packed plan.
-const LONGEST_PLAN: i32 = 44;
+/// Bytes of the longest packed plan, with the least limit.
+const LONGEST_PLAN: i32 = 53;
 /// What lent settings hold before.
 const NUMBER_BEFORE: i32 = -77;
 
@@ -79,9 +80,10 @@ impl Seeded {
             cases::spoil(&mut self.random, &mut settings);
         }
         let known = flags::planning(&mut self.random);
+        let limit = limits::any(&mut self.random);
         let room = match self.random.below(6) {
             0 => {
-                let length = cases::packed(&image, known, &settings).0.length as usize;
+                let length = cases::packed(&image, known, &settings, limit).0.length as usize;
                 (length + self.random.below(4) as usize).saturating_sub(2)
             }
             _ => self.random.within(LONGEST_PLAN, ROOM as i32) as usize,
@@ -90,7 +92,7 @@ impl Seeded {
         let numbers = resized(&settings, self.length(SETTINGS), 0);
         let address = self.address();
         let room = &[BEFORE; ROOM][..room];
-        let (answer, plan) = comparer.plan(&given, known, &numbers, address, room);
+        let (answer, plan) = comparer.plan(&given, known, &numbers, address, limit, room);
         if answer.refusal != 0 {
             return false;
         }
@@ -98,6 +100,7 @@ impl Seeded {
             image: &image,
             known,
             settings: &settings,
+            limit,
             plan: &plan.get()[..answer.length as usize],
             cost: (answer.bus_bytes, answer.transactions),
         };
@@ -113,7 +116,8 @@ impl Seeded {
         } else {
             let settings = cases::accepted(&mut self.random);
             let start = cases::near_image(&mut self.random, &settings, FLIPPED);
-            let (planned, bytes) = cases::packed(&start, ALL_KNOWN, &settings);
+            let limit = limits::right(&mut self.random);
+            let (planned, bytes) = cases::packed(&start, ALL_KNOWN, &settings, limit);
             bytes[..planned.length as usize].to_vec()
         };
         if self.random.once_in(4) {

@@ -8,6 +8,7 @@ use crate::cases::{self, Image, BEFORE};
 use crate::comparer::Comparer;
 use crate::damage::{self, packed};
 use crate::flags;
+use crate::limits;
 use crate::random::Random;
 use crate::seeded::{resized, Seeded};
 use crate::sending;
@@ -113,8 +114,12 @@ impl Seeded {
             0 => damage::foreign(random),
             1 => {
                 let settings = cases::accepted(random);
-                let (answer, bytes) =
-                    cases::packed(&cases::any_image(random), ALL_KNOWN, &settings);
+                let (answer, bytes) = cases::packed(
+                    &cases::any_image(random),
+                    ALL_KNOWN,
+                    &settings,
+                    limits::right(random),
+                );
                 bytes[..answer.length as usize].to_vec()
             }
             2 => near(random),

@@ -4,6 +4,7 @@ use crate::cases::{Image, BEFORE};
 use crate::comparer::Comparer;
 use crate::random::Random;
 use plain::least::OPENING;
+use plain::order::Spans;
 use plain::MOST_DATA;
 
 /// Room for more data than any transaction has.
@@ -28,6 +29,13 @@ pub fn sent(comparer: &mut Comparer, image: &Image, plan: &[u8]) -> (Image, u32,
         bus_bytes += OPENING + answer.count;
         index += 1;
     }
+}
+
+/// A plan's list, by the plain implementation.
+pub fn listed(plan: &[u8]) -> Spans {
+    let asked = |index| plain::transaction(plan, index, &mut [0; MOST_DATA]);
+    let list = (0..).map(asked).take_while(|one| one.refusal == 0);
+    list.map(|one| (one.subaddress, one.count)).collect()
 }
 
 /// Asks for one transaction, with any index and about the right room.

@@ -5,6 +5,7 @@ use crate::captions;
 use crate::cases::{self, Image, Numbers, ADDRESS, BEFORE, ROOM};
 use crate::comparer::Comparer;
 use crate::flags::{self, PARTS};
+use crate::limits;
 use crate::pairs;
 use crate::random::Random;
 use crate::seeded::resized;
@@ -12,7 +13,7 @@ use crate::sending;
 use plain::fields::{self as at, SETTINGS};
 use plain::registers::{self as reg, REGISTERS};
 use plain::signal::LAST_PAYLOAD;
-use plain::ALL_KNOWN;
+use plain::{ALL_KNOWN, NO_LIMIT};
 
 /// The longest image or settings tried.
 const LONGEST: usize = 60;
@@ -56,6 +57,7 @@ pub fn all(comparer: &mut Comparer, seed: u64) {
     pairs::all(comparer, &mut random);
     captions::all(comparer, &mut random);
     boards::all(comparer, &mut random);
+    limits::all(comparer, &mut random);
 }
 
 /// A sound case: an image, settings and the image they make.
@@ -79,12 +81,15 @@ fn lengths(comparer: &mut Comparer, random: &mut Random) {
         let fewer = resized(&settings, length, 0);
         for address in [ADDRESS, ADDRESS + 1] {
             for numbers in [&settings, &wrong] {
-                comparer.plan(&given, known, numbers, address, &[BEFORE; ROOM]);
-                comparer.plan(&given, known, numbers, address, &[]);
+                for limit in [NO_LIMIT, NO_LIMIT + 1] {
+                    comparer.plan(&given, known, numbers, address, limit, &[BEFORE; ROOM]);
+                    comparer.plan(&given, known, numbers, address, limit, &[]);
+                }
             }
-            comparer.plan(&given, known, &fewer, address, &[BEFORE; ROOM]);
-            comparer.plan(&image, known, &fewer, address, &[BEFORE; ROOM]);
-            comparer.plan(&image, known, &fewer, address, &[]);
+            let limit = limits::any(random);
+            comparer.plan(&given, known, &fewer, address, limit, &[BEFORE; ROOM]);
+            comparer.plan(&image, known, &fewer, address, limit, &[BEFORE; ROOM]);
+            comparer.plan(&image, known, &fewer, address, limit, &[]);
             comparer.play(&given, known, address, ADDRESS, &[0x00]);
             comparer.play(&given, known, ADDRESS, address, &[0x01]);
         }
@@ -106,11 +111,12 @@ pub(crate) fn every_address() -> impl Iterator<Item = u32> {
 /// Many addresses, for each place of one.
 fn addresses(comparer: &mut Comparer, random: &mut Random) {
     let (image, settings, _) = sound(random);
-    let (planned, bytes) = cases::packed(&image, ALL_KNOWN, &settings);
+    let (planned, bytes) = cases::packed(&image, ALL_KNOWN, &settings, NO_LIMIT);
     let plan = &bytes[..planned.length as usize];
     for address in every_address() {
         let known = flags::planning(random);
-        comparer.plan(&image, known, &settings, address, &[BEFORE; ROOM]);
+        let limit = limits::any(random);
+        comparer.plan(&image, known, &settings, address, limit, &[BEFORE; ROOM]);
         for bytes in [plan, &[0x00], &[0x01], &[]] {
             comparer.play(&image, known, address, ADDRESS, bytes);
             comparer.play(&image, known, ADDRESS, address, bytes);
@@ -124,11 +130,13 @@ fn plans(comparer: &mut Comparer, random: &mut Random) {
     let settings = cases::accepted(random);
     let image = cases::near_image(random, &settings, FLIPPED);
     let known = flags::planning(random) | PARTS;
-    let (planned, bytes) = cases::packed(&image, known, &settings);
+    let limit = limits::right(random);
+    let (planned, bytes) = cases::packed(&image, known, &settings, limit);
     let plan = &bytes[..planned.length as usize];
     for room in 0..=plan.len() + 3 {
-        comparer.plan(&image, known, &settings, ADDRESS, &bytes[..room]);
-        comparer.plan(&image, known, &settings, ADDRESS, &[BEFORE; ROOM][..room]);
+        let empty = &[BEFORE; ROOM][..room];
+        comparer.plan(&image, known, &settings, ADDRESS, limit, &bytes[..room]);
+        comparer.plan(&image, known, &settings, ADDRESS, limit, empty);
     }
     for length in 0..=plan.len() + 3 {
         for more in [0x00, 0x01, 0xFF] {
@@ -200,7 +208,8 @@ fn numbers(comparer: &mut Comparer, random: &mut Random, base: usize) {
             let mut changed = settings;
             changed[place] = value;
             let known = flags::planning(random) | PARTS;
-            comparer.plan(&image, known, &changed, ADDRESS, &[BEFORE; ROOM]);
+            let limit = limits::right(random);
+            comparer.plan(&image, known, &changed, ADDRESS, limit, &[BEFORE; ROOM]);
         }
     }
     for p in -1..=5 {
@@ -208,7 +217,8 @@ fn numbers(comparer: &mut Comparer, random: &mut Random, base: usize) {
             for kind in [at::CURVE_A, at::CURVE_B] {
                 let mut changed = settings;
                 changed[kind..][..at::CURVE_FIRST].copy_from_slice(&[at::RATIO, p, q]);
-                comparer.plan(&image, ALL_KNOWN, &changed, ADDRESS, &[BEFORE; ROOM]);
+                let limit = limits::right(random);
+                comparer.plan(&image, ALL_KNOWN, &changed, ADDRESS, limit, &[BEFORE; ROOM]);
             }
         }
     }
@@ -254,7 +264,8 @@ fn signalling_settings(comparer: &mut Comparer, random: &mut Random) {
                     settings[at::SIGNALLING..=at::CHIP_CHECK]
                         .copy_from_slice(&[kind, payload, odd, even, check]);
                     let known = flags::planning(random) | PARTS;
-                    comparer.plan(&image, known, &settings, ADDRESS, &[BEFORE; ROOM]);
+                    let limit = limits::right(random);
+                    comparer.plan(&image, known, &settings, ADDRESS, limit, &[BEFORE; ROOM]);
                 }
             }
         }
@@ -262,7 +273,8 @@ fn signalling_settings(comparer: &mut Comparer, random: &mut Random) {
         for payload in 0..=LAST_PAYLOAD {
             settings[at::SIGNALLING..=at::CHIP_CHECK].copy_from_slice(&[kind, payload, 1, 0, 0]);
             let known = flags::planning(random) | PARTS;
-            comparer.plan(&image, known, &settings, ADDRESS, &[BEFORE; ROOM]);
+            let limit = limits::right(random);
+            comparer.plan(&image, known, &settings, ADDRESS, limit, &[BEFORE; ROOM]);
         }
     }
 }

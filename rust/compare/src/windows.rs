@@ -5,11 +5,16 @@ use crate::cases::{self, Image, Numbers, ADDRESS, BEFORE, ROOM};
 use crate::comparer::Comparer;
 use crate::flags::{FIELDS, PARTS};
 use crate::random::Random;
+use crate::sending;
 use plain::fields as at;
 use plain::least;
+use plain::order::{every_cover, Ranked};
 use plain::registers as reg;
-use plain::search::{self, Cost};
-use plain::ALL_KNOWN;
+use plain::search::{self, Cost, Window};
+use plain::{ALL_KNOWN, NO_LIMIT};
+
+/// Limits that each window is searched with.
+const LIMITS: [u32; 5] = [4, 5, 6, 9, NO_LIMIT];
 
 /// Windows, from one register to another.
 const WINDOWS: [(usize, usize); 11] = [
@@ -36,79 +41,76 @@ const AROUND: [(usize, usize, u64); 6] = [
     (0x19, 0x1E, 1 << 0x1C),
 ];
 
-/// Every set of registers of every window; how many there were.
+/// Every set of registers of every window, with each limit; how many there were.
 pub fn all(comparer: &mut Comparer, seed: u64) -> u64 {
     let mut random = Random::new(seed);
     let known = WINDOWS.map(|(first, last)| (first, last, 0));
-    let windows = known.into_iter().chain(AROUND);
-    windows
-        .map(|(first, last, unknown)| {
-            // With CGMS every bit of the three registers is set.
-            let settings = of_kind(&mut random, at::CGMS);
-            let image = cases::settled(&cases::any_image(&mut random), &settings);
-            let open = ALL_KNOWN & !unknown;
-            let costs = search::every_cover(first, last, open);
-            if search::spans(first, last, open).len() <= search::MOST_SPANS {
-                every_list(comparer, (first, last, open), &costs);
+    let mut sets = 0;
+    for (first, last, unknown) in known.into_iter().chain(AROUND) {
+        // With CGMS every bit of the three registers is set.
+        let settings = of_kind(&mut random, at::CGMS);
+        let image = cases::settled(&cases::any_image(&mut random), &settings);
+        for limit in LIMITS {
+            let window = Window {
+                first,
+                last,
+                open: ALL_KNOWN & !unknown,
+                limit,
+            };
+            if limit == NO_LIMIT && window.spans().len() <= search::MOST_SPANS {
+                every_list(comparer, window);
             }
-            every_set(
-                comparer,
-                &mut random,
-                (first, open),
-                &costs,
-                (&settings, &image),
-            );
-            costs.len() as u64
-        })
-        .sum()
+            sets += every_set(comparer, &mut random, window, (&settings, &image));
+        }
+    }
+    sets
 }
 
-/// Every set of registers of a window from `first` on: what plain Rust's and the archive's plan cost.
+/// Every set of registers of a window: plain Rust's and the archive's list are the one that
+/// ranks first. How many there were.
 fn every_set(
     comparer: &mut Comparer,
     random: &mut Random,
-    (first, open): (usize, u64),
-    costs: &[Option<Cost>],
-    (settings, image): (&Numbers, &Image),
-) {
-    for (set, cost) in costs.iter().enumerate() {
-        let needed = (set as u64) << first;
-        let Some(cost) = *cost else { continue };
-        let planned = of_map(least::written(needed, open));
-        comparer.expect(planned == cost, || {
-            format!("plain, not least: {needed:X} of {open:X} {planned:?} {cost:?}")
+    window: Window,
+    case: (&Numbers, &Image),
+) -> u64 {
+    let mut sets = 0;
+    for (set, ranked) in every_cover(window).into_iter().enumerate() {
+        sets += 1;
+        let needed = (set as u64) << window.first;
+        let Some(ranked) = ranked else { continue };
+        let list = least::list(needed, window.open, window.limit);
+        let cost = of_counts(list.transactions(), list.data());
+        let planned: Ranked = (cost, list.spans().collect());
+        comparer.expect(planned == ranked, || {
+            format!("plain, not first: {needed:X} in {window:X?} {planned:?} {ranked:?}")
         });
         if needed & !FIELDS == 0 {
             // Needed where it is wrong, or where it is unknown and fixed in whole.
             let unknown = needed & !PARTS & random.bits();
-            archive(comparer, (settings, image), needed, open & !unknown, cost);
+            let known = window.open & !unknown;
+            archive(comparer, case, (needed, known, window.limit), ranked);
         }
     }
+    sets
 }
 
-/// Tries every list of a small window: costs are the same, and the least list
-/// is the only one, and the planner's.
-fn every_list(
-    comparer: &mut Comparer,
-    (first, last, open): (usize, usize, u64),
-    costs: &[Option<Cost>],
-) {
-    let lists = search::every_list(first, last, open);
+/// Tries every list of a small window without a limit: the least list is the only one, and the
+/// planner's.
+fn every_list(comparer: &mut Comparer, window: Window) {
+    let lists = search::every_list(window);
     for (set, least) in lists.into_iter().enumerate() {
-        let needed = (set as u64) << first;
-        let touched = least::written(needed, open);
-        let only = least.is_none_or(|least| least.lists == 1 && least.touched == touched);
-        let same = costs[set] == least.map(|least| least.cost);
-        comparer.expect(only && same, || format!("lists for {needed:X}: {least:?}"));
+        let needed = (set as u64) << window.first;
+        let written = least::list(needed, window.open, window.limit).written;
+        let only = least.is_none_or(|least| least.lists == 1 && least.touched == written);
+        comparer.expect(only, || format!("lists for {needed:X}: {least:?}"));
     }
 }
 
-/// What a map costs.
-fn of_map(map: u64) -> Cost {
-    let transactions = least::runs(map);
-    let bytes = least::bus_bytes(transactions, map.count_ones());
+/// What so many transactions and data cost.
+fn of_counts(transactions: u32, data: u32) -> Cost {
     Cost {
-        bytes,
+        bytes: least::bus_bytes(transactions, data),
         transactions,
     }
 }
@@ -122,13 +124,13 @@ fn field_bit(register: usize) -> u8 {
     }
 }
 
-/// Plans with exactly these registers needed, and compares the cost.
+/// Plans with exactly these registers needed, with these known and a limit, and compares cost
+/// and list.
 fn archive(
     comparer: &mut Comparer,
     (settings, image): (&Numbers, &Image),
-    needed: u64,
-    known: u64,
-    cost: Cost,
+    (needed, known, limit): (u64, u64, u32),
+    ranked: Ranked,
 ) {
     let mut start = *image;
     for (register, byte) in start.iter_mut().enumerate() {
@@ -136,13 +138,15 @@ fn archive(
             *byte ^= field_bit(register);
         }
     }
-    let (answer, _) = comparer.plan(&start, known, settings, ADDRESS, &[BEFORE; ROOM]);
-    let planned = Cost {
+    let room = [BEFORE; ROOM];
+    let (answer, lent) = comparer.plan(&start, known, settings, ADDRESS, limit, &room);
+    let cost = Cost {
         bytes: answer.bus_bytes,
         transactions: answer.transactions,
     };
-    let sound = answer.refusal == 0 && planned == cost;
+    let planned = (cost, sending::listed(&lent.get()[..answer.length as usize]));
+    let sound = answer.refusal == 0 && planned == ranked;
     comparer.expect(sound, || {
-        format!("archive, not least: {needed:X} known {known:X} {planned:?} {cost:?}")
+        format!("archive, not first: {needed:X} known {known:X} limit {limit} {planned:?}")
     });
 }

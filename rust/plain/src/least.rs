@@ -1,5 +1,6 @@
-//! The least plan as a map of registers: one bit a register, one run a transaction.
+//! The least plan as maps of registers: one bit a register.
 
+use crate::cut;
 use crate::pack::BYTE_BITS;
 use crate::registers::{BARRED_MAP, REGISTERS, WORD_MAP};
 
@@ -40,17 +41,86 @@ fn nonzero_bytes(chunk: u64) -> u64 {
     (top_bits >> (BYTE_BITS - 1)).wrapping_mul(GATHER) >> (u64::BITS - BYTE_BITS)
 }
 
-/// The registers that the least plan writes for these needed ones, where only
-/// `open` ones may be written. The word is whole. A gap of one is a byte cheaper
-/// bridged, a gap of two as cheap with a transaction less; wider ones are dearer.
+/// A list of ascending transactions: the registers it writes, and those of them
+/// that are the last of a transaction.
+#[derive(Clone, Copy, Debug, PartialEq, Eq)]
+pub struct List {
+    /// Every register that is written.
+    pub written: u64,
+    /// The last register of each transaction.
+    pub lasts: u64,
+}
+
+impl List {
+    /// The list whose transactions are the runs of a map.
+    #[inline]
+    fn of_runs(written: u64) -> List {
+        let lasts = written & !(written >> 1);
+        List { written, lasts }
+    }
+
+    /// Its transactions.
+    #[inline]
+    pub fn transactions(self) -> u32 {
+        self.lasts.count_ones()
+    }
+
+    /// Its data bytes.
+    #[inline]
+    pub fn data(self) -> u32 {
+        self.written.count_ones()
+    }
+
+    /// Its transactions in order: the first register of each, and its data bytes.
+    #[inline]
+    pub fn spans(self) -> impl Iterator<Item = (u32, u32)> {
+        let mut rest = self.written;
+        std::iter::from_fn(move || {
+            if rest == 0 {
+                return None;
+            }
+            let start = rest.trailing_zeros();
+            let count = (self.lasts >> start).trailing_zeros() + 1;
+            rest &= u64::MAX << (start + count);
+            Some((start, count))
+        })
+    }
+}
+
+/// The least list for these needed registers, where only `open` ones may be
+/// written and no transaction has more data than `limit`, 4 or more.
 #[inline]
-pub fn written(needed: u64, open: u64) -> u64 {
+pub fn list(needed: u64, open: u64, limit: u32) -> List {
+    let needed = whole(needed);
+    let written = joined(needed, open);
+    let list = List::of_runs(written);
+    let long = cut::longer(written, limit);
+    if long == 0 {
+        return list;
+    }
+    cut::cut(list, needed, long, limit)
+}
+
+/// The needed registers with the whole word where one of its registers is.
+#[inline]
+fn whole(needed: u64) -> u64 {
     let touches = needed & WORD_MAP != 0;
-    let map = if touches { needed | WORD_MAP } else { needed };
+    if touches {
+        needed | WORD_MAP
+    } else {
+        needed
+    }
+}
+
+/// The needed registers and the bridges between them. A gap of one is a byte
+/// cheaper bridged, a gap of two as cheap with a transaction less; wider ones are
+/// dearer.
+#[inline]
+fn joined(needed: u64, open: u64) -> u64 {
     let free = open & !BARRED_MAP;
-    let single = map << 1 & map >> 1 & free;
-    let pair = map << 1 & map >> 2 & free & free >> 1;
-    map | single | pair | pair << 1
+    let single = needed << 1 & needed >> 1 & free;
+    let pair = needed << 1 & needed >> 2 & free & free >> 1;
+    needed | single | pair | pair << 1
 }
 
 /// How many runs a map has.

@@ -1,5 +1,6 @@
 //! Packing: fields most significant bit first, no gaps.
 
+use crate::least::List;
 use crate::registers::REGISTERS;
 
 /// Bits of the transaction count, of a subaddress and of a data count.
@@ -74,23 +75,19 @@ pub(crate) fn shift(to: &mut [u8], from: &[u8], pending: &mut u64, held: u32) {
     }
 }
 
-/// Packs the runs of `map` with the bytes of `image` into the whole of `plan`.
+/// Packs a list with the bytes of `image` into the whole of `plan`.
 #[inline]
-pub(crate) fn pack(plan: &mut [u8], transactions: u32, map: u64, image: &[u8; REGISTERS]) {
+pub(crate) fn pack(plan: &mut [u8], list: List, image: &[u8; REGISTERS]) {
     let mut packer = Packer {
         plan,
         full: 0,
         pending: 0,
         held: 0,
     };
-    packer.put(transactions, HEAD_BITS);
-    let mut rest = map;
-    while rest != 0 {
-        let start = rest.trailing_zeros();
-        let count = (rest >> start).trailing_ones();
+    packer.put(list.transactions(), HEAD_BITS);
+    for (start, count) in list.spans() {
         packer.put(start << HEAD_BITS | count, 2 * HEAD_BITS);
         packer.put_data(&image[start as usize..][..count as usize]);
-        rest &= rest + (1 << start);
     }
     packer.finish();
 }

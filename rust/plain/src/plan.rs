@@ -5,7 +5,7 @@ use crate::check::{check_fields, numbers_of};
 use crate::fixed::{check_parts, unknown_and_whole};
 use crate::least;
 use crate::pack;
-use crate::refusal::{self, check_address, Refusal};
+use crate::refusal::{self, check_address, check_limit, Refusal};
 use crate::wanted::wanted;
 
 /// What planning answers. After a refusal all but the first two are 0.
@@ -34,17 +34,19 @@ impl PlanAnswer {
     }
 }
 
-/// Packs into `plan` the least list of transactions that brings a chip holding
-/// `image` in its `known` registers to the settings. Checks 1, 2, the fields in
-/// order, 11 for registers fixed only in part, then 10.
+/// Packs into `plan` the least list of transactions, of at most `limit` data
+/// bytes each, that brings a chip holding `image` in its `known` registers to the
+/// settings. Checks 1, 2, the limit, the fields in order, 11 for registers fixed
+/// only in part, then 10.
 pub fn plan(
     image: &[u8],
     known: u64,
     settings: &[i32],
     address: u32,
+    limit: u32,
     plan: &mut [u8],
 ) -> PlanAnswer {
-    planned(image, known, settings, address, plan).unwrap_or_else(PlanAnswer::refused)
+    planned(image, known, settings, address, limit, plan).unwrap_or_else(PlanAnswer::refused)
 }
 
 /// Planning, with its refusal as an error.
@@ -54,24 +56,25 @@ fn planned(
     known: u64,
     settings: &[i32],
     address: u32,
+    limit: u32,
     plan: &mut [u8],
 ) -> Result<PlanAnswer, Refusal> {
     let board = Board::of(image, known)?;
     check_address(address)?;
+    check_limit(limit)?;
     let numbers = numbers_of(settings)?;
     check_fields(numbers)?;
     check_parts(board, numbers)?;
     let wanted = wanted(board.registers, numbers);
     let changed = least::differing(board.registers, &wanted) & known;
     let needed = changed | unknown_and_whole(known, numbers);
-    let map = least::written(needed, needed | known);
-    let transactions = least::runs(map);
-    let data = map.count_ones();
+    let list = least::list(needed, needed | known, limit);
+    let (transactions, data) = (list.transactions(), list.data());
     let length = pack::length(transactions, data);
     let room = plan
         .get_mut(..length)
         .ok_or(Refusal::bare(refusal::PLAN_ROOM))?;
-    pack::pack(room, transactions, map, &wanted);
+    pack::pack(room, list, &wanted);
     Ok(PlanAnswer {
         refusal: 0,
         field: 0,

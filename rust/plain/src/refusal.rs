@@ -1,13 +1,15 @@
 //! Refusals: a number of the table and the field at fault.
 
+use crate::cut::LEAST_LIMIT;
 use crate::fields::number;
+use crate::registers::REGISTERS;
 
 /// An image isn't 54 bytes.
 pub const IMAGE_LENGTH: u32 = 1;
 /// A bus address is odd or above 254.
 pub const ADDRESS: u32 = 2;
-/// A number is outside its range, there is no such transaction, or no pair of
-/// captions.
+/// A number or the limit is outside its range, there is no such transaction, or no
+/// pair of captions.
 pub const RANGE: u32 = 3;
 /// A code is reserved, a must-be-zero bit is set, or WSS or a caption byte
 /// breaks its odd count.
@@ -30,6 +32,8 @@ pub const REGISTER_UNKNOWN: u32 = 11;
 
 /// The highest bus address.
 const LAST_ADDRESS: u32 = 254;
+/// The highest limit on a transaction's data, which is none.
+pub const NO_LIMIT: u32 = REGISTERS as u32;
 
 /// Why something is refused.
 #[derive(Clone, Copy, Debug, PartialEq, Eq)]
@@ -65,4 +69,11 @@ pub(crate) fn demand(holds: bool, refusal: u32, field: u32) -> Result<(), Refusa
 pub(crate) fn check_address(address: u32) -> Result<(), Refusal> {
     let even = address & 1 == 0;
     demand(even && address <= LAST_ADDRESS, ADDRESS, number::NONE)
+}
+
+/// Refuses a limit on a transaction's data outside 4 to 54.
+#[inline(always)]
+pub(crate) fn check_limit(limit: u32) -> Result<(), Refusal> {
+    let right = (LEAST_LIMIT..=NO_LIMIT).contains(&limit);
+    demand(right, RANGE, number::NONE)
 }

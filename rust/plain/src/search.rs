@@ -1,4 +1,4 @@
-//! Least lists by exhausting them, apart from the planner.
+//! What lists cost at least, by exhausting them, apart from the planner.
 //!
 //! A list's cost doesn't hang on its order or its bytes, only on the registers
 //! its transactions touch: so a list is a choice of spans that keep the rules.
@@ -19,6 +19,20 @@ const BEFORE_DATA: u32 = 2;
 /// The most spans whose every choice is tried.
 pub const MOST_SPANS: usize = 21;
 
+/// Registers from `first` to `last`, of which transactions touch only `open`
+/// ones, and at most `limit` of them.
+#[derive(Clone, Copy, Debug)]
+pub struct Window {
+    /// The lowest register.
+    pub first: usize,
+    /// The highest register.
+    pub last: usize,
+    /// A map of the registers that may be touched, where the rules let them.
+    pub open: u64,
+    /// The most data of a transaction.
+    pub limit: u32,
+}
+
 /// The least that a set of registers costs, and how many lists do it.
 #[derive(Clone, Copy, Debug, PartialEq, Eq)]
 pub struct Least {
@@ -38,7 +52,7 @@ impl Cost {
     };
 
     /// This cost and one transaction over `touched` more.
-    fn and(self, touched: u64) -> Cost {
+    pub(crate) fn and(self, touched: u64) -> Cost {
         Cost {
             bytes: self.bytes + BEFORE_DATA + touched.count_ones(),
             transactions: self.transactions + 1,
@@ -46,33 +60,51 @@ impl Cost {
     }
 }
 
-/// Every span of registers from `first` to `last` that one transaction may
-/// touch, where only `open` ones may be, as maps. Registers are judged one by one.
-pub fn spans(first: usize, last: usize, open: u64) -> Vec<u64> {
-    let mut spans = Vec::new();
-    for start in first..=last {
-        for end in start..=last {
-            let touched = span(start, end + 1 - start);
-            let barred = touched & (BARRED_MAP | !open) != 0;
-            let word = touched & WORD_MAP;
-            if !barred && (word == 0 || word == WORD_MAP) {
-                spans.push(touched);
-            }
+impl Window {
+    /// The whole chip.
+    pub fn chip(open: u64, limit: u32) -> Window {
+        Window {
+            first: 0,
+            last: REGISTERS - 1,
+            open,
+            limit,
         }
     }
-    spans
+
+    /// Sets of its registers.
+    pub(crate) fn sets(self) -> usize {
+        1 << (self.last + 1 - self.first)
+    }
+
+    /// Every span of its registers that one transaction may touch, as maps, the
+    /// lowest start first and then the shortest. Registers are judged one by one.
+    pub fn spans(self) -> Vec<u64> {
+        let mut spans = Vec::new();
+        for start in self.first..=self.last {
+            for end in start..=self.last {
+                let touched = span(start, end + 1 - start);
+                let barred = touched & (BARRED_MAP | !self.open) != 0;
+                let word = touched & WORD_MAP;
+                let long = touched.count_ones() > self.limit;
+                if !barred && !long && (word == 0 || word == WORD_MAP) {
+                    spans.push(touched);
+                }
+            }
+        }
+        spans
+    }
 }
 
-/// For every set of registers from `first` to `last` (bit 0 for `first`) the
-/// least cost, by trying every choice of spans of `open` ones. Nothing where no
-/// choice does. The window must have at most `MOST_SPANS` spans.
-pub fn every_list(first: usize, last: usize, open: u64) -> Vec<Option<Least>> {
-    let spans = spans(first, last, open);
+/// For every set of registers of a window (bit 0 for the first) the least cost,
+/// by trying every choice of spans. Nothing where no choice does. The window must
+/// have at most `MOST_SPANS` spans.
+pub fn every_list(window: Window) -> Vec<Option<Least>> {
+    let spans = window.spans();
     assert!(
         spans.len() <= MOST_SPANS,
         "too many spans to try every choice"
     );
-    let sets = 1usize << (last + 1 - first);
+    let sets = window.sets();
     // For each set the least that touches exactly it.
     let mut exact: Vec<Option<Least>> = vec![None; sets];
     for choice in 0..1usize << spans.len() {
@@ -90,7 +122,7 @@ pub fn every_list(first: usize, last: usize, open: u64) -> Vec<Option<Least>> {
             lists,
             touched,
         };
-        lower_or_count(&mut exact[(touched >> first) as usize], one);
+        lower_or_count(&mut exact[(touched >> window.first) as usize], one);
     }
     let least = |needed: usize| {
         let mut kept = None;
@@ -101,55 +133,6 @@ pub fn every_list(first: usize, last: usize, open: u64) -> Vec<Option<Least>> {
         kept
     };
     (0..sets).map(least).collect()
-}
-
-/// The least costs for wider windows: some span must cover the lowest needed register,
-/// so every such span is tried, with the least for what it leaves.
-pub fn every_cover(first: usize, last: usize, open: u64) -> Vec<Option<Cost>> {
-    let spans = spans(first, last, open);
-    let sets = 1usize << (last + 1 - first);
-    let mut least: Vec<Option<Cost>> = vec![None; sets];
-    least[0] = Some(Cost::NONE);
-    for needed in 1..sets {
-        let map = (needed as u64) << first;
-        let lowest = map & map.wrapping_neg();
-        for &touched in spans.iter().filter(|touched| *touched & lowest != 0) {
-            let left = ((map & !touched) >> first) as usize;
-            if let Some(cost) = least[left] {
-                lower(&mut least[needed], cost.and(touched));
-            }
-        }
-    }
-    least
-}
-
-/// The least cost for one set of registers of the whole chip, or nothing where
-/// none does. `spans` are all spans of the chip that may be touched.
-pub fn least(needed: u64, spans: &[u64]) -> Option<Cost> {
-    // best[r] is the least for the needed registers from r up.
-    let mut best = [None; REGISTERS + 1];
-    best[REGISTERS] = Some(Cost::NONE);
-    for register in (0..REGISTERS).rev() {
-        let lowest = 1u64 << register;
-        if needed & lowest == 0 {
-            best[register] = best[register + 1];
-            continue;
-        }
-        for &touched in spans.iter().filter(|touched| *touched & lowest != 0) {
-            let end = (u64::BITS - touched.leading_zeros()) as usize;
-            if let Some(cost) = best[end] {
-                lower(&mut best[register], cost.and(touched));
-            }
-        }
-    }
-    best[0]
-}
-
-/// Keeps the lower cost.
-fn lower(kept: &mut Option<Cost>, cost: Cost) {
-    if kept.is_none_or(|old| cost < old) {
-        *kept = Some(cost);
-    }
 }
 
 /// Keeps the lower cost; adds up the lists where costs are equal.

@@ -3,15 +3,18 @@
 #[path = "common/boards.rs"]
 mod boards;
 mod common;
+#[path = "common/lowest.rs"]
+mod lowest;
 #[path = "common/settings.rs"]
 mod settings;
 
-use boards::{lowest_field, settled, three, with, OWN, PAST, ROOM};
+use boards::{plan, settled, three, with, OWN, PAST, ROOM};
 use common::{packed, write};
+use lowest::lowest_field;
 use plain::chip::Chip;
 use plain::fields::{self as at, SETTINGS};
 use plain::registers::{REGISTERS, WORD_MAP};
-use plain::{plan, play, transaction, ALL_KNOWN, MOST_DATA};
+use plain::{play, transaction, ALL_KNOWN, MOST_DATA, NO_LIMIT};
 use settings::house;
 
 /// Seeded maps of unknown registers.
@@ -28,7 +31,7 @@ fn fixed(s: &[i32; SETTINGS]) -> [u8; REGISTERS] {
 
 /// The refusal and field of planning over a board.
 fn refused(image: &[u8], known: u64, s: &[i32], room: usize) -> (u32, u32) {
-    let answer = plan(image, known, s, OWN, &mut [0; ROOM][..room]);
+    let answer = plan(image, known, s, &mut [0; ROOM][..room]);
     (answer.refusal, answer.field)
 }
 
@@ -41,7 +44,7 @@ fn each_register_unknown() {
         for (register, bits) in fixed(&s).into_iter().enumerate() {
             let known = ALL_KNOWN & !(1 << register);
             let mut bytes = [0; ROOM];
-            let answer = plan(&image, known, &s, OWN, &mut bytes);
+            let answer = plan(&image, known, &s, &mut bytes);
             let map = 1 << register;
             let written = match bits {
                 0x00 => 0,
@@ -97,7 +100,8 @@ fn order_of_the_checks() {
     );
     assert_eq!(refused(&image[1..], 0, &house(), ROOM), (1, 0));
     assert_eq!(refused(&image, 0, &house()[1..], ROOM), (3, 0));
-    assert_eq!(plan(&image, 0, &house(), OWN + 1, &mut []).refusal, 2);
+    let other = plain::plan(&image, 0, &house(), OWN + 1, NO_LIMIT, &mut []);
+    assert_eq!(other.refusal, 2);
     // Flags past the last register are no register's.
     assert_eq!(refused(&image, PAST, &house(), ROOM), (11, 1));
     assert_eq!(refused(&image, PAST | ALL_KNOWN, &house(), 1), (0, 0));
@@ -112,7 +116,7 @@ fn unknown_in_a_gap() {
         wrong
             .iter()
             .for_each(|&(register, bits)| image[register] ^= bits);
-        let answer = plan(&image, ALL_KNOWN & !unknown, s, OWN, &mut [0; ROOM]);
+        let answer = plan(&image, ALL_KNOWN & !unknown, s, &mut [0; ROOM]);
         (answer.refusal, answer.transactions, answer.bus_bytes)
     };
     let ends: [(usize, u8); 2] = [(0x02, 0x08), (0x05, 0x01)];
@@ -202,12 +206,12 @@ fn whatever_the_unknown_registers_hold() {
         let s = three(house())[(bits % 3) as usize];
         let found: [u8; REGISTERS] = std::array::from_fn(|r| (bits >> (r % 57)) as u8);
         let mut first = [0xEE; ROOM];
-        let answer = plan(&found, known, &s, OWN, &mut first);
+        let answer = plan(&found, known, &s, &mut first);
         for other in [0x00, 0x01, 0x80, 0xFF] {
             let unknown = |r: usize| if known >> r & 1 == 1 { 0 } else { other };
             let held = std::array::from_fn(|r| found[r] ^ unknown(r));
             let mut again = [0xEE; ROOM];
-            assert_eq!(plan(&held, known, &s, OWN, &mut again), answer);
+            assert_eq!(plan(&held, known, &s, &mut again), answer);
             assert_eq!(again, first);
             if answer.refusal == 0 {
                 ends_as_wanted(&s, held, known, &first[..answer.length as usize]);

@@ -3,10 +3,13 @@
 
 #[path = "common/boards.rs"]
 mod boards;
+#[path = "common/lowest.rs"]
+mod lowest;
 #[path = "common/settings.rs"]
 mod settings;
 
-use boards::{lowest_field, settled, three, OWN, PAST};
+use boards::{settled, three, OWN, PAST};
+use lowest::lowest_field;
 use plain::chip::{Chip, Event};
 use plain::fields::SETTINGS;
 use plain::registers::REGISTERS;

@@ -1,12 +1,11 @@
-//! Playing against the bus rules event by event, and the exhaustive searches.
+//! Playing against the bus rules, event by event.
 
 mod common;
 
 use common::{packed, write};
 use plain::chip::Chip;
-use plain::registers::{BARRED_MAP, REGISTERS, WORD, WORD_MAP};
-use plain::search::{every_cover, every_list, least, spans, Cost, MOST_SPANS};
-use plain::{least as planner, play, transaction, ALL_KNOWN, MOST_DATA};
+use plain::registers::REGISTERS;
+use plain::{play, transaction, ALL_KNOWN, MOST_DATA};
 
 /// The chip's own address.
 const OWN: u32 = 0x54;
@@ -107,95 +106,4 @@ fn transactions() {
     assert_eq!(asked(&[0x06, 0x00, 0x65, 0xC0, 0x00], 0).0, 9);
     assert_eq!(asked(&[0x06, 0x00, 0x65, 0xC1], 1).0, 9);
     assert_eq!(asked(&[], 0).0, 9);
-}
-
-/// What the planner's map costs.
-fn planned(needed: u64, open: u64) -> Cost {
-    let map = planner::written(needed, open);
-    let transactions = planner::runs(map);
-    Cost {
-        bytes: planner::bus_bytes(transactions, map.count_ones()),
-        transactions,
-    }
-}
-
-/// Tries every list of a small window in which only `open` registers may be
-/// touched: the least one is the only one, and it is the planner's.
-fn only(first: usize, last: usize, open: u64, covers: &[Option<Cost>]) {
-    let lists = every_list(first, last, open);
-    let costs = lists.iter().map(|least| least.map(|least| least.cost));
-    assert!(covers.iter().copied().eq(costs));
-    for (set, least) in lists.iter().enumerate() {
-        let needed = (set as u64) << first;
-        let only = least.is_none_or(|least| {
-            least.lists == 1 && least.touched == planner::written(needed, open)
-        });
-        assert!(only, "{needed:x} of {open:x}");
-    }
-}
-
-#[test]
-fn planner_is_least() {
-    let all = spans(0, REGISTERS - 1, ALL_KNOWN);
-    let windows = [
-        (0x00, 0x05),
-        (0x0A, 0x11),
-        (0x15, 0x24),
-        (0x19, 0x1E),
-        (0x31, 0x35),
-    ];
-    for (first, last) in windows {
-        let covers = every_cover(first, last, ALL_KNOWN);
-        if spans(first, last, ALL_KNOWN).len() <= MOST_SPANS {
-            only(first, last, ALL_KNOWN, &covers);
-        }
-        for (set, cost) in covers.into_iter().enumerate() {
-            let needed = (set as u64) << first;
-            let reachable = needed & BARRED_MAP == 0;
-            // A window that cuts the word cannot hold it.
-            let whole = needed & WORD_MAP == 0 || first <= WORD;
-            assert_eq!(cost.is_some(), reachable && whole);
-            if let Some(cost) = cost {
-                assert_eq!(cost, planned(needed, ALL_KNOWN), "{needed:x}");
-                assert_eq!(Some(cost), least(needed, &all));
-            }
-        }
-    }
-}
-
-/// Small windows with every set of registers that may not be touched, wider ones
-/// with some. The word's registers always may: where unknown, they are needed.
-#[test]
-fn planner_is_least_around_unknown_registers() {
-    for (first, last) in [(0x00, 0x05), (0x0A, 0x11), (0x19, 0x1E), (0x31, 0x35)] {
-        let sets = (1..1 << (last + 1 - first)).map(|set: u64| set << first);
-        for unknown in sets.filter(|set| set & WORD_MAP == 0) {
-            least_around(first, last, unknown);
-        }
-    }
-    for unknown in [1 << 0x1C, 0b111 << 0x1A, 1 << 0x1C | 1 << 0x20, 1 << 0x18] {
-        least_around(0x15, 0x22, unknown);
-    }
-}
-
-/// One window, with these registers unknown and not needed.
-fn least_around(first: usize, last: usize, unknown: u64) {
-    let open = ALL_KNOWN & !unknown;
-    let all = spans(0, REGISTERS - 1, open);
-    let covers = every_cover(first, last, open);
-    if spans(first, last, open).len() <= MOST_SPANS {
-        only(first, last, open, &covers);
-    }
-    for (set, cost) in covers.into_iter().enumerate() {
-        let needed = (set as u64) << first;
-        let whole = needed & WORD_MAP == 0 || first <= WORD;
-        assert_eq!(
-            cost.is_some(),
-            needed & (BARRED_MAP | unknown) == 0 && whole
-        );
-        if let Some(cost) = cost {
-            assert_eq!(cost, planned(needed, open), "{needed:x} of {open:x}");
-            assert_eq!(Some(cost), least(needed, &all));
-        }
-    }
 }

@@ -9,7 +9,7 @@ use plain::registers::REGISTERS;
 use plain::{
     caption_listing, plan, plan_captions, play, play_captions, read_captions, transaction,
 };
-use plain::{is_odd, with_parity, CaptionsAnswer, PlanAnswer, ALL_KNOWN, CAPTION_ROOM};
+use plain::{is_odd, with_parity, CaptionsAnswer, PlanAnswer, ALL_KNOWN, CAPTION_ROOM, NO_LIMIT};
 
 /// The chip's own address.
 const OWN: u32 = 0x54;
@@ -241,7 +241,7 @@ fn settings_plans() {
         settings[kind + at::CURVE_Q] = 1;
     }
     let mut lent = [0; 64];
-    let answer = plan(&image(), ALL_KNOWN, &settings, OWN, &mut lent);
+    let answer = plan(&image(), ALL_KNOWN, &settings, OWN, NO_LIMIT, &mut lent);
     assert_eq!(answer.refusal, 0);
     assert_eq!(unplayed(&lent[..answer.length as usize]), 9);
 }

@@ -4,9 +4,10 @@
 mod settings;
 
 use plain::fields as at;
-use plain::least::{runs, written};
+use plain::least::list;
 use plain::registers as reg;
-use plain::{check, codes, gamma, plan, play, read, refusal, signal, subcarrier, ALL_KNOWN};
+use plain::{check, codes, gamma, play, read, refusal, signal, subcarrier};
+use plain::{PlanAnswer, ALL_KNOWN, NO_LIMIT};
 use settings::house;
 
 /// An even address.
@@ -14,11 +15,16 @@ const ADDRESS: u32 = 0x54;
 /// Room for any packed plan.
 const ROOM: usize = 64;
 
+/// Planning for a board known in full, with no limit.
+fn plan(image: &[u8], settings: &[i32], bytes: &mut [u8]) -> PlanAnswer {
+    plain::plan(image, ALL_KNOWN, settings, ADDRESS, NO_LIMIT, bytes)
+}
+
 /// An image that the house setting needs nothing for, over a given ground.
 fn settled(ground: u8) -> [u8; reg::REGISTERS] {
     let mut image = [ground; reg::REGISTERS];
     let mut bytes = [0; ROOM];
-    let planned = plan(&image, ALL_KNOWN, &house(), ADDRESS, &mut bytes);
+    let planned = plan(&image, &house(), &mut bytes);
     assert_eq!(planned.refusal, 0);
     let length = planned.length as usize;
     let played = play(&mut image, ALL_KNOWN, ADDRESS, ADDRESS, &bytes[..length]);
@@ -121,12 +127,13 @@ fn cgms_check() {
 #[test]
 fn joining() {
     let cost = |needed: u64| {
-        let map = written(needed, ALL_KNOWN);
-        (runs(map), 2 * runs(map) + map.count_ones())
+        let list = list(needed, ALL_KNOWN, NO_LIMIT);
+        (list.transactions(), 2 * list.transactions() + list.data())
     };
     assert_eq!(cost(1 << 0x1D | 1 << 0x20), (1, 6));
     assert_eq!(cost(1 << 0x1D | 1 << 0x21), (2, 6));
-    assert_eq!(written(1 << 0x0F, ALL_KNOWN), 0x0F << 0x0C);
+    let word = list(1 << 0x0F, ALL_KNOWN, NO_LIMIT);
+    assert_eq!((word.written, word.lasts), (0x0F << 0x0C, 1 << 0x0F));
 }
 
 #[test]
@@ -134,7 +141,7 @@ fn only_the_last_word_byte() {
     let mut image = settled(0x00);
     image[0x0F] ^= 1;
     let mut bytes = [0; ROOM];
-    let planned = plan(&image, ALL_KNOWN, &house(), ADDRESS, &mut bytes);
+    let planned = plan(&image, &house(), &mut bytes);
     assert_eq!((planned.transactions, planned.bus_bytes), (1, 6));
     // 000001 001100 000100 then 1F 7C F0 21, two bits into the third byte.
     assert_eq!(bytes[..7], [0x04, 0xC1, 0x07, 0xDF, 0x3C, 0x08, 0x40]);
@@ -145,7 +152,7 @@ fn hue_alone() {
     let mut settings = house();
     settings[at::HUE] = 40;
     let mut bytes = [0xAA; ROOM];
-    let planned = plan(&settled(0x00), ALL_KNOWN, &settings, ADDRESS, &mut bytes);
+    let planned = plan(&settled(0x00), &settings, &mut bytes);
     let answer = (planned.length, planned.transactions, planned.bus_bytes);
     assert_eq!(answer, (4, 1, 3));
     assert_eq!(bytes[..5], [0x06, 0x00, 0x65, 0xC0, 0xAA]);
@@ -154,10 +161,10 @@ fn hue_alone() {
 #[test]
 fn nothing_to_do() {
     let mut bytes = [0xAA; 2];
-    let planned = plan(&settled(0x00), ALL_KNOWN, &house(), ADDRESS, &mut bytes);
+    let planned = plan(&settled(0x00), &house(), &mut bytes);
     let answer = (planned.length, planned.transactions, planned.bus_bytes);
     assert_eq!((answer, bytes), ((1, 0, 0), [0x00, 0xAA]));
-    let refused = plan(&settled(0x00), ALL_KNOWN, &house(), ADDRESS, &mut []);
+    let refused = plan(&settled(0x00), &house(), &mut []);
     assert_eq!(refused.refusal, refusal::PLAN_ROOM);
 }
 
@@ -178,7 +185,7 @@ fn reading_back() {
     let mut numbers = [-1; at::SETTINGS];
     assert_eq!(read(&settled(0x5A), ALL_KNOWN, &mut numbers).refusal, 0);
     let mut bytes = [0; ROOM];
-    let planned = plan(&settled(0x5A), ALL_KNOWN, &numbers, ADDRESS, &mut bytes);
+    let planned = plan(&settled(0x5A), &numbers, &mut bytes);
     assert_eq!((planned.length, bytes[0]), (1, 0x00));
     assert_eq!(numbers[at::CONTRAST], 997);
     assert_eq!(numbers[at::CURVE_A], at::BYTES);

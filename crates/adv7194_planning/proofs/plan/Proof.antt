@@ -14,6 +14,7 @@ use Rattle.planning.specs.Plan.{countsOf, leftBy, answerOf}
 use Rattle.field_table.specs.Answers.{checkedAs}
 use Rattle.adv7194_bus.specs.Kind.{registerCount}
 use Rattle.adv7194_bus.specs.Address.{addressRight}
+use Rattle.adv7194_bus.specs.Limit.{limitRight}
 use Rattle.adv7194_bus.specs.declared.board.Board.{Board}
 use Rattle.adv7194_bus.specs.Board.{boardOf}
 use Rattle.adv7194_table.specs.Fields.{numberCount}
@@ -23,7 +24,7 @@ use Rattle.adv7194_least.proofs.WantedChange.{settings-change}
 use Rattle.adv7194_planning.specs.Aims.{Ready}
 use Rattle.adv7194_planning.specs.Rows.{listOf, rowPlanned, lastChecks}
 use Rattle.adv7194_planning.specs.Planning.{planningOf}
-use Rattle.adv7194_planning.proofs.CaseLaws.{wrong-length, wrong-address, wrong-count, wrong-settings, passed, refuse}
+use Rattle.adv7194_planning.proofs.CaseLaws.{wrong-length, wrong-address, wrong-limit, wrong-count, wrong-settings, passed, refuse}
 use Rattle.adv7194_planning.proofs.Clauses.{Clauses, clauses}
 use Rattle.adv7194_planning.proofs.plan.Statement.{statement}
 use Rattle.adv7194_planning.proofs.plan.Tie as tie
@@ -38,10 +39,13 @@ abbrev start2 : tie.Else2 → tie.Start
 start2 c = start1 (c .before .before)
 
 abbrev start3 : tie.Else3 → tie.Start
-start3 c = start2 (c .before)
+start3 c = start2 (c .before .before)
+
+abbrev start4 : tie.Else4 → tie.Start
+start4 c = start3 (c .before)
 
 -- where the count of the numbers was found right
-abbrev counted-at : tie.After-want → tie.Else3
+abbrev counted-at : tie.After-want → tie.Else4
 counted-at c = c .before .before .before .before
 
 -- the board that is planned over
@@ -60,42 +64,46 @@ long c = c .if1 .left
 right : (c : tie.Else2) → addressRight (start2 c .args .address) ≡ true
 right c = sym (c .before .address-right .ensures) ∙ not-false _ (c .if2 .left)
 
+-- the limit is right
+limited : (c : tie.Else3) → limitRight (start3 c .args .limit) ≡ true
+limited c = sym (c .before .limit-right .ensures) ∙ not-false _ (c .if3 .left)
+
 -- there are as many numbers as settings have
-counted : (c : tie.Else3) → length (now (start3 c .args .numbers)) ≡ numberCount
-counted c = c .if3 .left
+counted : (c : tie.Else4) → length (now (start4 c .args .numbers)) ≡ numberCount
+counted c = c .if4 .left
 
 -- the record that was made is the board
-board-is : (c : tie.After-want) → c .before .before .before .board-of .result ≡ board (start3 (counted-at c))
+board-is : (c : tie.After-want) → c .before .before .before .board-of .result ≡ board (start4 (counted-at c))
 board-is c = c .before .before .before .board-of .ensures
 
 -- the wanted image stands where the copy was
-wanted-is : (c : tie.After-want) → (let s = start3 (counted-at c) in
+wanted-is : (c : tie.After-want) → (let s = start4 (counted-at c) in
     c .want .last .1 .0 ≡ wantedBy (now (s .args .image)) (now (s .args .numbers)))
 wanted-is c =
-    let zs = now (start3 (counted-at c) .args .numbers) in
+    let zs = now (start4 (counted-at c) .args .numbers) in
     c .want .ensures .1 .0 ∙ ap (λ (b : Board). wantedBy (b .registers) zs) (board-is c)
 
 -- the settings are accepted
-accepted : (c : tie.After-enum-told) → checkOf (now (start3 (counted-at (c .before .before .before)) .args .numbers)) ≡ good tt
+accepted : (c : tie.After-enum-told) → checkOf (now (start4 (counted-at (c .before .before .before)) .args .numbers)) ≡ good tt
 accepted c = sym (c .before .before .before .want .ensures .0) ∙ ap checkedAs (c .enum-told .given .1)
 
 -- ---- the answers
 
 -- a refusal, with all that planning promises
 refused : (c : tie.After-slice-known) (n f : ℕ) → (let a = c .before .before .args in
-    planningOf (board (c .before .before)) (now (a .numbers)) (a .address) (length (now (a .plan))) ≡ refusedAt n f
-    → Clauses (board (c .before .before)) (now (a .numbers)) (a .address) (now (a .plan)) (now (a .plan)) (refusedAt n f))
+    planningOf (board (c .before .before)) (now (a .numbers)) (a .address) (a .limit) (length (now (a .plan))) ≡ refusedAt n f
+    → Clauses (board (c .before .before)) (now (a .numbers)) (a .address) (a .limit) (now (a .plan)) (now (a .plan)) (refusedAt n f))
 refused c n f e =
     let a = c .before .before .args in
     let b = board (c .before .before) in
-    clauses b (now (a .numbers)) (bytes c) (a .address) (now (a .plan)) (now (a .plan)) (refusedAt n f) (sym e)
-    (refuse b (now (a .numbers)) (a .address) (now (a .plan)) n f e)
+    clauses b (now (a .numbers)) (a .limit) (bytes c) (a .address) (now (a .plan)) (now (a .plan)) (refusedAt n f) (sym e)
+    (refuse b (now (a .numbers)) (a .address) (a .limit) (now (a .plan)) n f e)
 
 returns : tie.Need-returns
 returns c =
     let s = c .before .before .before in
     let a = s .args in
-    refused (c .before) 1 0 (wrong-length (board s) (now (a .numbers)) (a .address) (length (now (a .plan))) (c .if1 .taken))
+    refused (c .before) 1 0 (wrong-length (board s) (now (a .numbers)) (a .address) (a .limit) (length (now (a .plan))) (c .if1 .taken))
 
 returns-2 : tie.Need-returns-2
 returns-2 c =
@@ -103,65 +111,80 @@ returns-2 c =
     let s = start1 (r .before) in
     let a = s .args in
     refused (r .before .before) 2 0
-    (wrong-address (board s) (now (a .numbers)) (a .address) (length (now (a .plan))) (long (r .before))
+    (wrong-address (board s) (now (a .numbers)) (a .address) (a .limit) (length (now (a .plan))) (long (r .before))
     (sym (r .address-right .ensures) ∙ not-true _ (c .if2 .taken)))
 
 returns-3 : tie.Need-returns-3
 returns-3 c =
-    let e = c .before in
+    let r = c .before in
+    let e = r .before in
     let s = start2 e in
     let a = s .args in
     refused (e .before .before .before) 3 0
-    (wrong-count (board s) (now (a .numbers)) (a .address) (length (now (a .plan))) (long (e .before .before)) (right e) (c .if3 .taken))
+    (wrong-limit (board s) (now (a .numbers)) (a .address) (a .limit) (length (now (a .plan))) (long (e .before .before)) (right e)
+    (sym (r .limit-right .ensures) ∙ not-true _ (c .if3 .taken)))
 
 returns-4 : tie.Need-returns-4
 returns-4 c =
+    let l = c .before in
+    let e = l .before .before in
+    let s = start3 l in
+    let a = s .args in
+    refused (e .before .before .before) 3 0
+    (wrong-count (board s) (now (a .numbers)) (a .address) (a .limit) (length (now (a .plan))) (long (e .before .before)) (right e) (limited l)
+    (c .if4 .taken))
+
+returns-5 : tie.Need-returns-5
+returns-5 c =
     let r = c .before in
     let w = r .before .before .before in
     let d = counted-at w in
-    let e = d .before in
-    let s = start3 d in
+    let e = d .before .before .before in
+    let s = start4 d in
     let a = s .args in
     let n = numberOf (r .refusal .given .0 .0) in
     let f = r .refusal .given .0 .1 .0 in
     refused (e .before .before .before) n f
-    (wrong-settings (board s) (now (a .numbers)) (a .address) (length (now (a .plan))) (long (e .before .before)) (right e) (counted d) n f
-    (sym (w .want .ensures .0) ∙ ap checkedAs (r .refusal .given .1)))
+    (wrong-settings (board s) (now (a .numbers)) (a .address) (a .limit) (length (now (a .plan))) (long (e .before .before)) (right e) (limited (d .before))
+    (counted d) n f (sym (w .want .ensures .0) ∙ ap checkedAs (r .refusal .given .1)))
 
 -- the settings and the image that they want are ready to be planned
 ready : (c : tie.After-enum-told) → (let w = c .before .before .before in
-    Ready (w .before .before .before .board-of .result) (now (start3 (counted-at w) .args .numbers)) (w .want .last .1 .0))
+    let a = start4 (counted-at w) .args in
+    Ready (w .before .before .before .board-of .result) (now (a .numbers)) (w .want .last .1 .0) (a .limit))
 ready c =
     let w = c .before .before .before in
     let d = counted-at w in
-    let e = d .before .before .before in
-    let zs = now (start3 d .args .numbers) in
-    subst (λ (b : Board). Ready b zs (w .want .last .1 .0)) (sym (board-is w))
+    let e = d .before .before .before .before .before in
+    let s = start4 d in
+    let zs = now (s .args .numbers) in
+    subst (λ (b : Board). Ready b zs (w .want .last .1 .0) (s .args .limit)) (sym (board-is w))
     (record {
       passing = record { size = counted d; passes = accepted c };
-      change = settings-change (board (start3 d)) zs (record { size = long e; bytes = bytes (e .before) });
+      change = settings-change (board s) zs (s .args .limit) (record { size = long e; bytes = bytes (e .before) }) (limited (d .before));
       wants = wanted-is w;
     })
 
-returns-5 : tie.Need-returns-5
-returns-5 c =
+returns-6 : tie.Need-returns-6
+returns-6 c =
     let p = c .before .before in
     let k = p .before .before .before in
     let w = k .before .before .before in
     let d = counted-at w in
-    let e = d .before in
-    let s = start3 d in
+    let e = d .before .before .before in
+    let s = start4 d in
     let a = s .args in
     let plan = now (a .plan) in
     let zs = now (a .numbers) in
     let answer =
     p .plan-board .ensures .0 (a .address)
-    ∙ ap (λ (b : Board). firstOf (rowPlanned b zs (a .address) (length plan)) lastChecks (countsOf (listOf b zs))) (board-is w)
-    ∙ sym (passed (board s) zs (a .address) (length plan) (long (e .before .before)) (right e) (counted d) (accepted k)) in
-    clauses (board s) zs (bytes (e .before .before .before)) (a .address) plan _ _ answer
+    ∙ ap (λ (b : Board). firstOf (rowPlanned b zs (a .address) (a .limit) (length plan)) lastChecks (countsOf (listOf b zs (a .limit)))) (board-is w)
+    ∙ sym
+    (passed (board s) zs (a .address) (a .limit) (length plan) (long (e .before .before)) (right e) (limited (d .before)) (counted d) (accepted k)) in
+    clauses (board s) zs (a .limit) (bytes (e .before .before .before)) (a .address) plan _ _ answer
     (p .plan-board .ensures .1
-    ∙ ap (λ (b : Board). leftBy (listOf b zs) plan (answerOf (p .plan-board .result))) (board-is w)
-    ∙ ap (leftBy (listOf (board s) zs) plan) answer)
+    ∙ ap (λ (b : Board). leftBy (listOf b zs (a .limit)) plan (answerOf (p .plan-board .result))) (board-is w)
+    ∙ ap (leftBy (listOf (board s) zs (a .limit)) plan) answer)
 
 pub plan-spec : {M : Type 1} → statement M
 plan-spec =
@@ -171,7 +194,9 @@ plan-spec =
     returns
     (λ c κs. tt)
     returns-2
+    (λ c κs. tt)
     returns-3
+    returns-4
     (λ c κs. search needs)
     (λ c. search needs)
     (λ c κs. search needs)
@@ -179,6 +204,6 @@ plan-spec =
     (λ c. search needs)
     (λ c. search needs)
     (λ c κs. ready (c .before .before))
-    returns-4
+    returns-5
     (λ c. search needs)
-    returns-5)
+    returns-6)

@@ -39,16 +39,17 @@ returns c =
     let e = field-is (c .before) in
     let a = start (c .before) .args in (
       λ address.
-          ap (refusedAt 11) e ∙ sym (wrong-register (a .board) (now (a .numbers)) address (length (now (a .plan))) (λ z. c .if1 .taken (e ∙ z))),
+          ap (refusedAt 11) e ∙ sym (wrong-register (a .board) (now (a .numbers)) address (a .limit) (length (now (a .plan))) (λ z. c .if1 .taken (e ∙ z))),
       refl,
     )
 
 -- the aim of the map of fixed registers is the settings'
 aim-is : (c : tie.After-fixed-registers) → (let a = start (c .before .before) .args in
-    aimBy (a .board) (now (a .wanted)) (c .fixed-registers .result) ≡ aimOf (a .board) (now (a .numbers)))
+    aimBy (a .board) (now (a .wanted)) (c .fixed-registers .result) (a .limit) ≡ aimOf (a .board) (now (a .numbers)) (a .limit))
 aim-is c =
     let s = start (c .before .before) in
-    same-aim (s .args .board) (now (s .args .numbers)) (now (s .args .wanted)) (c .fixed-registers .result) (s .pre .wants) (c .fixed-registers .ensures)
+    same-aim (s .args .board) (now (s .args .numbers)) (now (s .args .wanted)) (c .fixed-registers .result) (s .args .limit) (s .pre .wants)
+    (c .fixed-registers .ensures)
 
 plan-change-requires : tie.Need-plan-change-requires
 plan-change-requires c κs =
@@ -65,10 +66,10 @@ returns-2 c =
     let list = ap planOf (aim-is k) in
     let answer = p .plan-change .ensures .0 ∙ ap (λ (ts : List Transaction). packingOf ts (length plan)) list in
     let none = sym (field-is (k .before .before)) ∙ k .before .if1 .left in (
-      λ address. answer ∙ packing (a .board) (now (a .numbers)) address (length plan) none,
+      λ address. answer ∙ packing (a .board) (now (a .numbers)) address (a .limit) (length plan) none,
       p .plan-change .ensures .1
           ∙ ap (λ (ts : List Transaction). planAfter ts plan) list
-          ∙ sym (ap (leftBy (listOf (a .board) (now (a .numbers))) plan) answer),
+          ∙ sym (ap (leftBy (listOf (a .board) (now (a .numbers)) (a .limit)) plan) answer),
     )
 
 pub plan-board-spec : {M : Type 1} → statement M

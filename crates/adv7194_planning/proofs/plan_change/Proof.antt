@@ -5,7 +5,8 @@ use borrow.Author.Needs.{needs}
 use lib.ListN.{length}
 use denote.Ref.{now}
 use Rattle.bus.specs.Transactions.{Transaction}
-use Rattle.planning.specs.Plan.{planBy, packingOf, planAfter}
+use Rattle.cutting.specs.Task.{planBy}
+use Rattle.planning.specs.Plan.{packingOf, planAfter}
 use Rattle.adv7194_least.specs.Plan.{planOf}
 use Rattle.adv7194_planning.specs.Aims.{aimBy}
 use Rattle.adv7194_planning.proofs.MapPlan.{comparable, plannable, plan-is}
@@ -17,28 +18,35 @@ abbrev start : tie.After-registers2 → tie.Start
 start c = c .before .before .before .before
 
 -- the calls before the maps are known
-abbrev changed : tie.After-allowed-registers → tie.After-changed-registers
-changed c = c .before .before .before
+abbrev allowed : tie.After-held-registers → tie.After-allowed-registers
+allowed c = c .before
+
+abbrev changed : tie.After-held-registers → tie.After-changed-registers
+changed c = allowed c .before .before .before
 
 changed-registers-requires : tie.Need-changed-registers-requires
 changed-registers-requires c κs =
     let s = start c in
-    comparable (s .args .board) (now (s .args .wanted)) (s .args .fixed) (s .pre)
+    comparable (s .args .board) (now (s .args .wanted)) (s .args .fixed) (s .args .limit) (s .pre)
 
 pack-requires : tie.Need-pack-requires
 pack-requires c κs =
     let m = c .before in
     let s = start (changed m .before) in
-    plannable (s .args .board) (now (s .args .wanted)) (s .args .fixed) (s .pre) _ _ _ _ (changed m .changed-registers .ensures)
-    (m .before .before .must-registers .ensures) (m .before .needed-registers .ensures) (m .allowed-registers .ensures)
+    let w = allowed m in
+    plannable (s .args .board) (now (s .args .wanted)) (s .args .fixed) (s .args .limit) (s .pre) _ _ _ _ _ (changed m .changed-registers .ensures)
+    (w .before .before .must-registers .ensures) (w .before .needed-registers .ensures) (w .allowed-registers .ensures) (m .held-registers .ensures)
 
 -- the plan that is packed is the aim's
-same : (m : tie.After-allowed-registers) → (let a = start (changed m .before) .args in
-    planBy (m .before .needed-registers .result) (m .allowed-registers .result) (now (a .wanted)) ≡ planOf (aimBy (a .board) (now (a .wanted)) (a .fixed)))
+same : (m : tie.After-held-registers) → (let a = start (changed m .before) .args in
+    let w = allowed m in
+    planBy (w .before .needed-registers .result) (w .allowed-registers .result) (m .held-registers .result) (a .limit) (now (a .wanted))
+    ≡ planOf (aimBy (a .board) (now (a .wanted)) (a .fixed) (a .limit)))
 same m =
     let s = start (changed m .before) in
-    plan-is (s .args .board) (now (s .args .wanted)) (s .args .fixed) (s .pre) _ _ _ _ (changed m .changed-registers .ensures)
-    (m .before .before .must-registers .ensures) (m .before .needed-registers .ensures) (m .allowed-registers .ensures)
+    let w = allowed m in
+    plan-is (s .args .board) (now (s .args .wanted)) (s .args .fixed) (s .args .limit) (s .pre) _ _ _ _ _ (changed m .changed-registers .ensures)
+    (w .before .before .must-registers .ensures) (w .before .needed-registers .ensures) (w .allowed-registers .ensures) (m .held-registers .ensures)
 
 -- what packing answers and leaves is what it does of that plan
 returns : tie.Need-returns
@@ -56,6 +64,7 @@ plan-change-spec =
     (tie.spec
     (λ c. search needs)
     changed-registers-requires
+    (λ c κs. tt)
     (λ c κs. tt)
     (λ c κs. tt)
     (λ c κs. tt)

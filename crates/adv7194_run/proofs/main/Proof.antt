@@ -5,10 +5,10 @@ use Rattle.adv7194_run.proofs.main.Statement.{statement}
 use Rattle.adv7194_run.proofs.main.Tie as tie
 
 abbrev Inv-loop : tie.InvT-loop
-Inv-loop flags₀ turns₀ flags turns = Unit {0}
+Inv-loop context₀ turns₀ context turns = Unit {0}
 
 abbrev μ-loop : tie.MeasureT-loop
-μ-loop flags₀ turns₀ flags turns = turns
+μ-loop context₀ turns₀ context turns = turns
 
 pub main-spec : {M : Type 1} → statement M
 main-spec =

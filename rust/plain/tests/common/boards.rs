@@ -1,9 +1,8 @@
-//! Boards known in part: settings with each kind of signalling, and what fields
-//! have.
+//! Boards planned: settings with each kind of signalling, and what they make.
 
 use plain::fields::{self as at, SETTINGS};
 use plain::registers::REGISTERS;
-use plain::{plan, play, raw_code, ALL_KNOWN, LAST_FIELD};
+use plain::{play, PlanAnswer, ALL_KNOWN, NO_LIMIT};
 
 /// The board's address.
 pub const OWN: u32 = 0x54;
@@ -11,6 +10,11 @@ pub const OWN: u32 = 0x54;
 pub const PAST: u64 = !ALL_KNOWN;
 /// Room for any packed plan.
 pub const ROOM: usize = 64;
+
+/// Planning at the board's address, with no limit.
+pub fn plan(image: &[u8], known: u64, s: &[i32], bytes: &mut [u8]) -> PlanAnswer {
+    plain::plan(image, known, s, OWN, NO_LIMIT, bytes)
+}
 
 /// Settings with some numbers changed.
 pub fn with(mut s: [i32; SETTINGS], changed: &[(usize, i32)]) -> [i32; SETTINGS] {
@@ -36,7 +40,7 @@ pub fn three(house: [i32; SETTINGS]) -> [[i32; SETTINGS]; 3] {
 pub fn settled(s: &[i32; SETTINGS], ground: u8) -> [u8; REGISTERS] {
     let mut image = [ground; REGISTERS];
     let mut bytes = [0; ROOM];
-    let planned = plan(&image, ALL_KNOWN, s, OWN, &mut bytes);
+    let planned = plan(&image, ALL_KNOWN, s, &mut bytes);
     assert_eq!(planned.refusal, 0);
     play(
         &mut image,
@@ -46,12 +50,4 @@ pub fn settled(s: &[i32; SETTINGS], ground: u8) -> [u8; REGISTERS] {
         &bytes[..planned.length as usize],
     );
     image
-}
-
-/// The lowest field that has bits in a register, or 0.
-pub fn lowest_field(register: usize) -> u32 {
-    let mut image = [0; REGISTERS];
-    image[register] = 0xFF;
-    let has = |&field: &u32| raw_code(&image, field).iter().any(|&byte| byte != 0);
-    (1..=LAST_FIELD).find(has).unwrap_or(0)
 }
