@@ -11,6 +11,7 @@
 #include "lent.h"
 #include "limits.h"
 #include "players.h"
+#include "reasons.h"
 #include "transactions.h"
 
 /* Reads an image with one register replaced. */
@@ -231,6 +232,7 @@ int main(void)
     test_read(&image);
     test_boards(&image);
     test_limits(&image);
+    test_reasons(&image);
     test_compare(&image);
     test_captions();
     test_null(&image);

@@ -1,6 +1,6 @@
 /*
  * Plans, plays, reads back and compares the settings of ADV7194 video encoders,
- * and plans, plays and reads back their captions.
+ * says why a register is sent, and plans, plays and reads back their captions.
  *
  * An image is the chip's 54 registers, one byte each. Settings are 49 numbers.
  * A packed plan is a list of write transactions, as adv7194_plan and
@@ -129,6 +129,16 @@ enum {
     ADV7194_REGISTER_UNKNOWN = 11    /* a register isn't known of which the settings fix only some bits, or one that is read */
 };
 
+/* Why a register is sent, or that it isn't. Of those that are true, the first. */
+enum {
+    ADV7194_NOT_SENT = 0,      /* the plan doesn't write it */
+    ADV7194_UNKNOWN = 1,       /* it wasn't known */
+    ADV7194_FIELD_CHANGED = 2, /* bits of a field change in it, must-be-zero bits apart: the lowest such field */
+    ADV7194_MUST_BE_ZERO = 3,  /* a must-be-zero bit was set in it */
+    ADV7194_COMPANION = 4,     /* it is in the subcarrier word, of which another register is needed */
+    ADV7194_BRIDGE = 5         /* it lies between needed registers in one transaction */
+};
+
 /* The field numbers of the subcarrier word, which is worked out and not set, and
  * of captions, which are no setting: 29 only ever comes with a refusal. */
 enum { ADV7194_FIELD_WORD = 28, ADV7194_FIELD_CAPTIONS = 29 };
@@ -201,6 +211,15 @@ typedef struct {
     uint64_t registers; /* bit r is set where register r differs in bits outside all fields */
 } adv7194_compare_answer;
 
+/* What asking why a register is sent answers. */
+typedef struct {
+    uint32_t refusal; /* a refusal, or 0 */
+    uint32_t field;   /* the field at fault, or 0 */
+    uint32_t reason;  /* why the register is sent, or 0 where it isn't */
+    uint32_t first;   /* the field that changes, or the needed register next below a bridge; else 0 */
+    uint32_t second;  /* the needed register next above a bridge; else 0 */
+} adv7194_why_answer;
+
 /* What reading a pair of captions answers. */
 typedef struct {
     uint32_t refusal; /* a refusal, or 0 */
@@ -235,6 +254,25 @@ adv7194_plan_answer adv7194_plan(const uint8_t *image, size_t image_len,
                                  const int32_t *settings, size_t settings_len,
                                  uint32_t address, uint32_t limit,
                                  uint8_t *plan, size_t plan_len);
+
+/*
+ * Says why the plan that adv7194_plan makes of the same board, settings and limit
+ * writes the register `subaddress`: the first reason that is true, in the order of
+ * their numbers. A register that the plan doesn't write is answered as not sent,
+ * and so is a number above 0x35, which is no register's.
+ *
+ * A register is needed where it is known and differs from what the settings mean,
+ * or where it isn't known and they fix all its bits. A bridge names the needed
+ * registers next below and next above it.
+ *
+ * Refuses as adv7194_plan does, without 2 and 10, since it takes no address and no
+ * room: 1; 3 with field 0 for a limit outside 4 to 54, or another length than 49;
+ * the settings' fields in order; 11.
+ */
+adv7194_why_answer adv7194_why(const uint8_t *image, size_t image_len,
+                               uint64_t known,
+                               const int32_t *settings, size_t settings_len,
+                               uint32_t limit, uint32_t subaddress);
 
 /*
  * Plays the packed `plan`, sent to the address `used`, on a chip that holds

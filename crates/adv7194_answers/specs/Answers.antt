@@ -2,19 +2,25 @@
 -- there is none, and after a refusal every other number is 0 but the map of known registers (document 02, P5), which is as it was handed in.
 use mathlib.Core.Path.{_≡_}
 use mathlib.Core.Bool.{Bool, true, false}
+use mathlib.Core.List.{List}
 use Prim.Native.Nat.{ℕ}
 use Rattle.refusals.specs.Refusal.{Judged, accepted, refused}
 use Rattle.refusals.specs.Verdict.{Verdict, good, refusedAt}
+use Rattle.bus.specs.Transactions.{Transaction}
 use Rattle.unpacking.specs.Indexed.{Numbers}
 use Rattle.planning.specs.Plan.{Counts}
 use Rattle.adv7194_captions.specs.Reading.{Characters}
 use Rattle.adv7194_compare.specs.Compare.{Comparison}
+use Rattle.adv7194_least.specs.Aim.{Aim}
+use Rattle.adv7194_reasons.specs.First.{FirstTrue}
+use Rattle.adv7194_reasons.specs.Reasons.{Reason, notSent, unknown, changed, zeroed, companion, bridge, holds, answers}
 use Rattle.adv7194_answers.specs.declared.captions_numbers.CaptionsAnswer.{CaptionsAnswer}
 use Rattle.adv7194_answers.specs.declared.compare_numbers.CompareAnswer.{CompareAnswer}
 use Rattle.adv7194_answers.specs.declared.plan_numbers.PlanAnswer.{PlanAnswer}
 use Rattle.adv7194_answers.specs.declared.play_numbers.PlayAnswer.{PlayAnswer}
 use Rattle.adv7194_answers.specs.declared.read_numbers.ReadAnswer.{ReadAnswer}
 use Rattle.adv7194_answers.specs.declared.transaction_numbers.TransactionAnswer.{TransactionAnswer}
+use Rattle.adv7194_answers.specs.declared.why_numbers.WhyAnswer.{WhyAnswer}
 
 -- what planning answers
 abbrev pub planAnswer : Verdict Counts → PlanAnswer
@@ -56,3 +62,27 @@ compareAnswer (refusedAt n f) = record { refusal = n; field = f; readable = 0; f
 -- nothing was refused and nothing differs
 abbrev pub NothingDiffers : CompareAnswer → Type 0
 NothingDiffers r = (r .refusal ≡ 0) × ((r .fields ≡ 0) × (r .registers ≡ 0))
+
+-- a reason by its number, with what it names
+abbrev pub numbered : ℕ → ℕ → ℕ → WhyAnswer
+numbered reason first second = record { refusal = 0; field = 0; reason = reason; first = first; second = second }
+
+-- a reason: not sent is 0, and the others follow in document 02's order; a field is named by its number, a bridge by the needed registers below and above
+abbrev pub reasonAnswer : Reason → WhyAnswer
+reasonAnswer notSent = numbered 0 0 0
+reasonAnswer unknown = numbered 1 0 0
+reasonAnswer (changed f) = numbered 2 f 0
+reasonAnswer zeroed = numbered 3 0 0
+reasonAnswer companion = numbered 4 0 0
+reasonAnswer (bridge i j) = numbered 5 i j
+
+-- what asking why a register is sent answers
+abbrev pub whyAnswer : Verdict Reason → WhyAnswer
+whyAnswer (good k) = reasonAnswer k
+whyAnswer (refusedAt n f) = record { refusal = n; field = f; reason = 0; first = 0; second = 0 }
+
+-- the numbers are those of the first answer that is true of a register
+pub record TrueReason (a : Aim) (ts : List Transaction) (register : ℕ) (r : WhyAnswer) : Type 0 where
+  pub reason : Reason
+  pub numbers : r ≡ reasonAnswer reason
+  pub first : FirstTrue (holds a ts register) (answers a register) reason

@@ -5,3 +5,4 @@ pub mod plan_numbers;
 pub mod play_numbers;
 pub mod read_numbers;
 pub mod transaction_numbers;
+pub mod why_numbers;

@@ -59,13 +59,17 @@ pub promised : (board : Board) (numbers : List ℤ) (address limit : ℕ) (plan 
     → Clauses board numbers address limit plan after (answerOf p) → Promises board numbers address limit plan after (planAnswer (answerOf p))
 promised board numbers address limit plan after (Done l t b) c =
     let rest = c .1 .1 in
-    let more = rest .1 .1 in (
+    let more = rest .1 .1 in
+    let last = more .1 .1 in (
       ap planAnswer (c .0),
       (
         c .1 .0,
         (
           λ e. rest .0 l t b refl,
-          (λ e. rest .1 .0 l t b refl, (λ e. more .0 l t b refl, (λ e. more .1 .0 l t b refl, (λ e. more .1 .1 .0 l t b refl, (λ e. more .1 .1 .1 .0 l t b refl, λ e. absurd (omega arith)))))),
+          (
+            λ e. rest .1 .0 l t b refl,
+            (λ e. more .0 l t b refl, (λ e. more .1 .0 l t b refl, (λ e. last .0 l t b refl, (λ e. last .1 .0 l t b refl, λ e. absurd (omega arith))))),
+          ),
         ),
       ),
     )

@@ -1,5 +1,5 @@
-// What C and Rust link: planning, playing, reading and comparing with settings and answers as numbers, planning, playing and reading captions, and a
-// plan's transactions. A slice is a pointer and a length.
+// What C and Rust link: planning, playing, reading and comparing with settings and answers as numbers, why a register is sent, planning, playing and reading
+// captions, and a plan's transactions. A slice is a pointer and a length.
 ghost use mathlib.Core.Path.{_≡_};
 ghost use Prim.Native.Nat.{_≤_, _<_};
 ghost use lib.ListN.{length, take};
@@ -16,12 +16,13 @@ ghost use Rattle.adv7194_least.specs.Played.{Played};
 ghost use Rattle.adv7194_least.specs.Demands.{Counted, Least, First, Only, mostBytes, wideLimit, wideBytes};
 ghost use Rattle.adv7194_planning.specs.Rows.{listOf};
 ghost use Rattle.adv7194_planning.specs.Planning.{planningOf, planLeft};
+ghost use Rattle.adv7194_reasons.specs.Why.{whyOf};
 ghost use Rattle.adv7194_playing.specs.declared.PlanKind.the-variants.{Settings, Captions};
 ghost use Rattle.adv7194_playing.specs.Playing.{playOf, playedBoard};
 ghost use Rattle.adv7194_compare.specs.Differences.{Equal};
 ghost use Rattle.adv7194_compare.specs.Compare.{compareOf};
 ghost use Rattle.adv7194_caption_planning.specs.Demands.{CaptionsPlayed, captionBytes};
-ghost use Rattle.adv7194_answers.specs.Answers.{planAnswer, playAnswer, readAnswer, captionsAnswer, transactionAnswer, compareAnswer, NothingDiffers};
+ghost use Rattle.adv7194_answers.specs.Answers.{planAnswer, playAnswer, readAnswer, captionsAnswer, transactionAnswer, compareAnswer, NothingDiffers, whyAnswer, TrueReason};
 use adv7194_answers::captions_numbers::CaptionsAnswer;
 use adv7194_answers::captions_numbers::captions_answer;
 use adv7194_answers::compare_numbers::CompareAnswer;
@@ -34,12 +35,15 @@ use adv7194_answers::read_numbers::ReadAnswer;
 use adv7194_answers::read_numbers::read_answer;
 use adv7194_answers::transaction_numbers::TransactionAnswer;
 use adv7194_answers::transaction_numbers::transaction_answer;
+use adv7194_answers::why_numbers::WhyAnswer;
+use adv7194_answers::why_numbers::why_answer;
 use adv7194_caption_planning::plan_captions;
 use adv7194_caption_reading::read_captions;
 use adv7194_compare::compare;
 use adv7194_playing::PlanKind;
 use adv7194_playing::play;
 use adv7194_reading::read;
+use adv7194_reasons::why;
 use unpacking::indexed::transaction;
 
 // Plans the settings over an image of which the registers in a map are known, for the chip at a bus address, with a limit on the data of a transaction, into
@@ -166,4 +170,21 @@ pub extern "C" fn adv7194_read_captions(image: &[u8], known: u64, pair: u32) -> 
     ensures answer { λ r. ⌜ r ≡ captionsAnswer (captionReading (boardOf (now (image .entry)) known) pair) ⌝ }
 {
     captions_answer(read_captions(image, known, pair))
+}
+
+// Why the plan that brings an image, of which the registers in a map are known, to the settings, with a limit on the data of a transaction, has a register.
+#[no_mangle]
+pub extern "C" fn adv7194_why(
+    image: &[u8],
+    known: u64,
+    settings: &[i32],
+    limit: u32,
+    subaddress: u32,
+) -> WhyAnswer
+    ensures answer { λ r. ⌜ r ≡ whyAnswer (whyOf (boardOf (now (image .entry)) known) (now (settings .entry)) limit subaddress) ⌝ }
+    ensures reason { λ r. ⌜
+        (r .refusal ≡ 0 → TrueReason (aimOf (boardOf (now (image .entry)) known) (now (settings .entry)) limit)
+        (listOf (boardOf (now (image .entry)) known) (now (settings .entry)) limit) subaddress r) ⌝ }
+{
+    why_answer(why(image, known, settings, limit, subaddress))
 }

@@ -1,19 +1,18 @@
 -- Equal images, register 34 excepted, have no differences, and only they do: every bit of any other register is some field's or outside all fields.
 -- Assumes nothing.
 use mathlib.Core.Path.{_≡_, refl, sym, ap, ap₂, _∙_}
-use mathlib.Core.Bool.{Bool, true, false, not, cond, _&&_, _||_}
-use mathlib.Core.List.{List}
+use mathlib.Core.Bool.{Bool, true, false, not, cond, _&&_}
+use mathlib.Core.List.{List, _∷_}
 use Prim.Native.Nat.{ℕ, zero, suc, _+_, _^_, _≤_, _<_}
 use native.Mathlib.Omega.{arith}
-use lib.Bits.{bitAnd, bitOr}
+use lib.Bits.{bitAnd}
 use lib.Dec.{T, eqb, eqb→eq}
 use lib.ListN.{getD}
 use lib.Pow.{pow-pos}
 use borrow.Author.Tests.{eqb-true, eqb-false, eq-eqb, ne-eqb, not-false}
-use Rattle.bits.specs.Maps.{has}
-use Rattle.bits.proofs.SetLaws.{has-and, has-or, by-bits}
+use Rattle.bits.proofs.CoverLaws.{allMasks, SameUnder, same-number}
 use Rattle.adv7194_bus.specs.Kind.{registerCount, readOnly}
-use Rattle.adv7194_bus.proofs.Checks.{agrees, same-bool, below, at-below}
+use Rattle.adv7194_bus.proofs.Checks.{below, at-below}
 use Rattle.adv7194_table.specs.Fields.{timing, output, picture, dnr}
 use Rattle.adv7194_table.specs.Table.{singles, table}
 use Rattle.adv7194_table.specs.Masks.{maskWhere, ownMask, fieldMask, zeroMask, outsideMask, each}
@@ -22,53 +21,31 @@ use Rattle.adv7194_table.proofs.MaskLaws.{none-read-only}
 use Rattle.adv7194_compare.specs.Differences.{fieldDiffers, registerDiffers, Equal}
 use Rattle.adv7194_compare.proofs.DifferenceLaws.{masked, sameFrom, same-none, same-next, other-here, mapFrom, map-next, map-none}
 
--- a bit of a mask is the same in two numbers that are the same under it
-bit-kept : (x y m i : ℕ) → bitAnd x m ≡ bitAnd y m → has m i ≡ true → has x i ≡ has y i
-bit-kept x y m i e h = under (has x i) (has y i) (sym (has-and x m i) ∙ ap (λ (z : ℕ). has z i) e ∙ has-and y m i) h
-  where
-    under : (p q : Bool) {t : Bool} → (p && t) ≡ (q && t) → t ≡ true → p ≡ q
-    under true true e h = refl
-    under false false e h = refl
-    under true false {t} e h = sym h ∙ e
-    under false true {t} e h = e ∙ h
-
 -- ---- every bit of a register is some field's, or outside all fields
 
--- the masks of k fields from n on, and of the bits outside all fields
-unfoldable masks : ℕ → ℕ → ℕ → ℕ
-masks r n zero = outsideMask r
-masks r n (suc k) = bitOr (ownMask n r) (masks r (suc n) k)
+-- the masks of a register: of the bits outside all fields, and of each field
+abbrev masksAt : ℕ → List ℕ
+masksAt r = outsideMask r ∷ each (λ n. ownMask n r) 1 28
 
 -- all bits, at every register: the one test
-covers-all : T (below registerCount (λ r. eqb (masks r 1 28) 0xFF))
-unfolding below masks outsideMask fieldMask zeroMask ownMask maskWhere table singles timing output picture dnr
+covers-all : T (below registerCount (λ r. eqb (allMasks (masksAt r)) 0xFF))
+unfolding below allMasks outsideMask fieldMask zeroMask ownMask maskWhere table singles timing output picture dnr
 covers-all = tt
 
-covers : (r : ℕ) → r < registerCount → masks r 1 28 ≡ 0xFF
-covers r h = eqb→eq (masks r 1 28) 0xFF (at-below registerCount (λ r. eqb (masks r 1 28) 0xFF) covers-all r h)
+covers : (r : ℕ) → r < registerCount → allMasks (masksAt r) ≡ 0xFF
+covers r h = eqb→eq (allMasks (masksAt r)) 0xFF (at-below registerCount (λ r. eqb (allMasks (masksAt r)) 0xFF) covers-all r h)
 
 module _ (a b : List ℕ) where
-  -- a bit of one of those masks is the same in two images that are the same under each of them
-  covered : (r i k n : ℕ) → ((m : ℕ) → n ≤ m → m < n + k → ownBits a m r ≡ ownBits b m r) → outsideBits a r ≡ outsideBits b r
-      → has (masks r n k) i ≡ true → has (getD a r 0) i ≡ has (getD b r 0) i
-  unfolding masks
-  covered r i zero n own out h = bit-kept _ _ (outsideMask r) i out h
-  covered r i (suc k) n own out h =
-      pick (has (ownMask n r) i) refl (covered r i k (suc n) (λ m p q. own m (omega arith) (omega arith)) out)
-    where
-      pick : (t : Bool) → has (ownMask n r) i ≡ t → (has (masks r (suc n) k) i ≡ true → has (getD a r 0) i ≡ has (getD b r 0) i)
-          → has (getD a r 0) i ≡ has (getD b r 0) i
-      pick true e rest = bit-kept _ _ (ownMask n r) i (own n (omega arith) (omega arith)) e
-      pick false e rest = rest (ap (λ (x : Bool). x || has (masks r (suc n) k) i) (sym e) ∙ sym (has-or (ownMask n r) (masks r (suc n) k) i) ∙ h)
+  -- the bytes of two images that have the same bits of some fields are the same under those fields' masks
+  fields-same : (r k n : ℕ) → ((m : ℕ) → n ≤ m → m < n + k → ownBits a m r ≡ ownBits b m r)
+      → SameUnder (getD a r 0) (getD b r 0) (each (λ m. ownMask m r) n k)
+  fields-same r zero n own = tt
+  fields-same r (suc k) n own = (own n (omega arith) (omega arith), fields-same r k (suc n) (λ m p q. own m (omega arith) (omega arith)))
 
   -- so a byte is the same
   byte-same : (r : ℕ) → r < registerCount → getD a r 0 < 2 ^ 8 → getD b r 0 < 2 ^ 8 → ((m : ℕ) → 1 ≤ m → m < 29 → ownBits a m r ≡ ownBits b m r)
       → outsideBits a r ≡ outsideBits b r → getD a r 0 ≡ getD b r 0
-  unfolding below agrees
-  byte-same r h p q own out = by-bits 8 _ _ p q (λ i k. covered r i 28 1 own out (ap (λ (x : ℕ). has x i) (covers r h) ∙ set-bit i k))
-    where
-      set-bit : (i : ℕ) → i < 8 → has 0xFF i ≡ true
-      set-bit i k = same-bool (has 0xFF i) true (at-below 8 (λ i. agrees (has 0xFF i) true) tt i k)
+  byte-same r h p q own out = same-number 8 (getD a r 0) (getD b r 0) (masksAt r) p q (covers r h) (out, fields-same r 28 1 own)
 
   -- ---- a field's raw codes, and its bits in every register
 

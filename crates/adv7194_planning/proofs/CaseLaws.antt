@@ -3,16 +3,16 @@ use mathlib.Core.Path.{_≡_, refl, sym, ap, _∙_}
 use mathlib.Core.Bool.{Bool, true, false, cond, not, _&&_}
 use mathlib.Core.List.{List, [], _∷_, _++_}
 use Prim.Native.Nat.{ℕ, _≤_, _<_}
-use lib.Dec.{T, eqb, leb, ltb}
+use lib.Dec.{T, eqb, ltb}
 use lib.IntN.{ℤ}
 use lib.ListN.{length, drop}
-use borrow.Author.Tests.{eq-eqb, ne-eqb, lt-ltb, le-ltb, leb-true, leb-false, not-true}
+use borrow.Author.Tests.{eq-eqb, ne-eqb, lt-ltb, le-ltb, not-true}
 use Rattle.bits.proofs.FlagLaws.{first, second, holds}
 use Rattle.refusals.specs.Verdict.{Verdict, good, refusedAt, after}
 use Rattle.refusals.specs.Order.{Place, firstOf, placesAt, placesOver}
 use Rattle.refusals.proofs.OrderLaws.{first-append}
 use Rattle.packing.specs.Packing.{packed}
-use Rattle.planning.specs.Plan.{Counts, countsOf, packingOf, leftBy}
+use Rattle.planning.specs.Plan.{Counts, countsOf, leftBy}
 use Rattle.adv7194_bus.specs.Kind.{registerCount}
 use Rattle.adv7194_bus.specs.Address.{addressRight}
 use Rattle.adv7194_bus.specs.Limit.{limitRight}
@@ -53,12 +53,12 @@ abbrev pub lowestUnfixed : Board → List ℤ → ℕ
 lowestUnfixed b zs = lowestField (unfixed b zs)
 
 -- some numbers are fields'
-abbrev allFields : List ℕ → Bool
+abbrev pub allFields : List ℕ → Bool
 allFields [] = true
 allFields (f ∷ fs) = not (eqb f 0) && allFields fs
 
 -- those of the table are
-table-fields : T (allFields (orderOf table))
+pub table-fields : T (allFields (orderOf table))
 unfolding orderOf table singles timing output picture dnr
 table-fields = tt
 
@@ -74,7 +74,8 @@ module _ (b : Board) (zs : List ℤ) (address limit room : ℕ) where
         not-true (eqb n 11) (holds (not (eqb n 11)) (first (not (eqb n 11)) (not (eqb f 0)) q)),
       )
 
-  same-first : {A : Type 0} (ps : List Place) (a : A) → T (allBySettings ps) → firstOf (rowPlanned b zs address limit room) ps a ≡ firstOf (rowHolds zs) ps a
+  pub same-first : {A : Type 0} (ps : List Place) (a : A) → T (allBySettings ps)
+      → firstOf (rowPlanned b zs address limit room) ps a ≡ firstOf (rowHolds zs) ps a
   unfolding firstOf
   same-first [] a t = refl
   same-first (p ∷ ps) a t =
@@ -82,7 +83,7 @@ module _ (b : Board) (zs : List ℤ) (address limit room : ℕ) where
       rw (same-row (p .row) (p .field) (first own (allBySettings ps) t), same-first ps a (second own (allBySettings ps) t))
 
   -- row 11 is given at the lowest field that has such a register
-  by-register : (fs : List ℕ) → T (allFields fs) → (let f = lowestIn (unfixed b zs) fs in
+  pub by-register : (fs : List ℕ) → T (allFields fs) → (let f = lowestIn (unfixed b zs) fs in
       firstOf (rowPlanned b zs address limit room) (placesOver 11 fs) (tt {0}) ≡ cond (eqb f 0) (good tt) (refusedAt 11 f))
   unfolding firstOf placesOver rowPlanned lowestIn
   by-register [] t = refl
@@ -130,14 +131,6 @@ module _ (b : Board) (zs : List ℤ) (address limit room : ℕ) where
     -- no row holds
     pub no-row : length (packed (listOf b zs limit)) ≤ room → lastVerdict ≡ good (countsOf (listOf b zs limit))
     no-row l = by-room ∙ rw (le-ltb room (length (packed (listOf b zs limit))) l)
-
-    -- so packing the list answers it
-    pub packing : packingOf (listOf b zs limit) room ≡ lastVerdict
-    packing = by (leb (length (packed (listOf b zs limit))) room) refl
-      where
-        by : (x : Bool) → leb (length (packed (listOf b zs limit))) room ≡ x → packingOf (listOf b zs limit) room ≡ lastVerdict
-        by true p = rw p (sym (no-row (leb-true (length (packed (listOf b zs limit))) room p)))
-        by false p = rw p (sym (wrong-room (leb-false (length (packed (listOf b zs limit))) room p)))
 
   -- the settings' rows, and then those
   settings-then : firstOf (rowPlanned b zs address limit room) (order ++ lastChecks) (countsOf (listOf b zs limit)) ≡ after (checkOf zs) lastVerdict

@@ -3,6 +3,7 @@ pub mod FixedMaps
 pub mod ComparedLaws
 pub mod MapPlan
 pub mod CaseLaws
+pub mod CheckLaws
 pub mod Outcomes
 pub mod KnownLaws
 pub mod Clauses

@@ -92,7 +92,8 @@ module _ (board : Board) (zs : List ℤ) (address limit room : ℕ) where
     by-room : checkOf zs ≡ good tt → lowestUnfixed board zs ≡ 0 → (x : Bool) → ltb room (length (packed (listOf board zs limit))) ≡ x → Right
     by-room k u true p =
         let s = ltb-true room (length (packed (listOf board zs limit))) p in
-        given (passed board zs address limit room h e l c k ∙ wrong-room board zs address limit room u s) (short (record { long = h; fixed = u; limited = l }) s)
+        given (passed board zs address limit room h e l c k ∙ wrong-room board zs address limit room u s)
+        (short (record { long = h; fixed = u; limited = l }) s)
     by-room k u false p =
         let s = ltb-false room (length (packed (listOf board zs limit))) p in
         given (passed board zs address limit room h e l c k ∙ no-row board zs address limit room u s) (planned (record { long = h; fixed = u; limited = l }))

@@ -41,10 +41,10 @@ map-is m test small same past i = split (ltb i 64) refl
     split false e = let h = ltb-false i 64 e in has-past 64 m i small h ∙ sym (past i h)
 
 -- the word's registers
-abbrev wordMap : ℕ
+abbrev pub wordMap : ℕ
 wordMap = 0xF000
 
-word-is : (i : ℕ) → has wordMap i ≡ inWord i
+pub word-is : (i : ℕ) → has wordMap i ≡ inWord i
 word-is = map-is wordMap inWord (lit< tt) tt (λ i h. among-out 0x0c 0x0f i (inr (omega arith)))
 
 -- the registers that a byte may be written to
@@ -52,13 +52,13 @@ writable-is : (i : ℕ) → has 0x2F_FFFF_FFE1_FFFF i ≡ writable i
 writable-is = map-is 0x2F_FFFF_FFE1_FFFF writable (lit< tt) tt (λ i h. rw (le-ltb i registerCount (omega arith)))
 
 -- the empty map has no register
-none-has : (i : ℕ) → has 0 i ≡ false
+pub none-has : (i : ℕ) → has 0 i ≡ false
 none-has i = has-past 0 0 i (omega arith) (omega arith)
 
 -- ---- by which registers are known
 
 -- in a map and not in another
-has-without : (m k i : ℕ) → m < 2 ^ 64 → k < 2 ^ 64 → has (bitAnd m (complement k)) i ≡ (not (has k i) && has m i)
+pub has-without : (m k i : ℕ) → m < 2 ^ 64 → k < 2 ^ 64 → has (bitAnd m (complement k)) i ≡ (not (has k i) && has m i)
 has-without m k i hm hk = has-and m (complement k) i ∙ split (ltb i 64) refl
   where
     turned : (x y : Bool) → (x && not y) ≡ (not y && x)
@@ -96,7 +96,7 @@ allowed-has known fixed i =
 -- ---- the needed registers
 
 module _ (d : ℕ) where
-  in-both : (i : ℕ) → has (bitAnd d wordMap) i ≡ (has d i && inWord i)
+  pub in-both : (i : ℕ) → has (bitAnd d wordMap) i ≡ (has d i && inWord i)
   in-both i = has-and d wordMap i ∙ ap (λ (b : Bool). has d i && b) (word-is i)
 
   -- where no register of the word differs

@@ -1,4 +1,5 @@
 pub mod Aims
 pub mod Rows
+pub mod Checks
 pub mod Planning
 pub mod NoLimit

@@ -3,8 +3,8 @@ ghost use mathlib.Core.Path.{_≡_};
 ghost use Prim.Native.Nat.{ℕ, _≤_, _<_};
 ghost use lib.ListN.{length, take};
 ghost use Rattle.refusals.specs.Verdict.{refusedAt};
-ghost use Rattle.refusals.specs.Order.{firstOf, Exactly};
-ghost use Rattle.planning.specs.Plan.{countsOf, packingOf, leftBy, planAfter, done, answerOf};
+ghost use Rattle.refusals.specs.Order.{Exactly};
+ghost use Rattle.planning.specs.Plan.{countsOf, packingOf, planAfter, done, answerOf};
 ghost use Rattle.adv7194_bus.specs.Board.{boardOf};
 ghost use Rattle.adv7194_settings.specs.Wanted.{wantedBy};
 ghost use Rattle.adv7194_settings.specs.Demand.{Demanded};
@@ -13,32 +13,25 @@ ghost use Rattle.adv7194_least.specs.Change.{Change};
 ghost use Rattle.adv7194_least.specs.Plan.{planOf};
 ghost use Rattle.adv7194_least.specs.Played.{Played};
 ghost use Rattle.adv7194_least.specs.Demands.{Counted, Least, First, Only, mostBytes, wideLimit, wideBytes};
-ghost use Rattle.adv7194_planning.specs.Aims.{aimBy, Ready};
-ghost use Rattle.adv7194_planning.specs.Rows.{listOf, rowPlanned, lastChecks, planOrder};
+ghost use Rattle.adv7194_planning.specs.Aims.{aimBy};
+ghost use Rattle.adv7194_planning.specs.Rows.{listOf, rowPlanned, planOrder};
 ghost use Rattle.adv7194_planning.specs.Planning.{planningOf, planLeft};
-use crate::registers::allowed_registers;
-use crate::registers::changed_registers;
 use crate::registers::fixed_registers;
-use crate::registers::held_registers;
-use crate::registers::must_registers;
-use crate::registers::needed_registers;
-use crate::registers::partly_fixed_registers;
-use crate::registers::unfixed_registers;
+use crate::registers::register_maps;
 use adv7194_bus::REGISTERS;
 use adv7194_bus::address_right;
 use adv7194_bus::board::Board;
 use adv7194_bus::board::board_of;
-use adv7194_bus::limit_right;
-use adv7194_settings::NUMBERS;
-use adv7194_table::lowest_field;
-use adv7194_wanted::want;
 use field_table::Checked;
 use planning::plan::NO_FIELD;
 use planning::plan::Planned;
 use planning::plan::pack;
 use refusals::Refusal;
 
-mod registers;
+mod checks;
+pub mod registers;
+
+pub use checks::check;
 
 // Plans the change from a board to a wanted image, of which every bit of the registers of a map is fixed, with a limit, into the lent plan.
 fn plan_change(board: Board, fixed: u64, wanted: &[u8], limit: u32, plan: &mut [u8]) -> Planned
@@ -46,30 +39,15 @@ fn plan_change(board: Board, fixed: u64, wanted: &[u8], limit: u32, plan: &mut [
     ensures answer { λ r. ⌜ answerOf r ≡ packingOf (planOf (aimBy board (now (wanted .entry)) fixed limit)) (length (now (plan .entry))) ⌝ }
     ensures memory { λ r. ⌜ now (plan .exit) ≡ planAfter (planOf (aimBy board (now (wanted .entry)) fixed limit)) (now (plan .entry)) ⌝ }
 {
-    let registers = board.registers;
-    let known = board.known;
-    let must = must_registers(changed_registers(&registers, wanted), known, fixed);
-    let needed = needed_registers(must);
-    let allowed = allowed_registers(known, fixed);
-    let held = held_registers(needed);
-    pack(plan, needed, allowed, held, limit as usize, wanted)
-}
-
-// Plans settings that pass the check over a board, with the image that they want and a right limit, into the lent plan.
-fn plan_board(board: Board, numbers: &[i32], wanted: &[u8], limit: u32, plan: &mut [u8]) -> Planned
-    requires { ⌜ Ready board (now numbers) (now wanted) limit ⌝ }
-    ensures answer { λ r. ⌜ ((address : ℕ) → answerOf r ≡ firstOf (rowPlanned board (now (numbers .entry)) address limit (length (now (plan .entry)))) lastChecks (countsOf (listOf board (now (numbers .entry)) limit))) ⌝ }
-    ensures memory { λ r. ⌜ now (plan .exit) ≡ leftBy (listOf board (now (numbers .entry)) limit) (now (plan .entry)) (answerOf r) ⌝ }
-{
-    let unfixed = unfixed_registers(partly_fixed_registers(numbers), board.known);
-    let field = lowest_field(unfixed);
-    if field != NO_FIELD {
-        return Planned::Refused {
-            refusal: Refusal::RegisterUnknown,
-            field,
-        };
-    }
-    plan_change(board, fixed_registers(numbers), wanted, limit, plan)
+    let maps = register_maps(board, fixed, wanted);
+    pack(
+        plan,
+        maps.needed,
+        maps.allowed,
+        maps.held,
+        limit as usize,
+        wanted,
+    )
 }
 
 // Plans the settings over an image of which the registers in a map are known, for the chip at a bus address, with a limit on the data of a transaction, into
@@ -108,22 +86,10 @@ pub fn plan(
             field: NO_FIELD,
         };
     }
-    if !limit_right(limit) {
-        return Planned::Refused {
-            refusal: Refusal::OutOfRange,
-            field: NO_FIELD,
-        };
-    }
-    if numbers.len() != NUMBERS {
-        return Planned::Refused {
-            refusal: Refusal::OutOfRange,
-            field: NO_FIELD,
-        };
-    }
     let board = board_of(image, known);
     let mut wanted = board.registers;
-    match want(numbers, &mut wanted) {
+    match check(known, numbers, limit, &mut wanted) {
         Checked::Refused { refusal, field } => Planned::Refused { refusal, field },
-        Checked::Good => plan_board(board, numbers, &wanted, limit, plan),
+        Checked::Good => plan_change(board, fixed_registers(numbers), &wanted, limit, plan),
     }
 }

@@ -12,10 +12,11 @@ ghost use Rattle.adv7194_signalling.specs.Signalling.{numberOf};
 ghost use Rattle.adv7194_settings.specs.Codes.{numbersIn};
 ghost use Rattle.adv7194_settings.specs.Known.{fixesAll, fixesSome};
 ghost use Rattle.adv7194_least.specs.Plan.{among, writable, withWord};
-ghost use Rattle.adv7194_planning.specs.Aims.{Comparable, Passing};
+ghost use Rattle.adv7194_planning.specs.Aims.{aimBy, Comparable, Passing, MapsOf};
 use adv7194_bus::BARRED;
 use adv7194_bus::REGISTERS;
 use adv7194_bus::WORD;
+use adv7194_bus::board::Board;
 use adv7194_table::blocks::SIGNALLING;
 use adv7194_table::blocks::block_of;
 use adv7194_table::field_masks;
@@ -46,6 +47,14 @@ const WORD_FIRST: u64 = 1 << 0x0C;
 const HALF: usize = 0x1B;
 
 const END: usize = REGISTERS as usize;
+
+// The registers that are needed by themselves, those that are needed, those that a plan may write, and those before which no transaction may end.
+pub struct RegisterMaps {
+    pub must: u64,
+    pub needed: u64,
+    pub allowed: u64,
+    pub held: u64,
+}
 
 // The registers where a wanted image differs from the starting one. The table of field masks decides which are compared: no others are set.
 pub fn changed_registers(image: &[u8], wanted: &[u8]) -> u64
@@ -128,4 +137,21 @@ pub fn unfixed_registers(partly: u64, known: u64) -> u64
     ensures answer { λ r. ⌜ ((i : ℕ) → has r i ≡ (not (has known i) && has partly i)) ⌝ }
 {
     partly & !known
+}
+
+// The maps that a plan from a board to a wanted image is made of, where every bit of the registers of a map is fixed.
+pub fn register_maps(board: Board, fixed: u64, wanted: &[u8]) -> RegisterMaps
+    requires { ⌜ Comparable (board .registers) (now wanted) ⌝ }
+    ensures answer { λ r. ⌜ ((limit : ℕ) → MapsOf (aimBy board (now (wanted .entry)) fixed limit) r) ⌝ }
+{
+    let registers = board.registers;
+    let known = board.known;
+    let must = must_registers(changed_registers(&registers, wanted), known, fixed);
+    let needed = needed_registers(must);
+    RegisterMaps {
+        must,
+        needed,
+        allowed: allowed_registers(known, fixed),
+        held: held_registers(needed),
+    }
 }

@@ -19,6 +19,8 @@ const PLAY: u64 = 0x706C_6179;
 
 const READ: u64 = 0x7265_6164;
 
+const WHY: u64 = 0x77_6879;
+
 const CAPTION: u64 = 0x63_6170_7469_6F6E;
 
 const PLAYCAP: u64 = 0x70_6C61_7963_6170;
@@ -52,6 +54,15 @@ fn with_plan(tokens: Tokens, word: u64, image: &mut [u8], context: Context) -> b
     calls::play(held[1], held[2], image, context, &plan[0..n])
 }
 
+// Answers a record of why a register is sent, if it is one: it has no second list.
+fn why(tokens: Tokens, image: &[u8], context: Context) -> bool {
+    if tokens.middle != tokens.count {
+        return false;
+    }
+    let held = tokens.held;
+    calls::why(held, tokens.numbers, image, context)
+}
+
 // Answers a record with an image, if it is one.
 fn with_image(tokens: Tokens, word: u64, image: &mut [u8], context: Context) -> bool {
     if (word == READ) & (tokens.numbers == 1) & (tokens.middle == tokens.count) {
@@ -67,6 +78,9 @@ fn with_image(tokens: Tokens, word: u64, image: &mut [u8], context: Context) -> 
     if word == READ {
         return false;
     }
+    if word == WHY {
+        return why(tokens, image, context);
+    }
     if word == EVENTS {
         return chip::events(tokens, image, context);
     }
@@ -78,6 +92,7 @@ fn has_image(word: u64) -> bool {
     (word == PLAN)
         | (word == PLAY)
         | (word == READ)
+        | (word == WHY)
         | (word == EVENTS)
         | (word == PLAYCAP)
         | (word == READCAP)

@@ -4,6 +4,7 @@ use crate::print;
 use crate::tokens;
 use adv7194_answers::plan_numbers::PlanAnswer;
 use adv7194_answers::play_numbers::PlayAnswer;
+use adv7194_answers::why_numbers::WhyAnswer;
 
 // The most settings of a record, and where they begin.
 const MOST_SETTINGS: usize = 64;
@@ -18,7 +19,7 @@ const MOST_CHARACTERS: usize = 8;
 
 const FIRST_CHARACTER: usize = 2;
 
-// The settings of a record of planning, or the numbers of one of captions: those after the address.
+// The settings of a record of planning or of why a register is sent, or the numbers of one of captions: those after the first number.
 fn settings(held: [u64; 192]) -> [i32; 64] {
     let mut settings = [0i32; 64];
     let mut i = 0;
@@ -65,6 +66,35 @@ fn planned(answer: PlanAnswer) {
     print::decimal(answer.length);
     print::decimal(answer.transactions);
     print::decimal(answer.bus_bytes);
+}
+
+// Why a register is sent: the word, the register and the settings, and the image.
+pub(crate) fn why(held: [u64; 192], numbers: usize, image: &[u8], context: Context) -> bool {
+    if numbers < 2 {
+        return false;
+    }
+    let count = numbers - 2;
+    if MOST_SETTINGS < count {
+        return false;
+    }
+    let settings = settings(held);
+    let answer = adv7194_c::adv7194_why(
+        image,
+        context.known,
+        &settings[0..count],
+        context.limit,
+        tokens::unsigned(held[1]),
+    );
+    explained(answer);
+    true
+}
+
+// The reason that is answered, and what it names.
+fn explained(answer: WhyAnswer) {
+    print::verdict(answer.refusal, answer.field);
+    print::decimal(answer.reason);
+    print::decimal(answer.first);
+    print::decimal(answer.second);
 }
 
 // Planning captions: the word and numbers, and the lent plan. After the address the numbers are how many characters each pair has, and the characters.

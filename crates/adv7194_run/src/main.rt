@@ -2,6 +2,8 @@
 // number and between bytes, a colon before the first list and a semicolon before the second:
 //
 //   plan ADDRESS SETTINGS..:IMAGE..;LENT..  planning into the lent bytes: length, transactions, bus bytes, and the lent bytes after it
+//   why SUBADDRESS SETTINGS..:IMAGE..       why planning sends a register: the reason and what it names, two numbers (0 not sent, 1 unknown, 2 a field
+//                                           changed, 3 must be zero, 4 sent with the subcarrier word, 5 between two needed registers)
 //   play USED OWN:IMAGE..;PLAN..            playing: 1 where every byte was acknowledged, and the image after it
 //   read:IMAGE..                            reading: the 49 settings
 //   caption ADDRESS E O CHARACTERS..;LENT..  planning captions into the lent bytes, E characters of the extended pair and then O of the ordinary one, at

@@ -1,3 +1,4 @@
 pub mod TableLaws
 pub mod MaskLaws
+pub mod SettingLaws
 pub mod RegisterLaws

@@ -51,7 +51,7 @@ one-below P (suc n) r h e = split (eqb r n) refl (λ k. one-below P n r k e)
     split false d ih = let z = eqb-false r n d in let there : someBelow P n ≡ true = ih (omega arith) in rw there (or-true (P n))
 
 -- a map of n registers has one of them exactly where it isn't 0
-some-of-map : (n m : ℕ) → m < 2 ^ n → someBelow (has m) n ≡ not (eqb m 0)
+pub some-of-map : (n m : ℕ) → m < 2 ^ n → someBelow (has m) n ≡ not (eqb m 0)
 some-of-map n m h = split (eqb m 0) refl
   where
     split : (b : Bool) → eqb m 0 ≡ b → someBelow (has m) n ≡ not b

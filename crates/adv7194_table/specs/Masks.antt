@@ -51,6 +51,10 @@ unfoldable pub blocksMask : ℕ → ℕ → List Block → ℕ
 blocksMask n r [] = 0
 blocksMask n r (b ∷ bs) = cond (eqb (b .field) n) (blockBits b r) 0 + blocksMask n r bs
 
+-- the bits of register r that belong to field n, must-be-zero bits apart
+unfoldable pub settingMask : ℕ → ℕ → ℕ
+settingMask n r = maskWhere (λ e. eqb (fieldOf e) n && not (mustBeZero e)) table r
+
 -- the bits of register r outside all fields
 unfoldable pub outsideMask : ℕ → ℕ
 outsideMask r = 0xFF - (fieldMask r + zeroMask r)

@@ -6,11 +6,19 @@ use lib.Bits.{bitAnd}
 use lib.Dec.{eqb}
 use lib.ListN.{getD}
 use Rattle.adv7194_bus.specs.Kind.{registerCount}
-use Rattle.adv7194_table.specs.Masks.{ownMask, outsideMask}
+use Rattle.adv7194_table.specs.Masks.{ownMask, settingMask, zeroMask, outsideMask}
 
 -- what an image has in field n's bits of register r, every other bit zero
 abbrev pub ownBits : List ℕ → ℕ → ℕ → ℕ
 ownBits image n r = bitAnd (getD image r 0) (ownMask n r)
+
+-- what it has in those of them that must-be-zero bits are apart from
+abbrev pub settingBits : List ℕ → ℕ → ℕ → ℕ
+settingBits image n r = bitAnd (getD image r 0) (settingMask n r)
+
+-- what it has in register r's must-be-zero bits, every other bit zero
+abbrev pub zeroBits : List ℕ → ℕ → ℕ
+zeroBits image r = bitAnd (getD image r 0) (zeroMask r)
 
 -- what it has in register r's bits outside all fields, every other bit zero
 abbrev pub outsideBits : List ℕ → ℕ → ℕ

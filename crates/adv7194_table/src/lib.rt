@@ -11,5 +11,7 @@ pub use masks::must_be_zero;
 pub use own::outside_bits;
 pub use own::own_bits;
 pub use own::own_mask;
+pub use own::setting_bits;
+pub use own::zero_bits;
 pub use registers::field_registers;
 pub use registers::lowest_field;

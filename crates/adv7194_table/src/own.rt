@@ -7,10 +7,12 @@ ghost use Rattle.field_table.specs.Rows.{rowOf};
 ghost use Rattle.adv7194_bus.specs.Kind.{registerCount};
 ghost use Rattle.adv7194_table.specs.Blocks.{blockOf};
 ghost use Rattle.adv7194_table.specs.Table.{table, singleFields, rowsIn, blocksIn};
-ghost use Rattle.adv7194_table.specs.Masks.{rowBits, blockBits, rowsMask, blocksMask, ownMask};
-ghost use Rattle.adv7194_table.specs.RawCodes.{ownBits, outsideBits};
+ghost use Rattle.adv7194_table.specs.Masks.{rowBits, blockBits, rowsMask, blocksMask, ownMask, settingMask};
+ghost use Rattle.adv7194_table.specs.RawCodes.{ownBits, settingBits, zeroBits, outsideBits};
 use crate::blocks::block_of;
 use crate::blocks::blocks;
+use crate::masks::field_masks;
+use crate::masks::must_be_zero;
 use crate::masks::outside;
 use crate::rows::rows;
 use field_table::row::row_of;
@@ -102,6 +104,38 @@ pub fn own_bits(image: &[u8], field: u8, register: usize) -> u8
 {
     if register < image.len() {
         return image[register] & own_mask(field, register);
+    }
+    0
+}
+
+// The bits of a register that belong to a field, must-be-zero bits apart.
+fn setting_mask(field: u8, register: usize) -> u8
+    requires { ⌜ register < registerCount ⌝ }
+    ensures answer { λ r. ⌜ r ≡ settingMask field register ⌝ }
+{
+    let own = own_mask(field, register);
+    let masks = field_masks();
+    own & masks[register]
+}
+
+// What an image has in them, every other bit zero; 0 where it has no such register.
+pub fn setting_bits(image: &[u8], field: u8, register: usize) -> u8
+    requires { ⌜ register < registerCount ⌝ }
+    ensures answer { λ r. ⌜ r ≡ settingBits (now (image .entry)) field register ⌝ }
+{
+    if register < image.len() {
+        return image[register] & setting_mask(field, register);
+    }
+    0
+}
+
+// What an image has in a register's must-be-zero bits, every other bit zero; 0 where it has no such register.
+pub fn zero_bits(image: &[u8], register: usize) -> u8
+    requires { ⌜ register < registerCount ⌝ }
+    ensures answer { λ r. ⌜ r ≡ zeroBits (now (image .entry)) register ⌝ }
+{
+    if register < image.len() {
+        return image[register] & must_be_zero(register);
     }
     0
 }

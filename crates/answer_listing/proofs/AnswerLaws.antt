@@ -67,7 +67,11 @@ module _ (ts : List Transaction) (plan after : List ℕ) where
   unpacked : (n : Counts) → Plans ts plan after (good n) → unpack (take (n .length) after) ≡ accepted ts
   unpacked n p = ap unpack (first-bytes n p) ∙ p .unpacks n refl
 
-  -- so what is left of the lent plan holds the answer
+  -- so the transactions of the answer are the list
+  pub list-is : (n : Counts) → Plans ts plan after (good n) → listIn after (good n) ≡ ts
+  list-is n p = ap listed (unpacked n p)
+
+  -- what is left of the lent plan holds the answer
   pub holds : (v : Verdict Counts) → Plans ts plan after v → Holds after v
   holds (good n) p =
       let u = unpacked n p in
@@ -81,5 +85,5 @@ module _ (ts : List Transaction) (plan after : List ℕ) where
 
   -- and the answer's text is the list's
   pub text-of : (v : Verdict Counts) → Plans ts plan after v → answerText (listIn after v) v ≡ answerText ts v
-  text-of (good n) p = ap (λ (j : Judged (List Transaction)). planText (listed j)) (unpacked n p)
+  text-of (good n) p = ap planText (list-is n p)
   text-of (refusedAt n f) p = refl

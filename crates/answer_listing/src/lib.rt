@@ -17,7 +17,7 @@ use planning::plan::Planned;
 use text::Place;
 
 // The first line of what a planner answered: the plan's counts, or the refusal.
-fn first_line(planned: Planned) -> Line
+pub fn first_line(planned: Planned) -> Line
     ensures answer { λ r. ⌜ r ≡ lineOf (firstLine (answerOf planned)) ⌝ }
 {
     match planned {

@@ -11,6 +11,7 @@ use Rattle.packing.specs.Packing.{packed}
 use Rattle.unpacking.specs.Unpacking.{unpack}
 use Rattle.planning.specs.Plan.{Counts, countsOf, leftBy}
 use Rattle.answer_listing.proofs.AnswerLaws.{Plans}
+use Rattle.adv7194_bus.specs.Kind.{registerCount}
 use Rattle.adv7194_bus.specs.Address.{boardAddress}
 use Rattle.adv7194_bus.specs.Limit.{noLimit}
 use Rattle.adv7194_settings.specs.House.{house}
@@ -39,13 +40,20 @@ module _ (image plan : List ℕ) where
   unfolding listOf
   unpacked bytes p = plan-unpacks (aimOf (boardIn image) house noLimit) (change (boardIn image) house noLimit bytes p)
 
-  -- the house setting's planner is one of its list
-  pub plans : ((r : ℕ) → getD image r 0 < 2 ^ 8) → (after : List ℕ) → after ≡ planLeft (boardIn image) house boardAddress noLimit plan
-      → (v : Verdict Counts) → v ≡ planningOf (boardIn image) house boardAddress noLimit (length plan) → Plans list plan after v
-  plans bytes after memory v answer =
-      let came = subst (Outcome (boardIn image) house noLimit (length plan)) (sym answer) (outcome (boardIn image) house boardAddress noLimit (length plan)) in
-      record {
-        left = memory ∙ ap (leftBy list plan) (sym answer);
-        counts = λ n e. sized v came n e .1;
-        unpacks = λ n e. unpacked bytes (sized v came n e .0);
-      }
+  module _ (v : Verdict Counts) (answer : v ≡ planningOf (boardIn image) house boardAddress noLimit (length plan)) where
+    came : Outcome (boardIn image) house noLimit (length plan) v
+    came = subst (Outcome (boardIn image) house noLimit (length plan)) (sym answer) (outcome (boardIn image) house boardAddress noLimit (length plan))
+
+    -- an image that was planned over has 54 bytes
+    pub image-whole : (n : Counts) → v ≡ good n → length image ≡ registerCount
+    image-whole n e = sized v came n e .0 .long
+
+    -- the house setting's planner is one of its list
+    pub plans : ((r : ℕ) → getD image r 0 < 2 ^ 8) → (after : List ℕ) → after ≡ planLeft (boardIn image) house boardAddress noLimit plan
+        → Plans list plan after v
+    plans bytes after memory =
+        record {
+          left = memory ∙ ap (leftBy list plan) (sym answer);
+          counts = λ n e. sized v came n e .1;
+          unpacks = λ n e. unpacked bytes (sized v came n e .0);
+        }

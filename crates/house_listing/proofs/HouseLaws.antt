@@ -55,12 +55,12 @@ unfolding firstOf placesAt placesOf orderOf rowHolds someOf table singles timing
 no-fault = refl
 
 -- so it is accepted
-house-good : checkOf house ≡ good tt
+pub house-good : checkOf house ≡ good tt
 unfolding checkOf order
 house-good = no-fault
 
 -- and it is as many numbers as settings are
-house-count : length house ≡ numberCount
+pub house-count : length house ≡ numberCount
 unfolding house
 house-count = refl
 

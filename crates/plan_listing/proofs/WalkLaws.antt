@@ -9,7 +9,7 @@ use lib.ListN.{length, take, drop, getD, length-append}
 use lib.Seq.{sets-eq, take-at}
 use denote.Enum.Declared.{tagOf}
 use types.Run.{OneOf, miss}
-use Rattle.refusals.specs.Refusal.{Judged, refused}
+use Rattle.refusals.specs.Refusal.{refused}
 use Rattle.bits.specs.Strings.{firstBytes}
 use Rattle.bits.proofs.ByteLaws.{firstBytes-length}
 use Rattle.bus.specs.Transactions.{Transaction}
@@ -62,50 +62,55 @@ module _ {plan : List ℕ} {c : Cursor} {subaddress count : ℕ} {first : Place}
 
 -- ---- a well-formed plan
 
-module _ {out₀ : List ℕ} {at : ℕ} {plan out : List ℕ} {c : Cursor} {end : ℕ} (l : Listing out₀ at plan out c end) (e : Accepted plan)
-    (room : at + length (transactionLines (listed (unpack plan))) ≤ length out₀) where
+module _ {plan : List ℕ} {done : List Transaction} {c : Cursor} (w : Walked plan Ascending done c) (e : Accepted plan) where
   -- it is not refused
   not-refused : unpack plan ≡ refused 9 → ⊥
   not-refused f = let z : _≡_ {A = ℕ} 0 1 = cc in omega arith
 
+  -- transactions passed are the first of the plan's
+  pub passed-first : (us : List Transaction) × (listed (unpack plan) ≡ done ++ us)
+  passed-first = ⊎-elim (λ f. absurd (not-refused f)) (λ p. (p .0, ap listed (p .1))) (walk-so-far w)
+
   -- after the last transaction all were passed
-  pub all-passed : (r : Step) → OneOf (1 ∷ 2 ∷ []) (tagOf the-type r) → Stepped plan c r → listed (unpack plan) ≡ l .done
+  pub all-passed : (r : Step) → OneOf (1 ∷ 2 ∷ []) (tagOf the-type r) → Stepped plan c r → listed (unpack plan) ≡ done
   all-passed (Found subaddress count first after) h s = absurd (miss (1 ∷ 2 ∷ []) 0 tt h)
-  all-passed End h s = ap listed (walk-ends (l .walked) s)
-  all-passed Fault h s = absurd (not-refused (walk-fails (l .walked) s))
+  all-passed End h s = ap listed (walk-ends w s)
+  all-passed Fault h s = absurd (not-refused (walk-fails w s))
 
-  -- transactions passed are some of the plan's
-  passed-lines : {done : List Transaction} {c : Cursor} → Walked plan Ascending done c
-      → length (transactionLines done) ≤ length (transactionLines (listed (unpack plan)))
-  passed-lines {done} {c} w =
-      ⊎-elim (λ f. absurd (not-refused f))
-      (λ p.
-      let all = ap (λ (j : Judged (List Transaction)). length (transactionLines (listed j))) (p .1) in
-      omega (arith, all, ap length (lines-append done (p .0)), length-append (transactionLines done) (transactionLines (p .0))))
-      (walk-so-far w)
+-- the lines of transactions passed are no longer than those of all
+passed-lines : {plan : List ℕ} {done : List Transaction} {c : Cursor} → Walked plan Ascending done c → Accepted plan
+    → length (transactionLines done) ≤ length (transactionLines (listed (unpack plan)))
+passed-lines {plan} {done} w e =
+    let p = passed-first w e in
+    let all = ap (λ (ts : List Transaction). length (transactionLines ts)) (p .1) in
+    omega (arith, all, ap length (lines-append done (p .0)), length-append (transactionLines done) (transactionLines (p .0)))
 
-  module _ {subaddress count : ℕ} {first : Place} {after : Cursor} (g : Went plan c subaddress count first after) where
-    abbrev found : Transaction
-    found = transactionAt plan subaddress count first
+-- ---- the lines of a well-formed plan
 
-    long : length (transactionLine found) ≡ 3 * (count + 1)
-    long = omega (arith, line-length found, firstBytes-length count (leftAt plan first))
+module _ {out₀ : List ℕ} {at : ℕ} {plan out : List ℕ} {c : Cursor} {end : ℕ} (l : Listing out₀ at plan out c end) (e : Accepted plan)
+    (room : at + length (transactionLines (listed (unpack plan))) ≤ length out₀) {subaddress count : ℕ} {first : Place} {after : Cursor}
+    (g : Went plan c subaddress count first after) where
+  abbrev found : Transaction
+  found = transactionAt plan subaddress count first
 
-    -- there is room for one more line
-    pub line-room : end + 3 * (count + 1) ≤ length out₀
-    line-room =
-        let passed = passed-lines (walk-goes (l .walked) g) in
-        let both = ap length (lines-more (l .done) found) in
-        omega (arith, long, passed, both, length-append (transactionLines (l .done)) (transactionLine found), l .written .here, room)
+  long : length (transactionLine found) ≡ 3 * (count + 1)
+  long = omega (arith, line-length found, firstBytes-length count (leftAt plan first))
 
-    -- which was written
-    pub listing-goes : (now : List ℕ) (place : ℕ) → now ≡ appended out end (transactionLine found) → place ≡ end + 3 * (count + 1)
-        → Listing out₀ at plan now after place
-    listing-goes now place m p =
-        let past : place ≡ end + length (transactionLine found) = omega (arith, p, long) in
-        let more = next (l .written) (transactionLine found) (omega (arith, line-room, long)) m past in
-        record {
-          done = l .done ++ (found ∷ []);
-          walked = walk-goes (l .walked) g;
-          written = subst (λ (t : List ℕ). Written out₀ at t now place) (lines-more (l .done) found) more;
-        }
+  -- there is room for one more line
+  pub line-room : end + 3 * (count + 1) ≤ length out₀
+  line-room =
+      let passed = passed-lines (walk-goes (l .walked) g) e in
+      let both = ap length (lines-more (l .done) found) in
+      omega (arith, long, passed, both, length-append (transactionLines (l .done)) (transactionLine found), l .written .here, room)
+
+  -- which was written
+  pub listing-goes : (now : List ℕ) (place : ℕ) → now ≡ appended out end (transactionLine found) → place ≡ end + 3 * (count + 1)
+      → Listing out₀ at plan now after place
+  listing-goes now place m p =
+      let past : place ≡ end + length (transactionLine found) = omega (arith, p, long) in
+      let more = next (l .written) (transactionLine found) (omega (arith, line-room, long)) m past in
+      record {
+        done = l .done ++ (found ∷ []);
+        walked = walk-goes (l .walked) g;
+        written = subst (λ (t : List ℕ). Written out₀ at t now place) (lines-more (l .done) found) more;
+      }

@@ -49,7 +49,7 @@ fn data_bytes(plan: &[u8], transactions: u8) -> usize
 }
 
 // Writes the line of a transaction, where there is room for it, and answers the place after it.
-fn put_line(out: &mut [u8], at: usize, subaddress: u8, bytes: &[u8]) -> usize
+pub fn put_line(out: &mut [u8], at: usize, subaddress: u8, bytes: &[u8]) -> usize
     requires { ⌜ at + 3 * (length (now bytes) + 1) ≤ length (now out) ⌝ }
     ensures answer { λ r. ⌜ r ≡ at + 3 * (length (now (bytes .entry)) + 1) ⌝ }
     ensures memory { λ r. ⌜ now (out .exit) ≡ appended (now (out .entry)) at (transactionLine (record { subaddress = subaddress; bytes = now (bytes .entry) })) ⌝ }

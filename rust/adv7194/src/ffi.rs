@@ -76,6 +76,22 @@ pub struct CompareAnswer {
     pub registers: u64,
 }
 
+/// What asking why a register is sent answers. After a refusal the last three are 0.
+#[repr(C)]
+#[derive(Clone, Copy, Debug, PartialEq, Eq)]
+pub struct WhyAnswer {
+    /// The refusal, or 0.
+    pub refusal: u32,
+    /// The field at fault, or 0.
+    pub field: u32,
+    /// The reason, 1 to 5, or 0 where the register isn't sent.
+    pub reason: u32,
+    /// The field that changes, or the needed register below a bridge; else 0.
+    pub first: u32,
+    /// The needed register above a bridge; else 0.
+    pub second: u32,
+}
+
 /// What reading a pair of captions answers. After a refusal the last two are 0.
 #[repr(C)]
 #[derive(Clone, Copy, Debug, PartialEq, Eq)]
@@ -102,6 +118,16 @@ extern "C" {
         plan: *mut u8,
         plan_len: usize,
     ) -> PlanAnswer;
+
+    fn adv7194_why(
+        image: *const u8,
+        image_len: usize,
+        known: u64,
+        settings: *const i32,
+        settings_len: usize,
+        limit: u32,
+        subaddress: u32,
+    ) -> WhyAnswer;
 
     fn adv7194_play(
         image: *mut u8,
@@ -182,6 +208,23 @@ pub fn plan(
             limit,
             plan.as_mut_ptr(),
             plan.len(),
+        )
+    }
+}
+
+/// Asks why a register is sent, with the archive's own numbers.
+#[inline]
+pub fn why(image: &[u8], known: u64, settings: &[i32], limit: u32, subaddress: u32) -> WhyAnswer {
+    // Sound: as in `plan`.
+    unsafe {
+        adv7194_why(
+            image.as_ptr(),
+            image.len(),
+            known,
+            settings.as_ptr(),
+            settings.len(),
+            limit,
+            subaddress,
         )
     }
 }

@@ -1,5 +1,5 @@
 //! Plans, plays, reads back and compares the settings of ADV7194 video encoders,
-//! and plans, plays and reads back their captions.
+//! says why a register is sent, and plans, plays and reads back their captions.
 //!
 //! The work is done by a proved archive with a C interface; this crate gives it
 //! safe functions and types. All `unsafe` is in the module [`ffi`].
@@ -7,8 +7,8 @@
 //! A [`Board`] is 54 bytes, one for each register of its chip, with a flag for
 //! each: only some may be known, after a power dip say. [`plan`] works out the
 //! least list of write transactions that brings a chip to given settings,
-//! and packs it into lent bytes. [`transactions`] takes a packed plan apart, to
-//! send it. [`play`] says what a chip holds after a packed plan, and what of it is
+//! and packs it into lent bytes; [`why`] says why that plan writes a register.
+//! [`transactions`] takes a packed plan apart, to send it. [`play`] says what a chip holds after a packed plan, and what of it is
 //! then known. [`read`] gives the settings that a board holds, [`compare`] says in
 //! what two images differ. [`plan_captions`], [`play_captions`] and
 //! [`read_captions`] do the same for pairs of caption characters, which are no
@@ -47,6 +47,7 @@ mod numbers;
 mod refusal;
 mod settings;
 mod transactions;
+mod why;
 
 pub use board::{Board, ALL_KNOWN, REGISTERS};
 pub use captions::{plan_caption_numbers, plan_captions, play_captions, read_captions};
@@ -56,6 +57,7 @@ pub use numbers::{index, Numbers, NUMBERS};
 pub use refusal::{Reason, Refusal};
 pub use settings::{Curve, Settings, Signalling, Standard, YLevel, CURVE_BYTES};
 pub use transactions::{transactions, Transaction, Transactions, DATA_ROOM};
+pub use why::{why, why_numbers, Why};
 
 /// The limit on a transaction's data bytes that is none: the highest.
 pub const NO_LIMIT: u32 = 54;

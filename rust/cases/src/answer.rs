@@ -66,6 +66,7 @@ fn answer_record(record: &Record, given: &mut Given) -> Option<String> {
             Some(verdict(0, 0))
         }
         ("plan", [address, settings @ ..], _) => plan(record, *given, *address, settings),
+        ("why", [register, settings @ ..], (_, false)) => why(record, *given, *register, settings),
         ("caption", [address, numbers @ ..], (false, _)) => caption(record, *address, numbers),
         ("play", [used, own], _) => play(record, plain::play, *given, *used, *own),
         ("playcap", [used, own], _) => play(record, plain::play_captions, *given, *used, *own),
@@ -124,15 +125,33 @@ fn known(record: &Record, given: &mut Given) -> Option<String> {
     Some(verdict(0, 0))
 }
 
+/// Settings or characters.
+fn all_signed(numbers: &[i64]) -> Vec<i32> {
+    numbers.iter().map(|&number| signed(number)).collect()
+}
+
 /// Planning.
 fn plan(record: &Record, given: Given, address: i64, settings: &[i64]) -> Option<String> {
-    let settings: Vec<i32> = settings.iter().map(|&number| signed(number)).collect();
+    let settings = all_signed(settings);
     let mut lent = record.second()?;
     let image = record.first()?;
     let (known, limit) = (given.known(), given.limit);
     let address = unsigned(address);
     let answer = plain::plan(&image, known, &settings, address, limit, &mut lent);
     Some(planned(answer, &lent))
+}
+
+/// Why a register is sent.
+fn why(record: &Record, given: Given, register: i64, settings: &[i64]) -> Option<String> {
+    let (settings, image) = (all_signed(settings), record.first()?);
+    let (known, limit) = (given.known(), given.limit);
+    let answer = plain::why(&image, known, &settings, limit, unsigned(register));
+    Some(joined(&[
+        verdict(answer.refusal, answer.field),
+        answer.reason.to_string(),
+        answer.first.to_string(),
+        answer.second.to_string(),
+    ]))
 }
 
 /// What planning answers, and the lent plan after it.
@@ -158,7 +177,7 @@ fn caption(record: &Record, address: i64, numbers: &[i64]) -> Option<String> {
     if characters.len() != extended + ordinary {
         return None;
     }
-    let characters: Vec<i32> = characters.iter().map(|&number| signed(number)).collect();
+    let characters = all_signed(characters);
     let (extended, ordinary) = characters.split_at(extended);
     let mut lent = record.second()?;
     let answer = plain::plan_captions(extended, ordinary, unsigned(address), &mut lent);

@@ -1,4 +1,8 @@
-//! Inputs of the program `caption_plan`, by what they show. The text of each is the plain implementation's.
+//! Inputs of the program `caption_plan`, by what they show, and those that are stored. The text of each is the plain
+//! implementation's.
+
+use std::io;
+use std::path::{Path, PathBuf};
 
 /// An input's name and its bytes.
 pub const INPUTS: [(&str, &[u8]); 24] = [
@@ -27,3 +31,15 @@ pub const INPUTS: [(&str, &[u8]); 24] = [
     ("both_third_c8", b"\0\0\xC8I"),
     ("both_fourth_80", b"\0\0H\x80"),
 ];
+
+/// The stored inputs of a folder.
+pub fn stored(directory: &Path) -> io::Result<Vec<PathBuf>> {
+    let mut paths = Vec::new();
+    for entry in std::fs::read_dir(directory)? {
+        let path = entry?.path();
+        if path.extension().is_some_and(|end| end == "in") {
+            paths.push(path);
+        }
+    }
+    Ok(paths)
+}

@@ -1,5 +1,6 @@
 //! Records of the program `adv7194_run`, pairs of images for `board_compare` and
-//! inputs of `caption_plan`, and what they must give, by the plain implementation.
+//! inputs of `caption_plan` and `house_why`, and what they and the inputs of
+//! `house_plan` must give, by the plain implementation.
 //!
 //! A record is a line of text; crates/adv7194_run/src/main.rt says what each
 //! kind asks and how it is answered. Nothing here is a program's or the library's.
@@ -7,6 +8,7 @@
 #![warn(missing_docs)]
 
 pub mod answer;
+pub mod house_images;
 pub mod inputs;
 pub mod make;
 pub mod pairs;
@@ -21,6 +23,8 @@ mod limits;
 mod plans;
 mod plays;
 mod random;
+mod reason_boards;
+mod reasons;
 mod record;
 mod signalling;
 mod together;

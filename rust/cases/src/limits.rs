@@ -133,17 +133,17 @@ const SIX_PLAN: &str = "05 D1 80 40 80 C1 01 41 80";
 const HI: &str = "caption 84 0 2 72 73;EE EE EE EE EE EE";
 
 /// The line that gives a limit to the records after it.
-fn limit(limit: i64) -> String {
+pub(crate) fn limit(limit: i64) -> String {
     format!("limit {limit}")
 }
 
 /// A comment.
-fn comment(text: &str) -> String {
+pub(crate) fn comment(text: &str) -> String {
     format!("# {text}")
 }
 
 /// A board that has CGMS but for these registers.
-fn wrong(registers: &[usize]) -> [u8; REGISTERS] {
+pub(crate) fn wrong(registers: &[usize]) -> [u8; REGISTERS] {
     let mut image = wanted(&cgms(), 0x00);
     for &register in registers {
         image[register] ^= match register {

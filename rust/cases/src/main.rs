@@ -1,7 +1,8 @@
-//! Writes the stored cases of `adv7194_run`, `board_compare` and `caption_plan`.
+//! Writes the stored cases of `adv7194_run`, `board_compare`, `caption_plan`, `house_plan` and `house_why`.
 //!
 //! `cases DIRECTORY` writes into its folders of these names what is made, and what it must give; a
-//! file that stands there beside them is left as it is. `cases` alone answers the records of standard input.
+//! file that stands there beside them is left as it is, but for the text of an image of the house setting's
+//! programs. `cases` alone answers the records of standard input.
 #![forbid(unsafe_code)]
 
 use std::io::{self, Read};
@@ -12,7 +13,15 @@ fn main() -> io::Result<()> {
         let directory = Path::new(&directory);
         records(&directory.join("adv7194_run"))?;
         pairs(&directory.join("board_compare"))?;
-        return inputs(&directory.join("caption_plan"));
+        for (name, input) in cases::inputs::INPUTS {
+            put(&directory.join("caption_plan"), name, input)?;
+        }
+        for (name, image) in cases::house_images::images() {
+            put(&directory.join("house_why"), name, &image)?;
+        }
+        texts(&directory.join("caption_plan"), plain::caption_listing)?;
+        texts(&directory.join("house_why"), plain::house_why)?;
+        return texts(&directory.join("house_plan"), plain::house_plan);
     }
     let mut text = String::new();
     io::stdin().read_to_string(&mut text)?;
@@ -30,12 +39,16 @@ fn records(directory: &Path) -> io::Result<()> {
     Ok(())
 }
 
-/// Writes every input of captions, with its text.
-fn inputs(directory: &Path) -> io::Result<()> {
-    for (name, input) in cases::inputs::INPUTS {
-        let path = directory.join(name);
-        std::fs::write(path.with_extension("in"), input)?;
-        std::fs::write(path.with_extension("out"), plain::caption_listing(input))?;
+/// Writes an input of a program.
+fn put(directory: &Path, name: &str, input: &[u8]) -> io::Result<()> {
+    std::fs::write(directory.join(name).with_extension("in"), input)
+}
+
+/// Writes the text of every input in a folder.
+fn texts(directory: &Path, text: fn(&[u8]) -> String) -> io::Result<()> {
+    for path in cases::inputs::stored(directory)? {
+        let input = std::fs::read(&path)?;
+        std::fs::write(path.with_extension("out"), text(&input))?;
     }
     Ok(())
 }

@@ -2,8 +2,8 @@
 
 use crate::codings::PLACES;
 use crate::{
-    captions, events, hex, known, known_plays, known_reads, limits, plans, plays, signalling,
-    together,
+    captions, events, hex, known, known_plays, known_reads, limits, plans, plays, reasons,
+    signalling, together,
 };
 use plain::registers::REGISTERS;
 
@@ -56,6 +56,7 @@ pub fn files() -> Vec<(&'static str, String)> {
         ("limits", text(limits::limits())),
         ("plans", text(plans::plans())),
         ("plays", text(plays::plays())),
+        ("reasons", text(reasons::reasons())),
         ("refused_together", text(together::refused_together())),
         ("signalling", text(signalling::signalling())),
     ]

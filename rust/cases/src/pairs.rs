@@ -27,7 +27,7 @@ const EVERY_BIT: u8 = 0xFF;
 
 /// One bit or more of each field, field 1 first: a register and what it is flipped by. Fields 1, 2
 /// and 28 can't differ alone where both images can be read.
-const FLIPPED: [(&str, usize, u8); 27] = [
+pub(crate) const FLIPPED: [(&str, usize, u8); 27] = [
     ("01_standard", reg::MODE_0, 0x01),
     ("02_square_pixel", reg::MODE_2, 0x10),
     ("03_4x_oversampling", reg::MODE_1, 0x40),

@@ -3,6 +3,7 @@
 use crate::make::record;
 use crate::{decimal, hex};
 use plain::fields::{self as at, SETTINGS};
+pub(crate) use plain::house;
 use plain::registers::{self as reg, REGISTERS};
 use plain::{ALL_KNOWN, NO_LIMIT};
 
@@ -15,21 +16,6 @@ const HUE: i32 = 40;
 const HUE_PAST_RANGE: i32 = 225;
 /// The ratios' numbers that are tried.
 const RATIOS: std::ops::RangeInclusive<i32> = 0..=4;
-/// Document 01's house setting.
-pub(crate) fn house() -> [i32; SETTINGS] {
-    let mut settings = [0; SETTINGS];
-    settings[at::FOUR_TIMES] = 1;
-    settings[at::PEDESTAL] = 1;
-    settings[at::CONTRAST] = 1000;
-    settings[at::U_SCALE] = 1000;
-    settings[at::V_SCALE] = 1000;
-    settings[at::DNR_INPUT] = 1;
-    for kind in [at::CURVE_A, at::CURVE_B] {
-        settings[kind + at::CURVE_P] = 1;
-        settings[kind + at::CURVE_Q] = 1;
-    }
-    settings
-}
 
 /// The house setting as PAL with square pixels.
 pub(crate) fn pal() -> [i32; SETTINGS] {
@@ -51,7 +37,11 @@ pub(crate) fn with(mut settings: [i32; SETTINGS], changed: &[(usize, i32)]) -> [
 
 /// The image that settings ask for over one that holds the same byte everywhere.
 pub(crate) fn wanted(settings: &[i32; SETTINGS], found: u8) -> [u8; REGISTERS] {
-    let mut image = [found; REGISTERS];
+    settled([found; REGISTERS], settings)
+}
+
+/// The image that settings ask for over another.
+pub(crate) fn settled(mut image: [u8; REGISTERS], settings: &[i32; SETTINGS]) -> [u8; REGISTERS] {
     let mut plan = [0; 64];
     let planned = plain::plan(&image, ALL_KNOWN, settings, ADDRESS, NO_LIMIT, &mut plan);
     plain::play(

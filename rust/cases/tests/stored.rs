@@ -1,5 +1,6 @@
 //! The stored cases are those that are made, and every stored answer is the plain implementation's.
 
+use cases::inputs::stored;
 use std::fs;
 use std::path::PathBuf;
 
@@ -7,8 +8,15 @@ use std::path::PathBuf;
 const RECORDS: &str = "adv7194_run";
 /// The program that compares pairs of images.
 const PAIRS: &str = "board_compare";
-/// The program that plans captions.
-const CAPTIONS: &str = "caption_plan";
+/// The programs that answer one input by a text: the text, and whether every input is made.
+const TEXTS: [(&str, Text, bool); 3] = [
+    ("caption_plan", plain::caption_listing, true),
+    ("house_plan", plain::house_plan, false),
+    ("house_why", plain::house_why, true),
+];
+
+/// What an input must give.
+type Text = fn(&[u8]) -> String;
 
 /// Where a program's cases are stored.
 fn directory(program: &str) -> PathBuf {
@@ -40,11 +48,7 @@ fn records_are_as_made() {
 #[test]
 fn answers_are_the_plain_implementations() {
     let mut files = 0;
-    for entry in fs::read_dir(directory(RECORDS)).expect("the stored cases") {
-        let path = entry.expect("a file").path();
-        if path.extension().is_none_or(|end| end != "in") {
-            continue;
-        }
+    for path in stored(&directory(RECORDS)).expect("the stored cases") {
         let records = fs::read_to_string(&path).expect("records");
         let stored = fs::read_to_string(path.with_extension("out")).expect("answers");
         let expected = cases::answers(&records);
@@ -76,20 +80,33 @@ fn pairs_and_their_texts_are_as_made() {
 }
 
 #[test]
-fn inputs_of_captions_and_their_texts_are_as_made() {
-    let directory = directory(CAPTIONS);
+fn inputs_are_as_made() {
+    let held = |program: &str, name: &str, input: &[u8]| {
+        let path = directory(program).join(name).with_extension("in");
+        assert!(fs::read(path).expect("a stored file") == input, "{name}.in");
+    };
     for (name, input) in cases::inputs::INPUTS {
-        let path = directory.join(name);
-        let stored = |end: &str| fs::read(path.with_extension(end)).expect("a stored file");
-        assert!(stored("in") == input, "{name}.in");
-        let text = plain::caption_listing(input);
-        let stored = String::from_utf8(stored("out")).expect("a text");
-        assert_eq!(first_difference(&stored, &text), None, "{name}.out");
+        held("caption_plan", name, input);
     }
-    // two files for each, and what says what they are
-    let files = fs::read_dir(&directory).expect("the stored cases").count();
-    let made = 2 * cases::inputs::INPUTS.len() + 1;
-    assert_eq!(files, made, "files that aren't made");
+    for (name, image) in cases::house_images::images() {
+        held("house_why", name, &image);
+    }
+}
+
+#[test]
+fn texts_are_the_plain_implementations() {
+    let made = cases::inputs::INPUTS.len() + cases::house_images::images().len();
+    let mut files = 0;
+    for (program, text, all_made) in TEXTS {
+        let inputs = stored(&directory(program)).expect("the stored cases");
+        for path in &inputs {
+            let input = fs::read(path).expect("an input");
+            let stored = fs::read_to_string(path.with_extension("out")).expect("a text");
+            assert_eq!(first_difference(&stored, &text(&input)), None, "{path:?}");
+        }
+        files += if all_made { inputs.len() } else { 0 };
+    }
+    assert_eq!(files, made, "inputs that aren't made");
 }
 
 #[test]

@@ -1,6 +1,7 @@
 //! One call, made on both sides and compared.
 
 use crate::lent::Lent;
+use crate::reason_tally::ReasonTally;
 use crate::tally::{Entry, Tally};
 use adv7194::ffi;
 use plain::registers::READ_ONLY;
@@ -29,6 +30,8 @@ pub(crate) struct Player {
 pub struct Comparer {
     /// Answers by refusal and field.
     pub tally: Tally,
+    /// Reasons by register.
+    pub reasons: ReasonTally,
     /// Calls compared.
     pub calls: u64,
     /// Differences.

@@ -52,6 +52,8 @@ fn compare(cases: u64, seed: u64) -> u64 {
     );
     let missing = comparer.tally.print();
     comparer.expect(missing == 0, || format!("{missing} refusals never came"));
+    let missing = comparer.reasons.print();
+    comparer.expect(missing == 0, || format!("{missing} reasons never came"));
     let half = 2 * accepted >= cases;
     comparer.expect(half, || "less than half accepted".to_string());
     comparer.differences

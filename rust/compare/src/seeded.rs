@@ -7,8 +7,10 @@ use crate::flags;
 use crate::limits;
 use crate::pairs;
 use crate::random::Random;
+use crate::reasons;
 use crate::round::{round, Made};
 use crate::sending;
+use crate::why_calls::Asked;
 use plain::fields::SETTINGS;
 use plain::registers::REGISTERS;
 use plain::ALL_KNOWN;
@@ -69,7 +71,7 @@ impl Seeded {
         }
     }
 
-    /// Plans; where accepted, goes round.
+    /// Plans, and asks why registers are sent; where accepted, goes round.
     fn plan(&mut self, comparer: &mut Comparer) -> bool {
         let mut settings = cases::accepted(&mut self.random);
         let image = match self.random.below(4) {
@@ -93,6 +95,13 @@ impl Seeded {
         let address = self.address();
         let room = &[BEFORE; ROOM][..room];
         let (answer, plan) = comparer.plan(&given, known, &numbers, address, limit, room);
+        let asked = Asked {
+            image: &given,
+            known,
+            settings: &numbers,
+            limit,
+        };
+        reasons::some(comparer, &mut self.random, &asked, (answer, plan.get()));
         if answer.refusal != 0 {
             return false;
         }

@@ -8,6 +8,7 @@ use crate::flags::{self, PARTS};
 use crate::limits;
 use crate::pairs;
 use crate::random::Random;
+use crate::reasons;
 use crate::seeded::resized;
 use crate::sending;
 use plain::fields::{self as at, SETTINGS};
@@ -58,6 +59,7 @@ pub fn all(comparer: &mut Comparer, seed: u64) {
     captions::all(comparer, &mut random);
     boards::all(comparer, &mut random);
     limits::all(comparer, &mut random);
+    reasons::all(comparer, &mut random);
 }
 
 /// A sound case: an image, settings and the image they make.

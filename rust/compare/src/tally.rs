@@ -5,6 +5,8 @@
 pub enum Entry {
     /// Planning.
     Plan,
+    /// Why a register is sent.
+    Why,
     /// Playing.
     Play,
     /// Reading.
@@ -29,10 +31,11 @@ impl Entry {
 }
 
 /// How many there are.
-const ENTRIES: usize = 8;
+const ENTRIES: usize = 9;
 /// All of them.
 const ALL: [Entry; ENTRIES] = [
     Entry::Plan,
+    Entry::Why,
     Entry::Play,
     Entry::Read,
     Entry::Transaction,
@@ -44,6 +47,7 @@ const ALL: [Entry; ENTRIES] = [
 /// Their names, in that order.
 const NAMES: [&str; ENTRIES] = [
     "plan",
+    "why",
     "play",
     "read",
     "transaction",
@@ -67,12 +71,11 @@ const FIRST_OF_REGISTER: [u32; 18] = [
 /// The last field that settings have.
 const LAST_SET: u32 = 27;
 
-/// Planning: at no field, and at one. Refusal 3 can occur at every field that
-/// is set, and for another length than 49.
-const PLAN: [(u32, u32); 16] = [
+/// Planning alone: an address and room.
+const PLAN_ONLY: [(u32, u32); 2] = [(2, 0), (10, 0)];
+/// Planning and asking why: at no field, and at one.
+const PLAN: [(u32, u32); 14] = [
     (1, 0),
-    (2, 0),
-    (10, 0),
     (UNKNOWN, 1),
     (UNKNOWN, 2),
     (UNKNOWN, 3),
@@ -168,11 +171,18 @@ impl Default for Tally {
     }
 }
 
+/// Whether planning and asking why can answer this. Refusal 3 can occur at every field
+/// that is set, and for a wrong limit or another length than 49.
+fn planning((refusal, field): (u32, u32)) -> bool {
+    PLAN.contains(&(refusal, field)) || refusal == RANGE && field <= LAST_SET
+}
+
 /// Whether an entry can answer this. 0 with 0 is an accepted call.
 fn can_be(entry: Entry, refusal: u32, field: u32) -> bool {
     let pair = (refusal, field);
     let listed = match entry {
-        Entry::Plan => PLAN.contains(&pair) || refusal == RANGE && field <= LAST_SET,
+        Entry::Plan => planning(pair) || PLAN_ONLY.contains(&pair),
+        Entry::Why => planning(pair),
         Entry::Play | Entry::PlayCaptions => PLAY.contains(&pair),
         Entry::Read => {
             READ.contains(&pair) || refusal == UNKNOWN && FIRST_OF_REGISTER.contains(&field)

@@ -1,11 +1,8 @@
 //! The text that a plan of captions is shown by.
 
 use crate::captions::{plan_captions, CAPTION_ROOM, PAIR};
-use crate::side_by_side::hex;
-use crate::transaction::transaction;
+use crate::listing::{listing, ADDRESS};
 
-/// The boards' address.
-const ADDRESS: u32 = 0x54;
 /// Characters of both pairs.
 const BOTH: usize = 2 * PAIR;
 
@@ -21,14 +18,5 @@ pub fn caption_listing(input: &[u8]) -> String {
     };
     let mut plan = [0; CAPTION_ROOM];
     let answer = plan_captions(extended, ordinary, ADDRESS, &mut plan);
-    if answer.refusal != 0 {
-        return format!("REFUSED {} {}\n", answer.refusal, answer.field);
-    }
-    let mut text = format!("PLAN {} {}\n", answer.transactions, answer.bus_bytes);
-    for index in 0..answer.transactions {
-        let mut data = [0; PAIR];
-        let sent = transaction(&plan[..answer.length as usize], index, &mut data);
-        text += &format!("{:02X} {}\n", sent.subaddress, hex(&data));
-    }
-    text
+    listing(answer, &plan, |_| String::new())
 }

@@ -98,13 +98,19 @@ pub fn raw_code(image: &[u8], field: u32) -> Vec<u8> {
     registers.iter().map(|byte| byte & bits).collect()
 }
 
+/// A field's bits in a register, the must-be-zero ones among them.
+pub(crate) fn bits_in(register: usize, field: u32) -> u8 {
+    let (first, count, bits) = PLACES[field as usize - 1];
+    if (first..first + count).contains(&register) {
+        bits
+    } else {
+        0
+    }
+}
+
 /// A register's bits outside all fields.
 pub fn outside(register: usize) -> u8 {
-    let here = |place: &&Place| (place.0..place.0 + place.1).contains(&register);
-    !PLACES
-        .iter()
-        .filter(here)
-        .fold(0, |bits, place| bits | place.2)
+    (1..=LAST_FIELD).fold(WHOLE, |bits, field| bits & !bits_in(register, field))
 }
 
 /// Whether reading accepts an image, known in full.

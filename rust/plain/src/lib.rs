@@ -1,5 +1,5 @@
-//! Planning, playing, reading back and comparing settings of one ADV7194, and
-//! its captions, in plain Rust. All but comparing take a board of which only
+//! Planning, playing, reading back and comparing settings of one ADV7194, why a
+//! register is sent, and its captions, in plain Rust. All but comparing take a board of which only
 //! some registers may be known.
 //!
 //! Written from the papers alone. It shares no code and no table with the
@@ -26,6 +26,10 @@ mod check;
 mod compare;
 mod cut;
 mod fixed;
+mod house;
+mod house_listing;
+mod listing;
+mod needs;
 mod pack;
 mod plan;
 mod play;
@@ -34,6 +38,7 @@ mod side_by_side;
 mod transaction;
 mod unpack;
 mod wanted;
+mod why;
 
 pub use board::ALL_KNOWN;
 pub use caption_listing::caption_listing;
@@ -41,9 +46,12 @@ pub use captions::{is_odd, plan_captions, play_captions, read_captions, with_par
 pub use captions::{CaptionsAnswer, CAPTION_ROOM, PAIR};
 pub use check::check;
 pub use compare::{compare, outside, raw_code, CompareAnswer, LAST_FIELD};
+pub use house::house;
+pub use house_listing::{house_plan, house_why};
 pub use plan::{plan, PlanAnswer};
 pub use play::{play, PlayAnswer};
 pub use read::{read, ReadAnswer};
 pub use refusal::NO_LIMIT;
 pub use side_by_side::side_by_side;
 pub use transaction::{transaction, TransactionAnswer, MOST_DATA};
+pub use why::{reason, why, Reason, WhyAnswer};

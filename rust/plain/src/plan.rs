@@ -1,12 +1,10 @@
 //! Planning: from a board and settings to the packed least plan.
 
 use crate::board::Board;
-use crate::check::{check_fields, numbers_of};
-use crate::fixed::{check_parts, unknown_and_whole};
 use crate::least;
+use crate::needs::Needs;
 use crate::pack;
-use crate::refusal::{self, check_address, check_limit, Refusal};
-use crate::wanted::wanted;
+use crate::refusal::{self, check_address, Refusal};
 
 /// What planning answers. After a refusal all but the first two are 0.
 #[derive(Clone, Copy, Debug, Default, PartialEq, Eq)]
@@ -61,14 +59,7 @@ fn planned(
 ) -> Result<PlanAnswer, Refusal> {
     let board = Board::of(image, known)?;
     check_address(address)?;
-    check_limit(limit)?;
-    let numbers = numbers_of(settings)?;
-    check_fields(numbers)?;
-    check_parts(board, numbers)?;
-    let wanted = wanted(board.registers, numbers);
-    let changed = least::differing(board.registers, &wanted) & known;
-    let needed = changed | unknown_and_whole(known, numbers);
-    let list = least::list(needed, needed | known, limit);
+    let Needs { wanted, list, .. } = Needs::of(board, settings, limit)?;
     let (transactions, data) = (list.transactions(), list.data());
     let length = pack::length(transactions, data);
     let room = plan

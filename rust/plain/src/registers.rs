@@ -100,6 +100,15 @@ pub const CURVE_B: usize = 0x2D;
 /// Bytes of a curve.
 pub const CURVE_BYTES: usize = 7;
 
+/// A register's bits that must be zero, whatever the settings.
+pub const fn must_be_zero(register: usize) -> u8 {
+    match register {
+        BRIGHTNESS => !BRIGHTNESS_BITS,
+        SHARPNESS => !LOW_BITS,
+        _ => 0,
+    }
+}
+
 /// The register that can only be read.
 pub const READ_ONLY: usize = 0x34;
 

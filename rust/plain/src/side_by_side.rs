@@ -68,14 +68,13 @@ pub fn side_by_side(a: &[u8], b: &[u8]) -> String {
     let differences = answer.fields.count_ones() + answer.registers.count_ones();
     let mut text = format!("DIFFERENCES {differences}\n");
     for field in (1..=LAST_FIELD).filter(|field| answer.fields >> field & 1 == 1) {
-        let name = NAMES[field as usize - 1].0;
         let shown = if answer.readable == 1 {
             format!("{} | {}", setting(a, field), setting(b, field))
         } else {
             let (a, b) = (raw_code(a, field), raw_code(b, field));
             format!("raw {} | {}", hex(&a), hex(&b))
         };
-        text += &format!("{field} {name} {shown}\n");
+        text += &format!("{field} {} {shown}\n", name(field));
     }
     for register in (0..REGISTERS).filter(|register| answer.registers >> register & 1 == 1) {
         let bits = outside(register);
@@ -83,6 +82,11 @@ pub fn side_by_side(a: &[u8], b: &[u8]) -> String {
         text += &format!("register {register:02X} {a:02X} | {b:02X}\n");
     }
     text
+}
+
+/// A field's name.
+pub(crate) fn name(field: u32) -> &'static str {
+    NAMES[field as usize - 1].0
 }
 
 /// Bytes in two hexadecimal digits each, a space between them.

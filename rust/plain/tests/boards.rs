@@ -5,8 +5,6 @@ mod boards;
 mod common;
 #[path = "common/lowest.rs"]
 mod lowest;
-#[path = "common/settings.rs"]
-mod settings;
 
 use boards::{plan, settled, three, with, OWN, PAST, ROOM};
 use common::{packed, write};
@@ -14,8 +12,7 @@ use lowest::lowest_field;
 use plain::chip::Chip;
 use plain::fields::{self as at, SETTINGS};
 use plain::registers::{REGISTERS, WORD_MAP};
-use plain::{play, transaction, ALL_KNOWN, MOST_DATA, NO_LIMIT};
-use settings::house;
+use plain::{house, play, transaction, ALL_KNOWN, MOST_DATA, NO_LIMIT};
 
 /// Seeded maps of unknown registers.
 const MAPS: usize = 400;

@@ -5,16 +5,13 @@
 mod boards;
 #[path = "common/lowest.rs"]
 mod lowest;
-#[path = "common/settings.rs"]
-mod settings;
 
 use boards::{settled, three, OWN, PAST};
 use lowest::lowest_field;
 use plain::chip::{Chip, Event};
 use plain::fields::SETTINGS;
 use plain::registers::REGISTERS;
-use plain::{play_captions, read, read_captions, ALL_KNOWN};
-use settings::house;
+use plain::{house, play_captions, read, read_captions, ALL_KNOWN};
 
 /// The ordinary pair HI, as tests/captions.rs writes it out.
 const HI: [u8; 5] = [0x05, 0x30, 0xB2, 0x12, 0x40];

@@ -1,14 +1,10 @@
 //! The papers' own cases, and each coding against its words.
 
-#[path = "common/settings.rs"]
-mod settings;
-
 use plain::fields as at;
 use plain::least::list;
 use plain::registers as reg;
-use plain::{check, codes, gamma, play, read, refusal, signal, subcarrier};
+use plain::{check, codes, gamma, house, play, read, refusal, signal, subcarrier};
 use plain::{PlanAnswer, ALL_KNOWN, NO_LIMIT};
-use settings::house;
 
 /// An even address.
 const ADDRESS: u32 = 0x54;

@@ -2,15 +2,12 @@
 
 #[path = "common/boards.rs"]
 mod boards;
-#[path = "common/settings.rs"]
-mod settings;
 
 use boards::{settled, three, with, OWN, PAST, ROOM};
 use plain::fields::{self as at, SETTINGS};
 use plain::least;
 use plain::registers::{span, REGISTERS};
-use plain::{play, transaction, ALL_KNOWN, MOST_DATA, NO_LIMIT};
-use settings::house;
+use plain::{house, play, transaction, ALL_KNOWN, MOST_DATA, NO_LIMIT};
 
 /// Limits that are judged one by one.
 const LIMITS: std::ops::RangeInclusive<u32> = 0..=60;

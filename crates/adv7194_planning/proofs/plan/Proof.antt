@@ -1,30 +1,35 @@
 -- `plan` meets its contract: the tests that led to each answer decide the verdict, and demands 1 to 3 follow from it. Assumes nothing.
 use mathlib.Core.Path.{_≡_, sym, ap, _∙_, subst}
 use mathlib.Core.Bool.{true}
+use mathlib.Core.List.{List}
 use Prim.Native.Nat.{ℕ, _^_, _<_}
 use lib.Dec.{lit<}
+use lib.IntN.{ℤ}
 use lib.ListN.{length, getD}
 use borrow.Author.Tests.{not-true, not-false}
 use borrow.Author.Needs.{needs}
 use denote.Ref.{now}
 use Rattle.refusals.specs.Refusal.{numberOf}
-use Rattle.refusals.specs.Verdict.{good, refusedAt}
-use Rattle.refusals.specs.Order.{firstOf}
-use Rattle.planning.specs.Plan.{countsOf, leftBy, answerOf}
+use Rattle.refusals.specs.Verdict.{Verdict, good, refusedAt, after}
+use Rattle.bus.specs.Transactions.{Transaction}
+use Rattle.planning.specs.Plan.{packingOf, leftBy, planAfter}
 use Rattle.field_table.specs.Answers.{checkedAs}
 use Rattle.adv7194_bus.specs.Kind.{registerCount}
 use Rattle.adv7194_bus.specs.Address.{addressRight}
-use Rattle.adv7194_bus.specs.Limit.{limitRight}
 use Rattle.adv7194_bus.specs.declared.board.Board.{Board}
 use Rattle.adv7194_bus.specs.Board.{boardOf}
-use Rattle.adv7194_table.specs.Fields.{numberCount}
 use Rattle.adv7194_settings.specs.Wanted.{wantedBy}
-use Rattle.adv7194_settings.specs.Rows.{checkOf}
+use Rattle.adv7194_least.specs.Aim.{aimOf}
+use Rattle.adv7194_least.specs.Change.{Change}
+use Rattle.adv7194_least.specs.Plan.{planOf}
 use Rattle.adv7194_least.proofs.WantedChange.{settings-change}
-use Rattle.adv7194_planning.specs.Aims.{Ready}
-use Rattle.adv7194_planning.specs.Rows.{listOf, rowPlanned, lastChecks}
+use Rattle.adv7194_planning.specs.Aims.{aimBy}
+use Rattle.adv7194_planning.specs.Rows.{listOf}
+use Rattle.adv7194_planning.specs.Checks.{checkedImage}
 use Rattle.adv7194_planning.specs.Planning.{planningOf}
-use Rattle.adv7194_planning.proofs.CaseLaws.{wrong-length, wrong-address, wrong-limit, wrong-count, wrong-settings, passed, refuse}
+use Rattle.adv7194_planning.proofs.MapPlan.{same-aim}
+use Rattle.adv7194_planning.proofs.CaseLaws.{wrong-length, wrong-address, refuse}
+use Rattle.adv7194_planning.proofs.CheckLaws.{verdict, Cleared, cleared, image-is, planning-is}
 use Rattle.adv7194_planning.proofs.Clauses.{Clauses, clauses}
 use Rattle.adv7194_planning.proofs.plan.Statement.{statement}
 use Rattle.adv7194_planning.proofs.plan.Tie as tie
@@ -38,15 +43,9 @@ start1 c = c .before .before .before
 abbrev start2 : tie.Else2 → tie.Start
 start2 c = start1 (c .before .before)
 
-abbrev start3 : tie.Else3 → tie.Start
-start3 c = start2 (c .before .before)
-
-abbrev start4 : tie.Else4 → tie.Start
-start4 c = start3 (c .before)
-
--- where the count of the numbers was found right
-abbrev counted-at : tie.After-want → tie.Else4
-counted-at c = c .before .before .before .before
+-- where the address was found right
+abbrev right-at : tie.After-check → tie.Else2
+right-at k = k .before .before .before .before
 
 -- the board that is planned over
 abbrev board : tie.Start → Board
@@ -64,28 +63,56 @@ long c = c .if1 .left
 right : (c : tie.Else2) → addressRight (start2 c .args .address) ≡ true
 right c = sym (c .before .address-right .ensures) ∙ not-false _ (c .if2 .left)
 
--- the limit is right
-limited : (c : tie.Else3) → limitRight (start3 c .args .limit) ≡ true
-limited c = sym (c .before .limit-right .ensures) ∙ not-false _ (c .if3 .left)
+module _ (k : tie.After-check) where
+  abbrev s : tie.Start
+  s = start2 (right-at k)
 
--- there are as many numbers as settings have
-counted : (c : tie.Else4) → length (now (start4 c .args .numbers)) ≡ numberCount
-counted c = c .if4 .left
+  abbrev zs : List ℤ
+  zs = now (s .args .numbers)
 
--- the record that was made is the board
-board-is : (c : tie.After-want) → c .before .before .before .board-of .result ≡ board (start4 (counted-at c))
-board-is c = c .before .before .before .board-of .ensures
+  -- the record that was made is the board
+  board-is : k .before .before .before .board-of .result ≡ board s
+  board-is = k .before .before .before .board-of .ensures
 
--- the wanted image stands where the copy was
-wanted-is : (c : tie.After-want) → (let s = start4 (counted-at c) in
-    c .want .last .1 .0 ≡ wantedBy (now (s .args .image)) (now (s .args .numbers)))
-wanted-is c =
-    let zs = now (start4 (counted-at c) .args .numbers) in
-    c .want .ensures .1 .0 ∙ ap (λ (b : Board). wantedBy (b .registers) zs) (board-is c)
+  -- what was checked decides
+  checked : (address room : ℕ) → checkedAs (k .check .result) ≡ verdict (board s) zs address (s .args .limit) room
+  checked address room =
+      k .check .ensures .0 address room
+      ∙ ap (λ (b : Board). verdict (boardOf (b .registers) (s .args .known)) zs address (s .args .limit) room) board-is
+
+  -- so does packing after it
+  planned : planningOf (board s) zs (s .args .address) (s .args .limit) (length (now (s .args .plan)))
+      ≡ after (checkedAs (k .check .result)) (packingOf (listOf (board s) zs (s .args .limit)) (length (now (s .args .plan))))
+  planned =
+      let room = length (now (s .args .plan)) in
+      planning-is (board s) zs (s .args .address) (s .args .limit) room (long (right-at k .before .before)) (right (right-at k))
+      ∙ ap (λ (v : Verdict (Unit {0})). after v (packingOf (listOf (board s) zs (s .args .limit)) room)) (sym (checked (s .args .address) room))
+
+  module _ (e : checkedAs (k .check .result) ≡ good tt) where
+    -- the limit is right and the settings pass
+    passed : Cleared zs (s .args .limit)
+    passed = cleared (board s) zs 0 (s .args .limit) 0 (sym (checked 0 0) ∙ e)
+
+    -- the wanted image stands where the copy was
+    wanted-is : k .check .last .1 .1 .1 .0 ≡ wantedBy (now (s .args .image)) zs
+    wanted-is =
+        k .check .ensures .1
+        ∙ ap (λ (b : Board). checkedImage (b .registers) zs (s .args .limit)) board-is
+        ∙ image-is (now (s .args .image)) zs (s .args .limit) (passed .limited) (passed .passing .size)
 
 -- the settings are accepted
-accepted : (c : tie.After-enum-told) → checkOf (now (start4 (counted-at (c .before .before .before)) .args .numbers)) ≡ good tt
-accepted c = sym (c .before .before .before .want .ensures .0) ∙ ap checkedAs (c .enum-told .given .1)
+accepted : (c : tie.After-enum-told) → checkedAs (c .before .before .before .check .result) ≡ good tt
+accepted c = ap checkedAs (c .enum-told .given .1)
+
+-- the aim of the map of fixed registers is the settings'
+aim-is : (c : tie.After-fixed-registers) → (let k = c .before .before .before .before in
+    aimBy (k .before .before .before .board-of .result) (k .check .last .1 .1 .1 .0) (c .fixed-registers .result) (s k .args .limit)
+    ≡ aimOf (board (s k)) (zs k) (s k .args .limit))
+aim-is c =
+    let k = c .before .before .before .before in
+    ap (λ (b : Board). aimBy b (k .check .last .1 .1 .1 .0) (c .fixed-registers .result) (s k .args .limit)) (board-is k)
+    ∙ same-aim (board (s k)) (zs k) (k .check .last .1 .1 .1 .0) (c .fixed-registers .result) (s k .args .limit) (wanted-is k (accepted (c .before)))
+    (c .fixed-registers .ensures)
 
 -- ---- the answers
 
@@ -114,77 +141,46 @@ returns-2 c =
     (wrong-address (board s) (now (a .numbers)) (a .address) (a .limit) (length (now (a .plan))) (long (r .before))
     (sym (r .address-right .ensures) ∙ not-true _ (c .if2 .taken)))
 
+plan-change-requires : tie.Need-plan-change-requires
+plan-change-requires c κs =
+    let f = c .before .before in
+    let k = f .before .before .before .before in
+    let e = right-at k .before .before in
+    subst Change (sym (aim-is f))
+    (settings-change (board (s k)) (zs k) (s k .args .limit) (record { size = long e; bytes = bytes (e .before) })
+    (passed k (accepted (f .before)) .limited))
+
 returns-3 : tie.Need-returns-3
 returns-3 c =
     let r = c .before in
-    let e = r .before in
-    let s = start2 e in
-    let a = s .args in
-    refused (e .before .before .before) 3 0
-    (wrong-limit (board s) (now (a .numbers)) (a .address) (a .limit) (length (now (a .plan))) (long (e .before .before)) (right e)
-    (sym (r .limit-right .ensures) ∙ not-true _ (c .if3 .taken)))
-
-returns-4 : tie.Need-returns-4
-returns-4 c =
-    let l = c .before in
-    let e = l .before .before in
-    let s = start3 l in
-    let a = s .args in
-    refused (e .before .before .before) 3 0
-    (wrong-count (board s) (now (a .numbers)) (a .address) (a .limit) (length (now (a .plan))) (long (e .before .before)) (right e) (limited l)
-    (c .if4 .taken))
-
-returns-5 : tie.Need-returns-5
-returns-5 c =
-    let r = c .before in
-    let w = r .before .before .before in
-    let d = counted-at w in
-    let e = d .before .before .before in
-    let s = start4 d in
-    let a = s .args in
+    let k = r .before .before .before in
     let n = numberOf (r .refusal .given .0 .0) in
     let f = r .refusal .given .0 .1 .0 in
-    refused (e .before .before .before) n f
-    (wrong-settings (board s) (now (a .numbers)) (a .address) (a .limit) (length (now (a .plan))) (long (e .before .before)) (right e) (limited (d .before))
-    (counted d) n f (sym (w .want .ensures .0) ∙ ap checkedAs (r .refusal .given .1)))
+    let a = s k .args in
+    refused (right-at k .before .before .before) n f
+    (planned k ∙ ap (λ (v : Verdict (Unit {0})). after v (packingOf (listOf (board (s k)) (zs k) (a .limit)) (length (now (a .plan)))))
+    (ap checkedAs (r .refusal .given .1)))
 
--- the settings and the image that they want are ready to be planned
-ready : (c : tie.After-enum-told) → (let w = c .before .before .before in
-    let a = start4 (counted-at w) .args in
-    Ready (w .before .before .before .board-of .result) (now (a .numbers)) (w .want .last .1 .0) (a .limit))
-ready c =
-    let w = c .before .before .before in
-    let d = counted-at w in
-    let e = d .before .before .before .before .before in
-    let s = start4 d in
-    let zs = now (s .args .numbers) in
-    subst (λ (b : Board). Ready b zs (w .want .last .1 .0) (s .args .limit)) (sym (board-is w))
-    (record {
-      passing = record { size = counted d; passes = accepted c };
-      change = settings-change (board s) zs (s .args .limit) (record { size = long e; bytes = bytes (e .before) }) (limited (d .before));
-      wants = wanted-is w;
-    })
-
-returns-6 : tie.Need-returns-6
-returns-6 c =
+returns-4 : tie.Need-returns-4
+unfolding listOf
+returns-4 c =
     let p = c .before .before in
-    let k = p .before .before .before in
-    let w = k .before .before .before in
-    let d = counted-at w in
-    let e = d .before .before .before in
-    let s = start4 d in
-    let a = s .args in
+    let f = p .before .before .before in
+    let k = f .before .before .before .before in
+    let a = s k .args in
     let plan = now (a .plan) in
-    let zs = now (a .numbers) in
+    let list = ap planOf (aim-is f) in
     let answer =
-    p .plan-board .ensures .0 (a .address)
-    ∙ ap (λ (b : Board). firstOf (rowPlanned b zs (a .address) (a .limit) (length plan)) lastChecks (countsOf (listOf b zs (a .limit)))) (board-is w)
+    p .plan-change .ensures .0
+    ∙ ap (λ (ts : List Transaction). packingOf ts (length plan)) list
     ∙ sym
-    (passed (board s) zs (a .address) (a .limit) (length plan) (long (e .before .before)) (right e) (limited (d .before)) (counted d) (accepted k)) in
-    clauses (board s) zs (a .limit) (bytes (e .before .before .before)) (a .address) plan _ _ answer
-    (p .plan-board .ensures .1
-    ∙ ap (λ (b : Board). leftBy (listOf b zs (a .limit)) plan (answerOf (p .plan-board .result))) (board-is w)
-    ∙ ap (leftBy (listOf (board s) zs (a .limit)) plan) answer)
+    (planned k ∙ ap (λ (v : Verdict (Unit {0})). after v (packingOf (listOf (board (s k)) (zs k) (a .limit)) (length plan))) (accepted (f .before))) in
+    let packed = p .plan-change .ensures .0 ∙ ap (λ (ts : List Transaction). packingOf ts (length plan)) list in
+    clauses (board (s k)) (zs k) (a .limit) (bytes (right-at k .before .before .before)) (a .address) plan _ _ answer
+    (p .plan-change .ensures .1
+    ∙ ap (λ (ts : List Transaction). planAfter ts plan) list
+    ∙ sym (ap (leftBy (listOf (board (s k)) (zs k) (a .limit)) plan) packed)
+    ∙ ap (leftBy (listOf (board (s k)) (zs k) (a .limit)) plan) answer)
 
 pub plan-spec : {M : Type 1} → statement M
 plan-spec =
@@ -194,16 +190,14 @@ plan-spec =
     returns
     (λ c κs. tt)
     returns-2
-    (λ c κs. tt)
+    (λ c κs. search needs)
+    (λ c. search needs)
+    (λ c κs. search needs)
+    (λ c. search needs)
+    (λ c. search needs)
+    (λ c κs. passed (c .before .before .before) (accepted c) .passing)
+    (λ c. search needs)
+    plan-change-requires
     returns-3
-    returns-4
-    (λ c κs. search needs)
     (λ c. search needs)
-    (λ c κs. search needs)
-    (λ c. search needs)
-    (λ c. search needs)
-    (λ c. search needs)
-    (λ c κs. ready (c .before .before))
-    returns-5
-    (λ c. search needs)
-    returns-6)
+    returns-4)

@@ -14,60 +14,39 @@ use Rattle.adv7194_planning.proofs.plan_change.Statement.{statement}
 use Rattle.adv7194_planning.proofs.plan_change.Tie as tie
 
 -- where the function was entered
-abbrev start : tie.After-registers2 → tie.Start
-start c = c .before .before .before .before
+abbrev start : tie.After-register-maps → tie.Start
+start c = c .before .before .before
 
--- the calls before the maps are known
-abbrev allowed : tie.After-held-registers → tie.After-allowed-registers
-allowed c = c .before
-
-abbrev changed : tie.After-held-registers → tie.After-changed-registers
-changed c = allowed c .before .before .before
-
-changed-registers-requires : tie.Need-changed-registers-requires
-changed-registers-requires c κs =
-    let s = start c in
+register-maps-requires : tie.Need-register-maps-requires
+register-maps-requires c κs =
+    let s = c .before .before in
     comparable (s .args .board) (now (s .args .wanted)) (s .args .fixed) (s .args .limit) (s .pre)
 
 pack-requires : tie.Need-pack-requires
 pack-requires c κs =
     let m = c .before in
-    let s = start (changed m .before) in
-    let w = allowed m in
-    plannable (s .args .board) (now (s .args .wanted)) (s .args .fixed) (s .args .limit) (s .pre) _ _ _ _ _ (changed m .changed-registers .ensures)
-    (w .before .before .must-registers .ensures) (w .before .needed-registers .ensures) (w .allowed-registers .ensures) (m .held-registers .ensures)
+    let s = start m in
+    plannable (s .args .board) (now (s .args .wanted)) (s .args .fixed) (s .args .limit) (s .pre) (m .register-maps .result)
+    (m .register-maps .ensures (s .args .limit))
 
 -- the plan that is packed is the aim's
-same : (m : tie.After-held-registers) → (let a = start (changed m .before) .args in
-    let w = allowed m in
-    planBy (w .before .needed-registers .result) (w .allowed-registers .result) (m .held-registers .result) (a .limit) (now (a .wanted))
-    ≡ planOf (aimBy (a .board) (now (a .wanted)) (a .fixed) (a .limit)))
+same : (m : tie.After-register-maps) → (let a = start m .args in
+    let w = m .register-maps .result in
+    planBy (w .needed) (w .allowed) (w .held) (a .limit) (now (a .wanted)) ≡ planOf (aimBy (a .board) (now (a .wanted)) (a .fixed) (a .limit)))
 same m =
-    let s = start (changed m .before) in
-    let w = allowed m in
-    plan-is (s .args .board) (now (s .args .wanted)) (s .args .fixed) (s .args .limit) (s .pre) _ _ _ _ _ (changed m .changed-registers .ensures)
-    (w .before .before .must-registers .ensures) (w .before .needed-registers .ensures) (w .allowed-registers .ensures) (m .held-registers .ensures)
+    let s = start m in
+    plan-is (s .args .board) (now (s .args .wanted)) (s .args .fixed) (s .args .limit) (s .pre) (m .register-maps .result)
+    (m .register-maps .ensures (s .args .limit))
 
 -- what packing answers and leaves is what it does of that plan
 returns : tie.Need-returns
 returns c =
     let p = c .before .before in
     let m = p .before .before in
-    let plan = now (start (changed m .before) .args .plan) in (
+    let plan = now (start m .args .plan) in (
       p .pack .ensures .0 ∙ ap (λ (ts : List Transaction). packingOf ts (length plan)) (same m),
       p .pack .ensures .1 ∙ ap (λ (ts : List Transaction). planAfter ts plan) (same m),
     )
 
 pub plan-change-spec : {M : Type 1} → statement M
-plan-change-spec =
-    tie.close
-    (tie.spec
-    (λ c. search needs)
-    changed-registers-requires
-    (λ c κs. tt)
-    (λ c κs. tt)
-    (λ c κs. tt)
-    (λ c κs. tt)
-    pack-requires
-    (λ c. search needs)
-    returns)
+plan-change-spec = tie.close (tie.spec register-maps-requires pack-requires (λ c. search needs) returns)

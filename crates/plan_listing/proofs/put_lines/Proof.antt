@@ -51,7 +51,7 @@ returns c =
     let l = n .before .loop in
     let s = start (n .before) in
     let w = l .inv .written in
-    let all = all-passed (l .inv) (s .pre .0) (s .pre .1) (n .next .result) (c .match .keys2) (said n (n .next .result) refl) in (
+    let all = all-passed (l .inv .walked) (s .pre .0) (n .next .result) (c .match .keys2) (said n (n .next .result) refl) in (
       w .here ∙ ap (λ (ts : List Transaction). s .args .at + length (transactionLines ts)) (sym all),
       w .memory ∙ ap (λ (ts : List Transaction). appended (s .args .out .now) (s .args .at) (transactionLines ts)) (sym all),
     )

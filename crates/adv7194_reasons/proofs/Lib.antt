@@ -1,0 +1,11 @@
+pub mod FirstLaws
+pub mod NextLaws
+pub mod TurnLaws
+pub mod OtherLaws
+pub mod SentLaws
+pub mod BridgeLaws
+pub mod ChangedLaws
+pub mod SomeAnswer
+pub mod WhyTrue
+pub mod KnownLaws
+pub mod WhyLaws

@@ -1,0 +1,4 @@
+pub mod First
+pub mod Reasons
+pub mod Known
+pub mod Why

@@ -1,0 +1,23 @@
+-- `own::zero_bits` meets its contract: the register's byte under the mask of its must-be-zero bits. Assumes nothing.
+use mathlib.Core.Path.{ap, sym, _∙_}
+use Prim.Native.Nat.{ℕ}
+use lib.Bits.{bitAnd}
+use lib.ListN.{getD, List·getD-eq-default}
+use borrow.Author.Needs.{needs}
+use Rattle.adv7194_table.specs.Masks.{zeroMask}
+use Rattle.adv7194_table.proofs.MaskLaws.{zero-mask-at}
+use Rattle.adv7194_table.proofs.own.zero_bits.Statement.{statement}
+use Rattle.adv7194_table.proofs.own.zero_bits.Tie as tie
+
+returns : tie.Need-returns
+returns c =
+    let s = c .before .before .before .before in
+    ap (bitAnd (getD (s .args .image .now) (s .args .register) 0)) (c .must-be-zero .ensures ∙ zero-mask-at (s .args .register) (s .pre))
+
+returns-2 : tie.Need-returns-2
+returns-2 c =
+    let s = c .before .before in
+    sym (ap (λ (b : ℕ). bitAnd b (zeroMask (s .args .register))) (List·getD-eq-default (s .args .image .now) 0 (c .if1 .left)))
+
+pub zero-bits-spec : {M : Type 1} → statement M
+zero-bits-spec = tie.close (tie.spec (λ c. search needs) (λ c κs. search needs) returns returns-2)

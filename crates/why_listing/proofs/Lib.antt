@@ -1,0 +1,4 @@
+pub mod CheckLaws
+pub mod LineLaws
+pub mod WalkLaws
+pub mod TextLaws

@@ -1,0 +1,52 @@
+-- The parts of the text as they are written, and the most bytes of each.
+use mathlib.Core.Path.{_≡_}
+use mathlib.Core.List.{List, [], _++_}
+use Prim.Native.Nat.{ℕ, _+_, _*_, _≤_}
+use lib.ListN.{length}
+use Rattle.refusals.specs.Verdict.{Verdict, good, refusedAt}
+use Rattle.bus.specs.Transactions.{Transaction, size}
+use Rattle.listing.specs.Written.{lineWidth}
+use Rattle.plan_listing.specs.PlanText.{transactionLine}
+use Rattle.planning.specs.Plan.{Counts}
+use Rattle.answer_listing.specs.AnswerText.{Holds}
+use Rattle.adv7194_bus.specs.Kind.{registerCount}
+use Rattle.adv7194_least.specs.Demands.{wideBytes}
+use Rattle.adv7194_reasons.specs.Reasons.{Reason}
+use Rattle.why_listing.specs.WhyText.{reasonText, registerLines}
+
+-- an answer in plain words: those of the reason, none for a refusal
+abbrev pub answerWords : Verdict Reason → List ℕ
+answerWords (good k) = reasonText k
+answerWords (refusedAt n f) = []
+
+-- a transaction's line and those of its registers
+abbrev pub transactionText : (ℕ → Reason) → Transaction → List ℕ
+transactionText why t = transactionLine t ++ registerLines why (size t) (t .subaddress)
+
+-- a lent plan holds what planning answered, and an image that was planned over has 54 bytes
+pub record Ready (image plan : List ℕ) (v : Verdict Counts) : Type 0 where
+  pub holds : Holds plan v
+  pub most : length plan ≤ wideBytes
+  pub whole : (n : Counts) → v ≡ good n → length image ≡ registerCount
+
+-- ---- the most bytes of each
+
+-- a reason
+abbrev pub reasonWidth : ℕ
+reasonWidth = 29
+
+-- a register's line: its number, a space, the reason and the line end
+abbrev pub registerWidth : ℕ
+registerWidth = 2 + 1 + reasonWidth + 1
+
+-- a transaction's line and those of its registers, by how many data bytes it has
+abbrev pub transactionWidth : ℕ → ℕ
+transactionWidth n = 3 * (n + 1) + registerWidth * n
+
+-- the lines of a plan, for each byte of it
+abbrev pub byteWidth : ℕ
+byteWidth = 3 + registerWidth
+
+-- the whole text: the first line, and the lines of the longest plan
+abbrev pub textWidth : ℕ
+textWidth = lineWidth + byteWidth * wideBytes
