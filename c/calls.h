@@ -23,19 +23,14 @@
 /* Registers that are looked at. */
 #define HUE_REGISTER 0x20
 #define WORD_LAST_REGISTER 0x0F
+#define PEDESTAL_REGISTER 0x02
+#define PEDESTAL_BIT 0x08
 
-/* The house setting. */
+/* The house setting, as the library has it. */
 static void house(numbers *s)
 {
     fill_numbers(s, 0);
-    s->at[ADV7194_FOUR_TIMES] = 1;
-    s->at[ADV7194_PEDESTAL] = 1;
-    s->at[ADV7194_CONTRAST] = 1000;
-    s->at[ADV7194_U_SCALE] = 1000;
-    s->at[ADV7194_V_SCALE] = 1000;
-    s->at[ADV7194_DNR_INPUT] = 1;
-    s->at[ADV7194_CURVE_A_P] = s->at[ADV7194_CURVE_A_Q] = 1;
-    s->at[ADV7194_CURVE_B_P] = s->at[ADV7194_CURVE_B_Q] = 1;
+    adv7194_house(s->at, NUMBERS);
 }
 
 /* Plans over a board known in part, with a limit, and checks the answer, that inputs

@@ -33,6 +33,39 @@ static void plan_with(const char *what, bytes *image, int place, int32_t value, 
          refusal, field);
 }
 
+/* Asks for the house setting in so many lent numbers, and checks the answer and that nothing past them is touched. */
+static void house_in(const char *what, size_t length, uint32_t refusal)
+{
+    numbers lent, wanted;
+    fill_numbers(&lent, BEFORE_NUMBER);
+    wanted = lent;
+    adv7194_read_answer answer = adv7194_house(lent.at, length);
+    if (refusal == ADV7194_ACCEPTED)
+        memcpy(wanted.at, lent.at, NUMBERS * sizeof lent.at[0]);
+    check(what, answer.refusal == refusal && answer.field == 0 && memcmp(&lent, &wanted, sizeof lent) == 0);
+}
+
+/* The house setting: its lengths, and that its pedestal is off. */
+static void test_house(bytes *image)
+{
+    static const uint8_t pedestal_off[] = {0x04, 0x20, 0x40, 0x00};
+    bytes lent, other = *image;
+    numbers settings;
+    house_in("house", NUMBERS, ADV7194_ACCEPTED);
+    house_in("house refusal 3, 48 numbers", NUMBERS - 1, ADV7194_OUT_OF_RANGE);
+    house_in("house refusal 3, 50 numbers", NUMBERS + 1, ADV7194_OUT_OF_RANGE);
+    house_in("house refusal 3, no numbers", 0, ADV7194_OUT_OF_RANGE);
+    house(&settings);
+    check("the pedestal is off", settings.at[ADV7194_PEDESTAL] == 0 && image->at[PEDESTAL_REGISTER] == 0x00);
+    other.at[PEDESTAL_REGISTER] = PEDESTAL_BIT;
+    fill_bytes(&lent, BEFORE_BYTE);
+    adv7194_plan_answer answer = plan("plan the pedestal off", &other, IMAGE, &settings, NUMBERS, ADDRESS, &lent, MOST,
+                                      ADV7194_ACCEPTED, 0);
+    check("pedestal off is 04 20 40 00", answer.length == sizeof pedestal_off && answer.transactions == 1 &&
+                                             answer.bus_bytes == 3 &&
+                                             memcmp(lent.at, pedestal_off, sizeof pedestal_off) == 0);
+}
+
 /* An image that the house setting needs nothing for. */
 static void settle(bytes *image)
 {
@@ -94,13 +127,27 @@ static void test_plan_refused(bytes *image)
     plan("plan with just room", image, IMAGE, &s, NUMBERS, ADDRESS, &lent, 4, ADV7194_ACCEPTED, 0);
 }
 
+/* Plans with these settings, all else being right. */
+static void plan_set(const char *what, bytes *image, numbers *settings, uint32_t refusal, uint32_t field)
+{
+    bytes lent;
+    fill_bytes(&lent, BEFORE_BYTE);
+    plan(what, image, IMAGE, settings, NUMBERS, ADDRESS, &lent, MOST, refusal, field);
+}
+
 /* Settings that are refused, and some beside them that aren't. */
 static void test_settings_refused(bytes *image)
 {
+    numbers pedestal;
+    house(&pedestal);
+    pedestal.at[ADV7194_PEDESTAL] = 1;
     plan_with("plan refusal 3, standard 4", image, ADV7194_STANDARD, 4, ADV7194_OUT_OF_RANGE, 1);
     plan_with("plan refusal 4, standard 2", image, ADV7194_STANDARD, 2, ADV7194_RESERVED, 1);
     plan_with("plan refusal 5, square with 4x", image, ADV7194_SQUARE, 1, ADV7194_SQUARE_FOUR_TIMES, 3);
-    plan_with("plan refusal 6, pedestal with PAL", image, ADV7194_STANDARD, ADV7194_PAL, ADV7194_PEDESTAL_PAL, 4);
+    plan_with("plan accepts PAL", image, ADV7194_STANDARD, ADV7194_PAL, ADV7194_ACCEPTED, 0);
+    plan_set("plan accepts the pedestal", image, &pedestal, ADV7194_ACCEPTED, 0);
+    pedestal.at[ADV7194_STANDARD] = ADV7194_PAL;
+    plan_set("plan refusal 6, pedestal with PAL", image, &pedestal, ADV7194_PEDESTAL_PAL, 4);
     plan_with("plan refusal 7, CGMS for neither field", image, ADV7194_SIGNALLING, ADV7194_CGMS,
               ADV7194_WRONG_SIGNALLING, 11);
     plan_with("plan refusal 7, WSS with NTSC", image, ADV7194_SIGNALLING, ADV7194_WSS, ADV7194_WRONG_SIGNALLING, 11);
@@ -112,14 +159,6 @@ static void test_settings_refused(bytes *image)
     plan_with("plan refusal 4, data gain 9", image, ADV7194_DATA_GAIN, 9, ADV7194_RESERVED, 19);
     plan_with("plan refusal 4, DNR input 0", image, ADV7194_DNR_INPUT, 0, ADV7194_RESERVED, 23);
     plan_with("plan refusal 3, curve B 1/4", image, ADV7194_CURVE_B_Q, 4, ADV7194_OUT_OF_RANGE, 27);
-}
-
-/* Plans with these settings, all else being right. */
-static void plan_set(const char *what, bytes *image, numbers *settings, uint32_t refusal, uint32_t field)
-{
-    bytes lent;
-    fill_bytes(&lent, BEFORE_BYTE);
-    plan(what, image, IMAGE, settings, NUMBERS, ADDRESS, &lent, MOST, refusal, field);
 }
 
 /* Signalling in settings: 7 before 3, and 3 before 4. */
@@ -172,6 +211,8 @@ static void test_play(void)
 static void test_read(bytes *image)
 {
     numbers settings;
+    bytes pedestal = *image;
+    pedestal.at[PEDESTAL_REGISTER] |= PEDESTAL_BIT;
     fill_numbers(&settings, BEFORE_NUMBER);
     read_into("read the house setting", image, IMAGE, &settings, NUMBERS, ADV7194_ACCEPTED, 0);
     check("contrast is read nearest zero", settings.at[ADV7194_CONTRAST] == 997);
@@ -184,7 +225,7 @@ static void test_read(bytes *image)
     read_into("read refusal 3, 48 numbers", image, IMAGE, &settings, NUMBERS - 1, ADV7194_OUT_OF_RANGE, 0);
     read_with("read refusal 4, standard", image, 0x00, 0x02, ADV7194_RESERVED, 1);
     read_with("read refusal 5", image, 0x02, 0x18, ADV7194_SQUARE_FOUR_TIMES, 3);
-    read_with("read refusal 6", image, 0x00, 0x01, ADV7194_PEDESTAL_PAL, 4);
+    read_with("read refusal 6", &pedestal, 0x00, 0x01, ADV7194_PEDESTAL_PAL, 4);
     read_with("read refusal 7, WSS with NTSC", image, 0x19, 0x80, ADV7194_WRONG_SIGNALLING, 11);
     read_with("read refusal 7, both at once", image, 0x19, 0xA0, ADV7194_WRONG_SIGNALLING, 11);
     read_with("read refusal 4, chip check alone", image, 0x19, 0x10, ADV7194_RESERVED, 11);
@@ -217,12 +258,14 @@ static void test_null(bytes *image)
     check("transaction, null data", adv7194_transaction(empty, 1, 0, NULL, 0).refusal == 3);
     check("read, null image", adv7194_read(NULL, 0, all, settings.at, NUMBERS).refusal == 1);
     check("read, null settings", adv7194_read(image->at, IMAGE, all, NULL, 0).refusal == 3);
+    check("house, null settings", adv7194_house(NULL, 0).refusal == 3);
 }
 
 int main(void)
 {
     bytes image;
     settle(&image);
+    test_house(&image);
     test_plan(&image);
     test_plan_refused(&image);
     test_settings_refused(&image);

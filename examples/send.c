@@ -7,14 +7,6 @@
 /* The most data bytes in one transaction. A bus that others wait for takes fewer. */
 #define LIMIT ADV7194_NO_LIMIT
 
-/* The house setting. Numbers that aren't named are 0. */
-static const int32_t house[ADV7194_SETTINGS] = {
-    [ADV7194_FOUR_TIMES] = 1,    [ADV7194_PEDESTAL] = 1,
-    [ADV7194_CONTRAST] = 1000,   [ADV7194_U_SCALE] = 1000, [ADV7194_V_SCALE] = 1000,
-    [ADV7194_DNR_INPUT] = 1,     [ADV7194_CURVE_A_P] = 1,  [ADV7194_CURVE_A_Q] = 1,
-    [ADV7194_CURVE_B_P] = 1,     [ADV7194_CURVE_B_Q] = 1,
-};
-
 /* Start, address, subaddress, data, stop. A board's own bus driver goes here; this prints the bytes. */
 static void bus_write(uint32_t subaddress, const uint8_t *data, uint32_t count)
 {
@@ -27,7 +19,9 @@ static void bus_write(uint32_t subaddress, const uint8_t *data, uint32_t count)
 int main(void)
 {
     uint8_t image[ADV7194_REGISTERS], plan[ADV7194_PLAN_ROOM], data[ADV7194_DATA_ROOM];
+    int32_t house[ADV7194_SETTINGS];
     size_t length = fread(image, 1, sizeof image, stdin);
+    adv7194_house(house, ADV7194_SETTINGS);
     adv7194_plan_answer answer = adv7194_plan(image, length, ADV7194_ALL_KNOWN, house, ADV7194_SETTINGS, ADDRESS,
                                               LIMIT, plan, sizeof plan);
     if (answer.refusal != ADV7194_ACCEPTED) {

@@ -188,7 +188,7 @@ typedef struct {
     uint64_t known;        /* the flags after the call; as handed in where it refuses */
 } adv7194_play_answer;
 
-/* What reading answers. */
+/* What reading answers, and asking for the house setting. */
 typedef struct {
     uint32_t refusal; /* a refusal, or 0 */
     uint32_t field;   /* the field at fault, or 0 */
@@ -313,6 +313,15 @@ adv7194_transaction_answer adv7194_transaction(const uint8_t *plan, size_t plan_
 adv7194_read_answer adv7194_read(const uint8_t *image, size_t image_len,
                                  uint64_t known,
                                  int32_t *settings, size_t settings_len);
+
+/*
+ * Writes the house setting into `settings`: what the boards are set to unless
+ * said otherwise. Its pedestal is off; a caller that wants it on sets its number
+ * after the call.
+ *
+ * Refuses 3 with field 0 for another length than 49.
+ */
+adv7194_read_answer adv7194_house(int32_t *settings, size_t settings_len);
 
 /*
  * Compares two images, both known in full. A field differs where any of its bits

@@ -1,5 +1,5 @@
-// What C and Rust link: planning, playing, reading and comparing with settings and answers as numbers, why a register is sent, planning, playing and reading
-// captions, and a plan's transactions. A slice is a pointer and a length.
+// What C and Rust link: planning, playing, reading and comparing with settings and answers as numbers, why a register is sent, the house setting, planning,
+// playing and reading captions, and a plan's transactions. A slice is a pointer and a length.
 ghost use mathlib.Core.Path.{_≡_};
 ghost use Prim.Native.Nat.{_≤_, _<_};
 ghost use lib.ListN.{length, take};
@@ -8,6 +8,7 @@ ghost use Rattle.unpacking.specs.Indexed.{transactionOf, headerOf, dataAfter};
 ghost use Rattle.adv7194_bus.specs.Board.{boardOf};
 ghost use Rattle.adv7194_settings.specs.Wanted.{wantedBy};
 ghost use Rattle.adv7194_settings.specs.Demand.{Demanded};
+ghost use Rattle.adv7194_settings.specs.House.{houseOf, houseLeft};
 ghost use Rattle.adv7194_settings.specs.Reading.{readOf, readLeft};
 ghost use Rattle.adv7194_captions.specs.Planning.{captionPlanning, captionPlanLeft};
 ghost use Rattle.adv7194_captions.specs.Reading.{captionReading};
@@ -43,6 +44,7 @@ use adv7194_compare::compare;
 use adv7194_playing::PlanKind;
 use adv7194_playing::play;
 use adv7194_reading::read;
+use adv7194_reading::read_house;
 use adv7194_reasons::why;
 use unpacking::indexed::transaction;
 
@@ -106,6 +108,15 @@ pub extern "C" fn adv7194_read(image: &[u8], known: u64, settings: &mut [i32]) -
     ensures memory { λ r. ⌜ now (settings .exit) ≡ readLeft (boardOf (now (image .entry)) known) (now (settings .entry)) ⌝ }
 {
     read_answer(read(image, known, settings))
+}
+
+// The house setting in the lent settings.
+#[no_mangle]
+pub extern "C" fn adv7194_house(settings: &mut [i32]) -> ReadAnswer
+    ensures answer { λ r. ⌜ r ≡ readAnswer (houseOf (length (now (settings .entry)))) ⌝ }
+    ensures memory { λ r. ⌜ now (settings .exit) ≡ houseLeft (now (settings .entry)) ⌝ }
+{
+    read_answer(read_house(settings))
 }
 
 // The transaction with an index, counted from 0, of a packed plan: its subaddress and data count, with its data at the front of the memory lent.

@@ -1,4 +1,4 @@
-// A board judged and read: the settings that it holds, as 49 numbers.
+// A board judged and read: the settings that it holds, as 49 numbers. The house setting is handed out in the same way.
 ghost use mathlib.Core.Path.{_≡_};
 ghost use lib.ListN.{length};
 ghost use Rattle.refusals.specs.Order.{Exactly};
@@ -7,6 +7,7 @@ ghost use Rattle.adv7194_settings.specs.Reading.{rowRead, readOrder, readOf, re
 ghost use Rattle.adv7194_reading.specs.Answers.{readAs};
 
 mod answers;
+mod house;
 mod reading;
 
 use adv7194_bus::REGISTERS;
@@ -16,6 +17,7 @@ pub use answers::Read;
 use answers::answer;
 use answers::with_unknown;
 use field_table::Checked;
+pub use house::read_house;
 use reading::read_first;
 use reading::read_last;
 use refusals::Refusal;
@@ -24,7 +26,7 @@ use refusals::Refusal;
 const NUMBERS: usize = 49;
 
 // Numbers copied into as many others.
-fn copy(from: &[i32], to: &mut [i32])
+pub(crate) fn copy(from: &[i32], to: &mut [i32])
     requires { ⌜ length (now from) ≡ length (now to) ⌝ }
     ensures memory { λ r. ⌜ now (to .exit) ≡ now (from .entry) ⌝ }
 {

@@ -21,6 +21,8 @@ const READ: u64 = 0x7265_6164;
 
 const WHY: u64 = 0x77_6879;
 
+const HOUSE: u64 = 0x68_6F75_7365;
+
 const CAPTION: u64 = 0x63_6170_7469_6F6E;
 
 const PLAYCAP: u64 = 0x70_6C61_7963_6170;
@@ -112,6 +114,15 @@ fn caption(tokens: Tokens) -> bool {
     calls::plan_captions(held, tokens.numbers, &mut plan[0..n])
 }
 
+// Answers a record of the house setting, if it is one: a count and no list.
+fn house(tokens: Tokens) -> bool {
+    if (tokens.numbers != 2) | (tokens.count != 2) {
+        return false;
+    }
+    let held = tokens.held;
+    calls::house(held[1])
+}
+
 // Answers a record of a coding, if it is one: so many tokens before a second list, of which so many are the word and numbers; then a field, and its
 // setting or code.
 fn coding(word: u64, count: usize, numbers: usize, field: u64, token: u64) -> bool {
@@ -133,6 +144,9 @@ fn record(tokens: Tokens, context: Context) -> bool {
     let word = held[0];
     if word == CAPTION {
         return caption(tokens);
+    }
+    if word == HOUSE {
+        return house(tokens);
     }
     if !has_image(word) {
         return coding(word, tokens.middle, tokens.numbers, held[1], held[2]);

@@ -14,6 +14,9 @@ const FIRST_SETTING: usize = 2;
 // How many numbers a set of settings is.
 const SETTINGS: usize = 49;
 
+// What lent settings hold before the house setting is asked for.
+const BEFORE: i32 = 77;
+
 // The most characters of a pair in a record, and where they begin among the numbers after the address.
 const MOST_CHARACTERS: usize = 8;
 
@@ -180,5 +183,23 @@ pub(crate) fn read(image: &[u8], known: u64) -> bool {
     let answer = adv7194_c::adv7194_read(image, known, &mut settings);
     print::verdict(answer.refusal, answer.field);
     print::numbers(&settings);
+    true
+}
+
+// The house setting in lent settings.
+fn lent_house(settings: &mut [i32]) {
+    let answer = adv7194_c::adv7194_house(settings);
+    print::verdict(answer.refusal, answer.field);
+    print::numbers(settings);
+}
+
+// The house setting in so many lent settings.
+pub(crate) fn house(token: u64) -> bool {
+    let count = tokens::unsigned(token) as usize;
+    if MOST_SETTINGS < count {
+        return false;
+    }
+    let mut settings = [BEFORE; MOST_SETTINGS];
+    lent_house(&mut settings[0..count]);
     true
 }

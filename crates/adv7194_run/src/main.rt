@@ -6,6 +6,7 @@
 //                                           changed, 3 must be zero, 4 sent with the subcarrier word, 5 between two needed registers)
 //   play USED OWN:IMAGE..;PLAN..            playing: 1 where every byte was acknowledged, and the image after it
 //   read:IMAGE..                            reading: the 49 settings
+//   house COUNT                             the house setting in so many lent numbers, at most 64, each of them 77 before: the numbers after it
 //   caption ADDRESS E O CHARACTERS..;LENT..  planning captions into the lent bytes, E characters of the extended pair and then O of the ordinary one, at
 //                                           most eight of each: answered as plan is
 //   playcap USED OWN:IMAGE..;PLAN..         playing captions: answered as play is

@@ -1,4 +1,4 @@
-// The house setting (document 01's term).
+// The house setting (document 01's term), with the pedestal off (document 02, P8).
 ghost use mathlib.Core.Path.{_≡_};
 ghost use Prim.Native.Nat.{_+_, _<_};
 ghost use lib.ListN.{length, set};
@@ -21,6 +21,8 @@ use field_table::store;
 pub const NUMBERS: usize = 49;
 
 const YES: i32 = 1;
+
+const NO: i32 = 0;
 
 // Contrast and scales of one, in thousandths.
 const WHOLE: i32 = 1000;
@@ -53,13 +55,13 @@ fn put_ratio(numbers: &mut [i32], packed: u64)
     numbers[q] = ONE;
 }
 
-// 4x oversampling and pedestal on, contrast and scales 1000, DNR input 1, both curves of ratio 1/1, every other number 0.
+// 4x oversampling on, pedestal off, contrast and scales 1000, DNR input 1, both curves of ratio 1/1, every other number 0.
 pub fn house() -> [i32; 49]
     ensures answer { λ r. ⌜ r ≡ houseSetting ⌝ }
 {
     let mut numbers = [0i32; NUMBERS];
     put_number(&mut numbers, OVERSAMPLING, YES);
-    put_number(&mut numbers, PEDESTAL, YES);
+    put_number(&mut numbers, PEDESTAL, NO);
     put_number(&mut numbers, CONTRAST, WHOLE);
     put_number(&mut numbers, U_SCALE, WHOLE);
     put_number(&mut numbers, V_SCALE, WHOLE);

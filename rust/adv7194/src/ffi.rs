@@ -35,7 +35,7 @@ pub struct PlayAnswer {
     pub known: u64,
 }
 
-/// What reading answers.
+/// What reading answers, and asking for the house setting.
 #[repr(C)]
 #[derive(Clone, Copy, Debug, PartialEq, Eq)]
 pub struct ReadAnswer {
@@ -154,6 +154,8 @@ extern "C" {
         settings: *mut i32,
         settings_len: usize,
     ) -> ReadAnswer;
+
+    fn adv7194_house(settings: *mut i32, settings_len: usize) -> ReadAnswer;
 
     fn adv7194_compare(a: *const u8, a_len: usize, b: *const u8, b_len: usize) -> CompareAnswer;
 
@@ -274,6 +276,13 @@ pub fn read(image: &[u8], known: u64, settings: &mut [i32]) -> ReadAnswer {
             settings.len(),
         )
     }
+}
+
+/// Writes the house setting, with the archive's own numbers.
+#[inline]
+pub fn house(settings: &mut [i32]) -> ReadAnswer {
+    // Sound: as in `plan`.
+    unsafe { adv7194_house(settings.as_mut_ptr(), settings.len()) }
 }
 
 /// Compares, with the archive's own numbers.

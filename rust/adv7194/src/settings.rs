@@ -1,5 +1,8 @@
 //! Settings with types.
 
+use crate::numbers::NUMBERS;
+use crate::{ffi, refusal};
+
 /// Bytes of a gamma curve.
 pub const CURVE_BYTES: usize = 7;
 
@@ -119,38 +122,22 @@ pub struct Settings {
 }
 
 impl Settings {
-    /// The house setting: NTSC, 4x on, pedestal on, contrast and scales 1000,
-    /// DNR input 1, both curves 1/1, signalling off, all else 0 or no.
-    pub const fn house() -> Settings {
-        Settings {
-            standard: Standard::Ntsc,
-            square_pixel: false,
-            four_times: true,
-            pedestal: true,
-            y_level: YLevel::Betacam,
-            uv_level: 0,
-            rgb_sync: false,
-            clamp_delay: 0,
-            back_porch: false,
-            phase: 0,
-            signalling: Signalling::Off,
-            contrast: 1000,
-            u_scale: 1000,
-            v_scale: 1000,
-            hue: 0,
-            brightness: 0,
-            sharpness: 0,
-            border_gain: 0,
-            data_gain: 0,
-            threshold: 0,
-            border_area: false,
-            block_size: false,
-            dnr_input: 1,
-            dnr_mode: false,
-            block_offset: 0,
-            curve_a: Curve::Ratio { p: 1, q: 1 },
-            curve_b: Curve::Ratio { p: 1, q: 1 },
-        }
+    /// The house setting. The archive has it.
+    ///
+    /// ```
+    /// use adv7194::Settings;
+    ///
+    /// let settings = Settings {
+    ///     hue: 40,
+    ///     ..Settings::house()
+    /// };
+    /// assert!(settings.four_times && !settings.pedestal);
+    /// ```
+    pub fn house() -> Settings {
+        let mut numbers = [0; NUMBERS];
+        let answer = ffi::house(&mut numbers);
+        refusal::check(answer.refusal, answer.field).expect("49 numbers are lent");
+        Settings::from_numbers(&numbers).expect("the house setting has a typed form")
     }
 }
 

@@ -1,7 +1,7 @@
 //! The typed form: to numbers and back, and through the archive.
 
 use adv7194::{
-    compare, index, plan, play, read, Board, Curve, Reason, Refusal, Settings, Signalling,
+    compare, ffi, index, plan, play, read, Board, Curve, Reason, Refusal, Settings, Signalling,
     Standard, YLevel, NO_LIMIT, PLAN_ROOM, REGISTERS,
 };
 
@@ -71,6 +71,20 @@ fn read_as_set() {
     assert_eq!(through(&pal()), Ok(wanted));
 }
 
+/// The house setting: what its registers hold, and other lengths than 49.
+#[test]
+fn house() {
+    let image = settled(&Settings::house()).unwrap();
+    assert_eq!(image[0x00..=0x02], [0xFC, 0xFF, 0xE7]);
+    assert_eq!(Settings::default(), Settings::house());
+    for length in [0, 48, 50] {
+        let mut lent = vec![7; length];
+        let answer = ffi::house(&mut lent);
+        assert_eq!((answer.refusal, answer.field), (3, 0));
+        assert_eq!(lent, vec![7; length]);
+    }
+}
+
 #[test]
 fn cgms() {
     let settings = Settings {
@@ -104,7 +118,11 @@ fn refused() {
 
 #[test]
 fn compared() {
-    let house = settled(&Settings::house()).unwrap();
+    let house = settled(&Settings {
+        pedestal: true,
+        ..Settings::house()
+    })
+    .unwrap();
     let mut other = settled(&pal()).unwrap();
     let comparison = compare(&house, &other).unwrap();
     let fields = [

@@ -12,6 +12,9 @@ use plain::{PlanAnswer, PlayAnswer, ALL_KNOWN, NO_LIMIT};
 const NOT_A_RECORD: &str = "NOT A RECORD";
 /// The most characters of a pair in a record.
 const MOST_CHARACTERS: usize = 8;
+/// The most lent settings of a record, and what they hold before.
+pub(crate) const MOST_SETTINGS: usize = 64;
+const BEFORE: i32 = 77;
 
 /// The answers to all lines of a text, a line each. All registers are known until
 /// a line says which are, and there is no limit until a line gives one.
@@ -72,6 +75,7 @@ fn answer_record(record: &Record, given: &mut Given) -> Option<String> {
         ("playcap", [used, own], _) => play(record, plain::play_captions, *given, *used, *own),
         ("readcap", [pair], (_, false)) => readcap(record, *given, *pair),
         ("read", [], (_, false)) => read(record, *given),
+        ("house", [count], (false, false)) => house(*count),
         ("events", [own], _) => events(record, *given, *own),
         ("code", [field, setting], (false, false)) => codings::code(*field, signed(*setting)),
         ("setting", [field], (true, false)) => match record.first()?.as_slice() {
@@ -205,6 +209,20 @@ fn play(record: &Record, player: Player, given: Given, used: i64, own: i64) -> O
 fn read(record: &Record, given: Given) -> Option<String> {
     let mut settings = [0; SETTINGS];
     let answer = plain::read(&record.first()?, given.known(), &mut settings);
+    Some(joined(&[
+        verdict(answer.refusal, answer.field),
+        decimal(&settings),
+    ]))
+}
+
+/// The house setting in so many lent settings.
+fn house(count: i64) -> Option<String> {
+    let count = usize::try_from(count).ok()?;
+    if count > MOST_SETTINGS {
+        return None;
+    }
+    let mut settings = vec![BEFORE; count];
+    let answer = plain::put_house(&mut settings);
     Some(joined(&[
         verdict(answer.refusal, answer.field),
         decimal(&settings),

@@ -16,6 +16,7 @@ pub mod pairs;
 mod captions;
 mod codings;
 mod events;
+mod house;
 mod known;
 mod known_plays;
 mod known_reads;

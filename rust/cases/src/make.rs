@@ -2,7 +2,7 @@
 
 use crate::codings::PLACES;
 use crate::{
-    captions, events, hex, known, known_plays, known_reads, limits, plans, plays, reasons,
+    captions, events, hex, house, known, known_plays, known_reads, limits, plans, plays, reasons,
     signalling, together,
 };
 use plain::registers::REGISTERS;
@@ -49,6 +49,7 @@ pub fn files() -> Vec<(&'static str, String)> {
         ("curves_and_words", text(plans::curves_and_words())),
         ("events", text(events::systematic())),
         ("events_seeded", text(events::seeded())),
+        ("house", text(house::records())),
         ("known_events", text(known_reads::events())),
         ("known_plans", text(known::plans())),
         ("known_plays", text(known_plays::plays())),

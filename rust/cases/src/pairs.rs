@@ -100,6 +100,7 @@ fn pair(name: &str, a: &[u8], b: &[u8]) -> Pair {
 /// NTSC settings in which most fields aren't 0, so that a neighbour's bits would show.
 fn busy() -> [i32; SETTINGS] {
     let changed = [
+        (at::PEDESTAL, 1),
         (at::Y_LEVEL, 1),
         (at::UV_LEVEL, 1),
         (at::RGB_SYNC, 1),

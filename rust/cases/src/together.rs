@@ -19,10 +19,11 @@ pub fn refused_together() -> Vec<String> {
         [(at::HUE, -226), (at::DNR_INPUT, 5)],
         [(at::STANDARD, 2), (at::SQUARE, 1)],
         [(at::STANDARD, 4), (at::SQUARE, 1)],
-        [(at::STANDARD, 1), (at::SQUARE, 1)],
         [(at::SQUARE, 1), (at::FOUR_TIMES, 2)],
     ];
     both.extend(of_house.map(|numbers| with(house, &numbers)));
+    let pedestal = with(house, &[(at::PEDESTAL, 1)]);
+    both.push(with(pedestal, &[(at::STANDARD, 1), (at::SQUARE, 1)]));
     let cgms = with(
         house,
         &[

@@ -238,6 +238,23 @@ impl Comparer {
         (answer, other)
     }
 
+    /// Asks for the house setting. `settings` is what the lent settings hold before.
+    pub fn house(&mut self, settings: &[i32]) {
+        let before = Lent::new(settings, GUARD_NUMBER);
+        let (mut one, mut other) = (before, before);
+        let answer = plain::put_house(one.lend());
+        let proved = ffi::house(other.lend());
+        let a = [answer.refusal, answer.field];
+        let b = [proved.refusal, proved.field];
+        let show = |what: &str| format!("house, {what}: {a:?} {b:?} for length {}", settings.len());
+        self.count(Entry::House, answer.refusal, answer.field);
+        self.expect(a == b, || show("answers"));
+        self.expect(one == other, || show("lent settings"));
+        if b[0] != 0 {
+            self.expect(other == before, || show("settings after a refusal"));
+        }
+    }
+
     /// Compares two images. Nothing may differ exactly where the bytes are the
     /// same but for register 34's.
     pub fn compare(&mut self, a: &[u8], b: &[u8]) -> CompareAnswer {

@@ -99,6 +99,7 @@ fn lengths(comparer: &mut Comparer, random: &mut Random) {
             comparer.read(&made, known, &vec![BEFORE as i32; lent]);
             comparer.read(&settled, known, &vec![BEFORE as i32; lent]);
             comparer.read(&reserved, known, &vec![BEFORE as i32; lent]);
+            comparer.house(&vec![BEFORE as i32; lent]);
         }
     }
 }

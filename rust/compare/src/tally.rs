@@ -11,6 +11,8 @@ pub enum Entry {
     Play,
     /// Reading.
     Read,
+    /// The house setting.
+    House,
     /// A transaction by its index.
     Transaction,
     /// Comparing two images.
@@ -31,13 +33,14 @@ impl Entry {
 }
 
 /// How many there are.
-const ENTRIES: usize = 9;
+const ENTRIES: usize = 10;
 /// All of them.
 const ALL: [Entry; ENTRIES] = [
     Entry::Plan,
     Entry::Why,
     Entry::Play,
     Entry::Read,
+    Entry::House,
     Entry::Transaction,
     Entry::Compare,
     Entry::PlanCaptions,
@@ -50,6 +53,7 @@ const NAMES: [&str; ENTRIES] = [
     "why",
     "play",
     "read",
+    "house",
     "transaction",
     "compare",
     "plan_captions",
@@ -116,6 +120,8 @@ const READ: [(u32, u32); 19] = [
     (8, 28),
 ];
 
+/// The house setting: another length than 49.
+const HOUSE: [(u32, u32); 1] = [(RANGE, 0)];
 /// A transaction.
 const TRANSACTION: [(u32, u32); 3] = [(9, 0), (3, 0), (10, 0)];
 /// Comparing.
@@ -187,6 +193,7 @@ fn can_be(entry: Entry, refusal: u32, field: u32) -> bool {
         Entry::Read => {
             READ.contains(&pair) || refusal == UNKNOWN && FIRST_OF_REGISTER.contains(&field)
         }
+        Entry::House => HOUSE.contains(&pair),
         Entry::Transaction => TRANSACTION.contains(&pair),
         Entry::Compare => COMPARE.contains(&pair),
         Entry::PlanCaptions => PLAN_CAPTIONS.contains(&pair),

@@ -46,7 +46,7 @@ pub use captions::{is_odd, plan_captions, play_captions, read_captions, with_par
 pub use captions::{CaptionsAnswer, CAPTION_ROOM, PAIR};
 pub use check::check;
 pub use compare::{compare, outside, raw_code, CompareAnswer, LAST_FIELD};
-pub use house::house;
+pub use house::{house, put_house};
 pub use house_listing::{house_plan, house_why};
 pub use plan::{plan, PlanAnswer};
 pub use play::{play, PlayAnswer};

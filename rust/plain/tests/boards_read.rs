@@ -6,10 +6,10 @@ mod boards;
 #[path = "common/lowest.rs"]
 mod lowest;
 
-use boards::{settled, three, OWN, PAST};
+use boards::{settled, three, with, OWN, PAST};
 use lowest::lowest_field;
 use plain::chip::{Chip, Event};
-use plain::fields::SETTINGS;
+use plain::fields::{self as at, SETTINGS};
 use plain::registers::REGISTERS;
 use plain::{house, play_captions, read, read_captions, ALL_KNOWN};
 
@@ -56,7 +56,7 @@ fn reading() {
 /// 11 at a field, and a fault of the field before it and after it.
 #[test]
 fn reading_between_faults() {
-    let image = settled(&house(), 0);
+    let image = settled(&with(house(), &[(at::PEDESTAL, 1)]), 0);
     let of = |register: usize, byte: u8, unknown: u32| {
         let mut image = image;
         image[register] = byte;

@@ -3,8 +3,8 @@
 use plain::fields as at;
 use plain::least::list;
 use plain::registers as reg;
-use plain::{check, codes, gamma, house, play, read, refusal, signal, subcarrier};
-use plain::{PlanAnswer, ALL_KNOWN, NO_LIMIT};
+use plain::{check, codes, gamma, play, put_house, read, refusal, signal, subcarrier};
+use plain::{house, PlanAnswer, ALL_KNOWN, NO_LIMIT};
 
 /// An even address.
 const ADDRESS: u32 = 0x54;
@@ -170,7 +170,7 @@ fn other_bits_stay() {
     let image = settled(0xFF);
     assert_eq!(image[0x00], 0xFC);
     assert_eq!(image[0x01], 0xFF);
-    assert_eq!(image[0x02], 0xEF);
+    assert_eq!(image[0x02], 0xE7);
     assert_eq!(image[0x03], 0xFF);
     assert_eq!((image[0x19], image[0x1A]), (0x0F, 0xFF));
     assert_eq!((image[0x21], image[0x22]), (0x00, 0x06));
@@ -199,7 +199,7 @@ fn images_refused() {
     };
     assert_eq!(of(0x00, 0x02), (4, 1));
     assert_eq!(of(0x02, 0x18), (5, 3));
-    assert_eq!(of(0x00, 0x01), (6, 4));
+    assert_eq!(of(0x00, 0x01), (8, 28));
     assert_eq!(of(0x05, 0x06), (4, 6));
     assert_eq!(of(0x05, 0x40), (4, 8));
     assert_eq!(of(0x19, 0x10), (4, 11));
@@ -214,6 +214,39 @@ fn images_refused() {
     assert_eq!(of(0x23, 0x98), (4, 19));
     assert_eq!(of(0x25, 0x05), (4, 23));
     assert_eq!(of(0x0C, 0x00), (8, 28));
+    // PAL where the pedestal is on.
+    let mut image = settled(0x00);
+    (image[0x00], image[0x02]) = (0x01, 0x08);
+    let answer = read(&image, ALL_KNOWN, &mut [0; at::SETTINGS]);
+    assert_eq!((answer.refusal, answer.field), (6, 4));
+}
+
+/// The house setting, where 49 numbers are lent.
+#[test]
+fn house_setting() {
+    for length in [0, 48, 49, 50] {
+        let mut lent = vec![7; length];
+        let answer = put_house(&mut lent);
+        let answer = (answer.refusal, answer.field);
+        if length == at::SETTINGS {
+            assert_eq!((answer, &lent[..]), ((0, 0), &house()[..]));
+        } else {
+            assert_eq!((answer, lent), ((3, 0), vec![7; length]));
+        }
+    }
+}
+
+/// Document 02, P8: an image right but for 02 at 08.
+#[test]
+fn pedestal_off() {
+    let mut image = settled(0x00);
+    assert_eq!(image[0x02], 0x00);
+    image[0x02] = 0x08;
+    let mut bytes = [0; ROOM];
+    let planned = plan(&image, &house(), &mut bytes);
+    assert_eq!((planned.transactions, planned.bus_bytes), (1, 3));
+    // 000001 000010 000001 00000000 000000
+    assert_eq!(bytes[..4], [0x04, 0x20, 0x40, 0x00]);
 }
 
 /// Field 11 of settings: 7, then 3, then 4.

@@ -283,13 +283,13 @@ fn text() {
     for (register, bits) in [(0x02, 0x10), (0x05, 1), (0x0F, 0x80), (0x21, 0x80)] {
         image[register] ^= bits;
     }
-    let expected = "PLAN 3 15\n02 08 00 00 00\n02 square pixel changed\n03 between 02 and 05\n\
+    let expected = "PLAN 3 15\n02 00 00 00 00\n02 square pixel changed\n03 between 02 and 05\n\
                     04 between 02 and 05\n05 Y level changed\n0C 1F 7C F0 21\n\
                     0C sent with the subcarrier word\n0D sent with the subcarrier word\n\
                     0E sent with the subcarrier word\n0F subcarrier word changed\n21 00\n\
                     21 must be zero\n";
     assert_eq!(house_why(&image), expected);
-    let plan_text = "PLAN 3 15\n02 08 00 00 00\n0C 1F 7C F0 21\n21 00\n";
+    let plan_text = "PLAN 3 15\n02 00 00 00 00\n0C 1F 7C F0 21\n21 00\n";
     assert_eq!(house_plan(&image), plan_text);
     for text in [house_why, house_plan] {
         assert_eq!(text(&settled(&house(), 0x5A)), "PLAN 0 0\n");

@@ -4,8 +4,9 @@
 use plain::registers::{self as reg, REGISTERS};
 use plain::{compare, outside, raw_code, side_by_side, CompareAnswer, LAST_FIELD};
 
-/// The house setting's registers, written by hand from document 01's table.
-fn house() -> [u8; REGISTERS] {
+/// The registers of the house setting with the pedestal on, written by hand from document 01's
+/// table.
+fn house_with_pedestal() -> [u8; REGISTERS] {
     let mut image = [0; REGISTERS];
     image[0x01] = 0x40;
     image[0x02] = 0x08;
@@ -20,13 +21,13 @@ fn house() -> [u8; REGISTERS] {
     image
 }
 
-/// The text of the house setting beside the same with some registers changed.
+/// The text of that image beside the same with some registers changed.
 fn beside(changed: &[(usize, u8)]) -> String {
-    let mut image = house();
+    let mut image = house_with_pedestal();
     for &(register, byte) in changed {
         image[register] = byte;
     }
-    side_by_side(&house(), &image)
+    side_by_side(&house_with_pedestal(), &image)
 }
 
 #[test]
@@ -83,8 +84,8 @@ fn another_length() {
     };
     for length in [0, 53, 55] {
         let image = vec![0; length];
-        assert_eq!(compare(&image, &house()), refused);
-        assert_eq!(compare(&house(), &image), refused);
+        assert_eq!(compare(&image, &house_with_pedestal()), refused);
+        assert_eq!(compare(&house_with_pedestal(), &image), refused);
         assert_eq!(side_by_side(&image, &image), "REFUSED 1 0\n");
     }
 }

@@ -18,10 +18,10 @@ set1 : (c : tie.After-put-number) → c .put-number .last .0 ≡ Set1
 set1 c = c .put-number .ensures
 
 abbrev Set2 : List ℤ
-Set2 = with pedestal 1 Set1
+Set2 = with pedestal 0 Set1
 
 set2 : (c : tie.After-put-number2) → c .put-number2 .last .0 ≡ Set2
-set2 c = c .put-number2 .ensures ∙ ap (with pedestal 1) (set1 (c .before .before .before))
+set2 c = c .put-number2 .ensures ∙ ap (with pedestal 0) (set1 (c .before .before .before))
 
 abbrev Set3 : List ℤ
 Set3 = with contrast 1000 Set2
