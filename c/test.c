@@ -4,6 +4,7 @@
  * them.
  */
 #include "adv7194.h"
+#include "adv7195.h"
 #include "boards.h"
 #include "calls.h"
 #include "captions.h"
@@ -11,6 +12,7 @@
 #include "lent.h"
 #include "limits.h"
 #include "players.h"
+#include "progressive.h"
 #include "reasons.h"
 #include "transactions.h"
 
@@ -278,6 +280,7 @@ int main(void)
     test_reasons(&image);
     test_compare(&image);
     test_captions();
+    test_progressive();
     test_null(&image);
     printf("%d passed, %d failed\n", passed, failed);
     return failed == 0 ? 0 : 1;

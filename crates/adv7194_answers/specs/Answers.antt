@@ -1,14 +1,13 @@
 -- Document 01, "Refusals": every refusal carries its number and a field number, 0 where none applies. An answer as numbers: the refusal is 0 where
 -- there is none, and after a refusal every other number is 0 but the map of known registers (document 02, P5), which is as it was handed in.
 use mathlib.Core.Path.{_≡_}
-use mathlib.Core.Bool.{Bool, true, false}
+use mathlib.Core.Bool.{Bool}
 use mathlib.Core.List.{List}
 use Prim.Native.Nat.{ℕ}
 use Rattle.refusals.specs.Refusal.{Judged, accepted, refused}
 use Rattle.refusals.specs.Verdict.{Verdict, good, refusedAt}
 use Rattle.bus.specs.Transactions.{Transaction}
-use Rattle.unpacking.specs.Indexed.{Numbers}
-use Rattle.planning.specs.Plan.{Counts}
+use Rattle.answers.specs.Answers.{yesNo}
 use Rattle.adv7194_captions.specs.Reading.{Characters}
 use Rattle.adv7194_compare.specs.Compare.{Comparison}
 use Rattle.adv7194_least.specs.Aim.{Aim}
@@ -16,42 +15,18 @@ use Rattle.adv7194_reasons.specs.First.{FirstTrue}
 use Rattle.adv7194_reasons.specs.Reasons.{Reason, notSent, unknown, changed, zeroed, companion, bridge, holds, answers}
 use Rattle.adv7194_answers.specs.declared.captions_numbers.CaptionsAnswer.{CaptionsAnswer}
 use Rattle.adv7194_answers.specs.declared.compare_numbers.CompareAnswer.{CompareAnswer}
-use Rattle.adv7194_answers.specs.declared.plan_numbers.PlanAnswer.{PlanAnswer}
 use Rattle.adv7194_answers.specs.declared.play_numbers.PlayAnswer.{PlayAnswer}
-use Rattle.adv7194_answers.specs.declared.read_numbers.ReadAnswer.{ReadAnswer}
-use Rattle.adv7194_answers.specs.declared.transaction_numbers.TransactionAnswer.{TransactionAnswer}
 use Rattle.adv7194_answers.specs.declared.why_numbers.WhyAnswer.{WhyAnswer}
-
--- what planning answers
-abbrev pub planAnswer : Verdict Counts → PlanAnswer
-planAnswer (good n) =
-    record { refusal = 0; field = 0; length = n .length; transactions = n .transactions; «bus_bytes» = n .busBytes }
-planAnswer (refusedAt n f) = record { refusal = n; field = f; length = 0; transactions = 0; «bus_bytes» = 0 }
-
--- a yes is 1
-abbrev pub yesNo : Bool → ℕ
-yesNo true = 1
-yesNo false = 0
 
 -- what playing answers, with the map of the registers known after it; its refusals belong to no field
 abbrev pub playAnswer : Judged Bool → ℕ → PlayAnswer
 playAnswer (accepted b) known = record { refusal = 0; field = 0; acknowledged = yesNo b; known = known }
 playAnswer (refused n) known = record { refusal = n; field = 0; acknowledged = 0; known = known }
 
--- what reading answers
-abbrev pub readAnswer : Verdict (Unit {0}) → ReadAnswer
-readAnswer (good u) = record { refusal = 0; field = 0 }
-readAnswer (refusedAt n f) = record { refusal = n; field = f }
-
 -- what reading a pair of captions answers
 abbrev pub captionsAnswer : Verdict Characters → CaptionsAnswer
 captionsAnswer (good c) = record { refusal = 0; field = 0; first = c .first; second = c .second }
 captionsAnswer (refusedAt n f) = record { refusal = n; field = f; first = 0; second = 0 }
-
--- what asking for a transaction answers; its refusals belong to no field
-abbrev pub transactionAnswer : Judged Numbers → TransactionAnswer
-transactionAnswer (accepted h) = record { refusal = 0; field = 0; subaddress = h .subaddress; count = h .count }
-transactionAnswer (refused n) = record { refusal = n; field = 0; subaddress = 0; count = 0 }
 
 -- what two images are side by side
 abbrev pub compareAnswer : Verdict Comparison → CompareAnswer

@@ -15,7 +15,7 @@ use Rattle.bus.specs.Chip.{Kind, step}
 use Rattle.bus.specs.Lent.{kindOf, chipAt, stepOf}
 use Rattle.adv7194_bus.specs.Kind.{registerCount, readOnly, adv7194}
 use Rattle.adv7194_bus.specs.Step.{stepBy}
-use Rattle.adv7194_bus.proofs.Checks.{agrees, same-bool, below, at-below}
+use Rattle.bits.proofs.Checks.{agrees, same-bool, below, at-below}
 
 -- the map as the code has it
 abbrev dropped : ℕ

@@ -8,7 +8,7 @@ use lib.Bits.{bitAnd}
 use lib.Dec.{eqb}
 use Rattle.adv7194_bus.specs.Kind.{registerCount}
 use Rattle.adv7194_bus.specs.Rules.{keepsRules}
-use Rattle.adv7194_bus.proofs.Checks.{agrees, same-bool, below, at-below}
+use Rattle.bits.proofs.Checks.{agrees, same-bool, below, at-below}
 
 -- the maps as the code has them
 abbrev barred : ℕ

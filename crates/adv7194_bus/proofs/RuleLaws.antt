@@ -6,42 +6,15 @@ use mathlib.Core.List.{List, [], _∷_}
 use Prim.Native.Nat.{ℕ, _-_, _≤_, _<_}
 use native.Mathlib.Omega.{arith}
 use lib.Dec.{T, leb, ltb, eqb, leb→le, le→leb, ltb→lt, lt→ltb, eqb→eq}
-use borrow.Author.Tests.{leb-true, leb-false, ltb-false, eqb-false}
+use borrow.Author.Tests.{eqb-false}
 use Rattle.bits.proofs.FlagLaws.{both, first, second, either, left, right}
+use Rattle.bus.specs.Registers.{apart}
 use Rattle.bus.specs.Transactions.{Transaction, size, end, Every}
+use Rattle.bus.proofs.RegisterLaws.{apart-of, apart?}
 use Rattle.adv7194_bus.specs.Kind.{registerCount}
-use Rattle.adv7194_bus.specs.Rules.{Rules, apart, ruled, keepsRules, allKeepRules}
+use Rattle.adv7194_bus.specs.Rules.{Rules, ruled, keepsRules, allKeepRules}
 
 -- ---- one transaction
-
--- data that are for none of the registers a to z end at a or before, or start past z
-apart-of : (s e a z : ℕ) → T (apart s e a z) → (e ≤ a) ⊎ (z < s)
-apart-of s e a z h = go (either (leb e a) (ltb z s) h)
-  where
-    go : T (leb e a) ⊎ T (ltb z s) → (e ≤ a) ⊎ (z < s)
-    go (inl p) = inl (leb→le e a p)
-    go (inr p) = inr (ltb→lt z s p)
-
--- a register from a to z that is among those from s on before e
-record Meets (s e a z : ℕ) : Type 0 where
-  at : ℕ
-  from : s ≤ at
-  before : at < e
-  low : a ≤ at
-  high : at ≤ z
-
--- either they are for none of them or for one
-apart? : (s e a z : ℕ) → s < e → a ≤ z → T (apart s e a z) ⊎ Meets s e a z
-apart? s e a z h k = ends (leb e a) refl (ltb z s) refl (leb a s) refl
-  where
-    ends : (x : Bool) → leb e a ≡ x → (y : Bool) → ltb z s ≡ y → (w : Bool) → leb a s ≡ w → T (apart s e a z) ⊎ Meets s e a z
-    ends true p y q w r = inl (left (leb e a) (ltb z s) (subst⁻¹ T p tt))
-    ends false p true q w r = inl (right (leb e a) (ltb z s) (subst⁻¹ T q tt))
-    ends false p false q true r =
-        inr (record { at = s; from = omega arith; before = h; low = leb-true a s r; high = ltb-false z s q })
-    ends false p false q false r =
-        let b = leb-false a s r in
-        inr (record { at = a; from = omega arith; before = leb-false e a p; low = omega arith; high = k })
 
 module _ (t : Transaction) where
   abbrev s : ℕ

@@ -15,3 +15,7 @@ readOnly = 0x34
 -- the ADV7194 at a bus address of its own: every register but the read-only one keeps a byte
 abbrev pub adv7194 : ℕ → Kind
 adv7194 own = record { count = registerCount; keeps = λ r. not (eqb r readOnly); address = own }
+
+-- the bus address of the chip on the boards
+abbrev pub boardAddress : ℕ
+boardAddress = 0x54

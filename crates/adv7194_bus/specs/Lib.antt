@@ -1,6 +1,5 @@
 pub mod Kind
 pub mod Step
 pub mod Board
-pub mod Address
 pub mod Limit
 pub mod Rules

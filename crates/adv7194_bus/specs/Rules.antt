@@ -4,6 +4,7 @@ use mathlib.Core.Bool.{Bool, true, _&&_, _||_}
 use mathlib.Core.List.{List, [], _∷_}
 use Prim.Native.Nat.{ℕ, _+_, _≤_, _<_}
 use lib.Dec.{leb, ltb, eqb}
+use Rattle.bus.specs.Registers.{apart}
 use Rattle.bus.specs.Transactions.{Transaction, size, Touches}
 use Rattle.adv7194_bus.specs.Kind.{registerCount, readOnly}
 
@@ -20,10 +21,6 @@ pub record Rules (t : Transaction) : Type 0 where
   pub inside : (r : ℕ) → Touches t r → (r < registerCount) × (r ≢ readOnly)
   pub whole : (r : ℕ) → Touches t r → Word r → (q : ℕ) → Word q → Touches t q
   pub captions : (r : ℕ) → Touches t r → Caption r → ⊥
-
--- data for the registers from start on, before the register end, are for none of the registers first to last
-abbrev pub apart : ℕ → ℕ → ℕ → ℕ → Bool
-apart start end first last = leb end first || ltb last start
 
 -- the rules for data for the registers from start on, before the register end
 abbrev pub ruled : ℕ → ℕ → Bool

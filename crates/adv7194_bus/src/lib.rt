@@ -1,7 +1,6 @@
 // The ADV7194 as a chip on the bus: how many registers it has, which of them drop a byte, one event at it, and the three rules for what is written to it.
 ghost use mathlib.Core.Path.{_≡_};
 ghost use Prim.Native.Nat.{_+_, _-_, _*_, _^_, _≤_};
-ghost use Rattle.adv7194_bus.specs.Address.{addressRight};
 ghost use Rattle.adv7194_bus.specs.Kind.{registerCount};
 ghost use Rattle.adv7194_bus.specs.Limit.{limitRight};
 ghost use Rattle.adv7194_bus.specs.Rules.{keepsRules};
@@ -29,9 +28,6 @@ pub const WORD: u64 = 0xF000;
 // The bus address of the chip on the boards.
 pub const BOARD_ADDRESS: u32 = 0x54;
 
-// The highest bus address that a chip writes at.
-const HIGHEST_ADDRESS: u32 = 254;
-
 // The shortest limit on the data of a transaction: the subcarrier word's registers are written together.
 pub const LEAST_LIMIT: u32 = 4;
 
@@ -44,13 +40,6 @@ pub fn step(state: State, event: Event, own: u8, registers: &mut [u8; 54]) -> St
     ensures memory { λ r. ⌜ now (registers .exit) ≡ stepBy own state (now (registers .entry)) event .chip .registers ⌝ }
 {
     bus::chip::step(state, event, own, DROPPED, registers)
-}
-
-// Whether a number is a bus address that a chip can have: even and at most 254.
-pub fn address_right(address: u32) -> bool
-    ensures answer { λ r. ⌜ r ≡ addressRight address ⌝ }
-{
-    address <= HIGHEST_ADDRESS && address % 2 == 0
 }
 
 // Whether a number is a limit on the data of a transaction: 4 to 54.

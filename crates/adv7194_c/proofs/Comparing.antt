@@ -8,7 +8,7 @@ use Rattle.adv7194_compare.specs.Differences.{Equal}
 use Rattle.adv7194_compare.specs.Compare.{comparedAs, compareOf, OnlyEqual}
 use Rattle.adv7194_answers.specs.declared.compare_numbers.CompareAnswer.{CompareAnswer}
 use Rattle.adv7194_answers.specs.Answers.{compareAnswer, NothingDiffers}
-use Rattle.adv7194_c.proofs.Promises.{numbered}
+use Rattle.answers.proofs.Numbered.{numbered}
 
 -- all that comparing promises of the numbers answered
 abbrev pub Compares : List ℕ → List ℕ → CompareAnswer → Type 0

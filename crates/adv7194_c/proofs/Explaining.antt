@@ -14,7 +14,7 @@ use Rattle.adv7194_reasons.specs.Reasons.{Reason, notSent, unknown, changed, ze
 use Rattle.adv7194_reasons.specs.Why.{whyOf, whyAs}
 use Rattle.adv7194_answers.specs.declared.why_numbers.WhyAnswer.{WhyAnswer}
 use Rattle.adv7194_answers.specs.Answers.{whyAnswer, TrueReason}
-use Rattle.adv7194_c.proofs.Promises.{numbered}
+use Rattle.answers.proofs.Numbered.{numbered}
 
 -- an answer that is a reason
 record Given (p : Explained) : Type 0 where

@@ -3,7 +3,7 @@
 ghost use mathlib.Core.Path.{_≡_};
 ghost use Prim.Native.Nat.{_≤_, _<_};
 ghost use lib.ListN.{length, take};
-ghost use Rattle.unpacking.specs.Unpacking.{unpack};
+ghost use Rattle.unpacking.specs.Unpacking.{unpack, Counted};
 ghost use Rattle.unpacking.specs.Indexed.{transactionOf, headerOf, dataAfter};
 ghost use Rattle.adv7194_bus.specs.Board.{boardOf};
 ghost use Rattle.adv7194_settings.specs.Wanted.{wantedBy};
@@ -14,7 +14,7 @@ ghost use Rattle.adv7194_captions.specs.Planning.{captionPlanning, captionPlanL
 ghost use Rattle.adv7194_captions.specs.Reading.{captionReading};
 ghost use Rattle.adv7194_least.specs.Aim.{aimOf};
 ghost use Rattle.adv7194_least.specs.Played.{Played};
-ghost use Rattle.adv7194_least.specs.Demands.{Counted, Least, First, Only, mostBytes, wideLimit, wideBytes};
+ghost use Rattle.adv7194_least.specs.Demands.{Least, First, Only, mostBytes, wideLimit, wideBytes};
 ghost use Rattle.adv7194_planning.specs.Rows.{listOf};
 ghost use Rattle.adv7194_planning.specs.Planning.{planningOf, planLeft};
 ghost use Rattle.adv7194_reasons.specs.Why.{whyOf};
@@ -23,19 +23,14 @@ ghost use Rattle.adv7194_playing.specs.Playing.{playOf, playedBoard};
 ghost use Rattle.adv7194_compare.specs.Differences.{Equal};
 ghost use Rattle.adv7194_compare.specs.Compare.{compareOf};
 ghost use Rattle.adv7194_caption_planning.specs.Demands.{CaptionsPlayed, captionBytes};
-ghost use Rattle.adv7194_answers.specs.Answers.{planAnswer, playAnswer, readAnswer, captionsAnswer, transactionAnswer, compareAnswer, NothingDiffers, whyAnswer, TrueReason};
+ghost use Rattle.answers.specs.Answers.{planAnswer, readAnswer, transactionAnswer};
+ghost use Rattle.adv7194_answers.specs.Answers.{playAnswer, captionsAnswer, compareAnswer, NothingDiffers, whyAnswer, TrueReason};
 use adv7194_answers::captions_numbers::CaptionsAnswer;
 use adv7194_answers::captions_numbers::captions_answer;
 use adv7194_answers::compare_numbers::CompareAnswer;
 use adv7194_answers::compare_numbers::compare_answer;
-use adv7194_answers::plan_numbers::PlanAnswer;
-use adv7194_answers::plan_numbers::plan_answer;
 use adv7194_answers::play_numbers::PlayAnswer;
 use adv7194_answers::play_numbers::play_answer;
-use adv7194_answers::read_numbers::ReadAnswer;
-use adv7194_answers::read_numbers::read_answer;
-use adv7194_answers::transaction_numbers::TransactionAnswer;
-use adv7194_answers::transaction_numbers::transaction_answer;
 use adv7194_answers::why_numbers::WhyAnswer;
 use adv7194_answers::why_numbers::why_answer;
 use adv7194_caption_planning::plan_captions;
@@ -46,7 +41,14 @@ use adv7194_playing::play;
 use adv7194_reading::read;
 use adv7194_reading::read_house;
 use adv7194_reasons::why;
+use answers::plan_numbers::PlanAnswer;
+use answers::plan_numbers::plan_answer;
+use answers::read_numbers::ReadAnswer;
+use answers::read_numbers::read_answer;
+use answers::transaction_numbers::TransactionAnswer;
+use answers::transaction_numbers::transaction_answer;
 use unpacking::indexed::transaction;
+use unpacking::steps::Order;
 
 // Plans the settings over an image of which the registers in a map are known, for the chip at a bus address, with a limit on the data of a transaction, into
 // the lent plan.
@@ -126,7 +128,7 @@ pub extern "C" fn adv7194_transaction(plan: &[u8], index: u32, data: &mut [u8]) 
     ensures memory { λ r. ⌜
         now («data» .exit) ≡ dataAfter (transactionOf (unpack (now (plan .entry))) index (length (now («data» .entry)))) (now («data» .entry)) ⌝ }
 {
-    transaction_answer(transaction(plan, index, data))
+    transaction_answer(transaction(plan, Order::Ascending, index, data))
 }
 
 // Two images side by side: the fields that differ, and the registers that differ in bits outside all fields. Register 0x34 is never compared.

@@ -1,20 +1,19 @@
 -- All that planning captions promises, of whatever it answers and leaves. Assumes nothing.
 use mathlib.Core.Path.{_≡_, refl, sym, ap, _∙_}
 use mathlib.Core.Bool.{Bool, true, false}
-use mathlib.Core.List.{List, _++_}
+use mathlib.Core.List.{List}
 use Prim.Native.Nat.{ℕ, _<_}
 use native.Mathlib.Omega.{arith}
-use lib.Dec.{leb}
 use lib.IntN.{ℤ}
-use lib.ListN.{length, take, drop}
-use lib.Seq.{take-append-seam}
-use borrow.Author.Tests.{leb-false, not-false}
+use lib.ListN.{length, take}
+use borrow.Author.Tests.{not-false}
 use Rattle.refusals.specs.Verdict.{Verdict, good, refusedAt}
 use Rattle.refusals.specs.Order.{Exactly, placesAt}
 use Rattle.refusals.proofs.OrderLaws.{good-none, exactly}
 use Rattle.packing.specs.Packing.{packed}
-use Rattle.planning.specs.Plan.{Counts, countsOf, packingOf, leftBy, done}
-use Rattle.adv7194_bus.specs.Address.{addressRight}
+use Rattle.planning.specs.Plan.{Counts, countsOf, leftBy, done}
+use Rattle.planning.proofs.AnswerLaws.{refused-short, left-packed}
+use Rattle.bus.specs.Address.{addressRight}
 use Rattle.adv7194_captions.specs.Pairs.{pairsRight, captionList}
 use Rattle.adv7194_captions.specs.Planning.{captionRow, captionOrder, captionPlanning, captionPlanLeft}
 use Rattle.adv7194_captions.proofs.ListLaws.{captions-length}
@@ -42,19 +41,14 @@ module _ (extended ordinary : List ℤ) (address room : ℕ) where
 
   -- where the room is refused, it is too short for the list of right pairs
   too-short : (f : ℕ) → captionPlanning extended ordinary address room ≡ refusedAt 10 f → room < captionBytes
-  too-short f e = by (addressRight address) refl (pairsRight extended ordinary) refl (leb (length (packed (captionList extended ordinary))) room) refl
+  too-short f e = by (addressRight address) refl (pairsRight extended ordinary) refl
     where
-      by : (a : Bool) → addressRight address ≡ a → (p : Bool) → pairsRight extended ordinary ≡ p
-          → (l : Bool) → leb (length (packed (captionList extended ordinary))) room ≡ l → room < captionBytes
-      by false x p y l z = let w = wrong-address extended ordinary address room x in let z : _≡_ {A = ℕ} 2 10 = cc in absurd (omega arith)
-      by true x false y l z = let w = wrong-pairs extended ordinary address room x y in let z : _≡_ {A = ℕ} 3 10 = cc in absurd (omega arith)
-      by true x true y true z =
-          let w = right-pairs extended ordinary address room x y in
-          let v : packingOf (captionList extended ordinary) room ≡ good (countsOf (captionList extended ordinary)) = rw z in
-          let z : _≡_ {A = ℕ} 0 1 = cc in
-          absurd (omega arith)
-      by true x true y false z =
-          omega (arith, leb-false (length (packed (captionList extended ordinary))) room z, captions-length extended ordinary y)
+      by : (a : Bool) → addressRight address ≡ a → (p : Bool) → pairsRight extended ordinary ≡ p → room < captionBytes
+      by false x p y = let w = wrong-address extended ordinary address room x in let z : _≡_ {A = ℕ} 2 10 = cc in absurd (omega arith)
+      by true x false y = let w = wrong-pairs extended ordinary address room x y in let z : _≡_ {A = ℕ} 3 10 = cc in absurd (omega arith)
+      by true x true y =
+          let q = refused-short (captionList extended ordinary) room 10 f (sym (right-pairs extended ordinary address room x y) ∙ e) in
+          omega (arith, captions-length extended ordinary y)
 
 module _ (extended ordinary : List ℤ) (address : ℕ) (plan after : List ℕ) (v : Verdict Counts)
     (answer : v ≡ captionPlanning extended ordinary address (length plan)) (memory : after ≡ captionPlanLeft extended ordinary address plan) where
@@ -63,9 +57,7 @@ module _ (extended ordinary : List ℤ) (address : ℕ) (plan after : List ℕ) 
   left l t b e =
       let list = captionList extended ordinary in
       let k = planned extended ordinary address (length plan) (record { length = l; transactions = t; busBytes = b }) (sym answer ∙ e) .0 in
-      let n : l ≡ length (packed list) = sym (ap (λ (n : Counts). n .length) k) in
-      ap (take l) (memory ∙ ap (leftBy list plan) (sym answer ∙ e)) ∙ ap (λ (k : ℕ). take k (packed list ++ drop k plan)) n
-      ∙ take-append-seam (packed list) (drop (length (packed list)) plan)
+      left-packed list plan after l t b k (memory ∙ ap (leftBy list plan) (sym answer ∙ e))
 
   -- what the bytes do
   played : (l t b : ℕ) → v ≡ done l t b → CaptionsPlayed extended ordinary (take l after)

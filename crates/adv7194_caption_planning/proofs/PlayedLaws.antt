@@ -4,7 +4,7 @@ use mathlib.Core.Path.{_≡_, refl, sym, ap, ap₂, _∙_}
 use mathlib.Core.Logic.{_≢_, inl, inr, ⊎-elim}
 use mathlib.Core.Bool.{Bool, true, false, or-true, or-false}
 use mathlib.Core.List.{List, [], _∷_}
-use Prim.Native.Nat.{ℕ, suc, _+_, _<_}
+use Prim.Native.Nat.{ℕ, suc, _<_}
 use native.Mathlib.Omega.{arith}
 use lib.Dec.{eqb}
 use lib.IntN.{ℤ, natAbs}
@@ -15,24 +15,26 @@ use Rattle.bits.proofs.FlagLaws.{holds, fails}
 use Rattle.bits.proofs.ParityLaws.{parity-odd, parity-low}
 use Rattle.refusals.specs.Refusal.{accepted}
 use Rattle.refusals.specs.Verdict.{good}
-use Rattle.bus.specs.Transactions.{Transaction, size, Touched, Every}
+use Rattle.bus.specs.Transactions.{Transaction, size, Touches, Touched, Every}
 use Rattle.bus.specs.Chip.{Chip, fresh}
 use Rattle.bus.specs.Run.{allAcknowledged, listEvents, after}
 use Rattle.bus.specs.Known.{knownAfter}
 use Rattle.bus.proofs.Play.{touched-or-same, list-elsewhere}
 use Rattle.bus.proofs.KnownLaws.{touchedBy, touched-agree, known-list, known-elsewhere}
+use Rattle.bus.proofs.WrittenRun.{run-acknowledged}
 use Rattle.bus.proofs.Acknowledged.{unacknowledged-elsewhere}
 use Rattle.bus.proofs.Unanswered.{none-elsewhere}
 use Rattle.packing.specs.Packing.{packed, behind}
 use Rattle.unpacking.proofs.Exact.{in-order}
 use Rattle.least_cost.specs.Order.{Ascending, Holds}
 use Rattle.least_cost.proofs.Cheapest.{map-every}
-use Rattle.least_cost.proofs.Ends.{Kept, length-after, ascending-holds}
+use Rattle.bus.proofs.After.{length-after}
+use Rattle.least_cost.proofs.Ends.{Kept, ascending-holds}
 use Rattle.adv7194_bus.specs.Kind.{registerCount, readOnly, adv7194}
 use Rattle.adv7194_bus.specs.declared.board.Board.{Board}
 use Rattle.adv7194_bus.specs.Board.{knows}
-use Rattle.adv7194_bus.specs.Address.{addressRight}
-use Rattle.adv7194_bus.proofs.AddressLaws.{right-address}
+use Rattle.bus.specs.Address.{addressRight}
+use Rattle.bus.proofs.AddressLaws.{not-read}
 use Rattle.adv7194_captions.specs.Characters.{characterBits, captionByte}
 use Rattle.adv7194_captions.specs.Pairs.{pairsRight, pairAt, captionList}
 use Rattle.adv7194_captions.specs.Plans.{pairSize}
@@ -43,9 +45,7 @@ use Rattle.adv7194_captions.proofs.JustThese.{just-these}
 use Rattle.adv7194_captions.proofs.RowLaws.{odd-ones}
 use Rattle.adv7194_playing.specs.declared.PlanKind.the-variants.{Captions}
 use Rattle.adv7194_playing.specs.Playing.{judged, acknowledgedBy, playOf}
-use Rattle.adv7194_playing.proofs.KindLaws.{Kept as Inside}
 use Rattle.adv7194_playing.proofs.JudgedLaws.{by-list}
-use Rattle.adv7194_playing.proofs.WrittenRun.{run-acknowledged}
 use Rattle.adv7194_caption_planning.specs.Demands.{Leaves, ReadsBack, MakesKnown, CaptionsPlayed}
 
 -- ---- the list
@@ -92,10 +92,6 @@ module _ (left : Board) (h : length (left .registers) ≡ registerCount) where
 
 -- ---- the chip
 
--- two right addresses that are not the same: the one used is not the chip's read address either
-not-read : (used own : ℕ) → addressRight used ≡ true → addressRight own ≡ true → used ≢ own + 1
-not-read used own e f p = omega (arith, right-address used e .1, right-address own f .1)
-
 module _ (extended ordinary : List ℤ) (h : pairsRight extended ordinary ≡ true) where
   abbrev list : List Transaction
   list = captionList extended ordinary
@@ -103,12 +99,13 @@ module _ (extended ordinary : List ℤ) (h : pairsRight extended ordinary ≡ tr
   -- its data are for registers that keep a byte
   kept : (own : ℕ) → Every (Kept (adv7194 own)) list
   kept own =
-      map-every Inside (Kept (adv7194 own)) (λ t k x u. (k x u .0, rw (ne-eqb x readOnly (k x u .1)))) list (captions-inside extended ordinary h)
+      map-every (λ t. (r : ℕ) → Touches t r → (r < registerCount) × (r ≢ readOnly)) (Kept (adv7194 own))
+      (λ t k r u. (k r u .0, rw (ne-eqb r readOnly (k r u .1)))) list (captions-inside extended ordinary h)
 
   -- at the chip's own address every byte is acknowledged
   acknowledged : (own : ℕ) (c : Chip) → allAcknowledged (adv7194 own) c (listEvents own list) ≡ true
   acknowledged own c =
-      run-acknowledged own list c (captions-inside extended ordinary h)
+      run-acknowledged (adv7194 own) list c (kept own)
       (map-every (λ t. size t ≡ pairSize) (λ t. 0 < size t) (λ t e. omega arith) list (captions-sized extended ordinary h))
 
   -- and the data are left

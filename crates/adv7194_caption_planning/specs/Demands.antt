@@ -20,7 +20,7 @@ use Rattle.least_cost.specs.Order.{Holds}
 use Rattle.adv7194_bus.specs.Kind.{registerCount, adv7194}
 use Rattle.adv7194_bus.specs.declared.board.Board.{Board}
 use Rattle.adv7194_bus.specs.Board.{boardOf}
-use Rattle.adv7194_bus.specs.Address.{addressRight}
+use Rattle.bus.specs.Address.{addressRight}
 use Rattle.adv7194_captions.specs.Pairs.{captionList}
 use Rattle.adv7194_captions.specs.Reading.{captionReading}
 use Rattle.adv7194_playing.specs.declared.PlanKind.the-variants.{Captions}

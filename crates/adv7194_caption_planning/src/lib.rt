@@ -11,9 +11,9 @@ ghost use Rattle.adv7194_captions.specs.Planning.{captionRow, captionOrder, cap
 ghost use Rattle.adv7194_caption_planning.specs.Demands.{CaptionsPlayed, captionBytes};
 use crate::pairs::pack_pairs;
 use crate::pairs::pairs_right;
-use adv7194_bus::address_right;
 use adv7194_captions::FIELD;
 use adv7194_captions::PAIR;
+use bus::address::address_right;
 use bus::cost::bus_bytes;
 use planning::plan::NO_FIELD;
 use planning::plan::Planned;

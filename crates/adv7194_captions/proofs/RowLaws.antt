@@ -14,7 +14,7 @@ use Rattle.planning.specs.Plan.{packingOf, leftBy, planAfter}
 use Rattle.adv7194_bus.specs.Kind.{registerCount}
 use Rattle.adv7194_bus.specs.declared.board.Board.{Board}
 use Rattle.adv7194_bus.specs.Board.{knows}
-use Rattle.adv7194_bus.specs.Address.{addressRight}
+use Rattle.bus.specs.Address.{addressRight}
 use Rattle.adv7194_captions.specs.Characters.{isOdd}
 use Rattle.adv7194_captions.specs.Pairs.{captionField, pairsRight, captionList}
 use Rattle.adv7194_captions.specs.Planning.{captionRow, captionOrder, captionPlanning, captionPlanLeft}

@@ -10,7 +10,7 @@ use Rattle.refusals.specs.Verdict.{Verdict}
 use Rattle.refusals.specs.Order.{Place, firstOf, placesAt}
 use Rattle.packing.specs.Packing.{packed}
 use Rattle.planning.specs.Plan.{Counts, countsOf, leftBy}
-use Rattle.adv7194_bus.specs.Address.{addressRight}
+use Rattle.bus.specs.Address.{addressRight}
 use Rattle.adv7194_captions.specs.Pairs.{captionField, pairsRight, captionList}
 
 -- row n holds of the call, with a lent plan of that many bytes

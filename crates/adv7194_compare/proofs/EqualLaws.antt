@@ -12,7 +12,7 @@ use lib.Pow.{pow-pos}
 use borrow.Author.Tests.{eqb-true, eqb-false, eq-eqb, ne-eqb, not-false}
 use Rattle.bits.proofs.CoverLaws.{allMasks, SameUnder, same-number}
 use Rattle.adv7194_bus.specs.Kind.{registerCount, readOnly}
-use Rattle.adv7194_bus.proofs.Checks.{below, at-below}
+use Rattle.bits.proofs.Checks.{below, at-below}
 use Rattle.adv7194_table.specs.Fields.{timing, output, picture, dnr}
 use Rattle.adv7194_table.specs.Table.{singles, table}
 use Rattle.adv7194_table.specs.Masks.{maskWhere, ownMask, fieldMask, zeroMask, outsideMask, each}

@@ -5,13 +5,13 @@ ghost use lib.ListN.{length};
 ghost use Rattle.adv7194_compare.specs.Compare.{comparedAs, canBeRead, isTaken, takenInto, whole as wholeOf, compareBy, compareOf, OnlyEqual};
 use adv7194_bus::REGISTERS;
 use adv7194_bus::board::ALL_KNOWN;
-use adv7194_reading::Read;
 use adv7194_reading::read;
 pub use differences::LAST_FIELD;
 pub use differences::field_differs;
 pub use differences::fields_differing;
 pub use differences::register_differs;
 pub use differences::registers_differing;
+use field_table::Checked;
 use refusals::Refusal;
 
 mod differences;
@@ -70,7 +70,7 @@ pub fn taken(image: &[u8], numbers: &mut [i32]) -> bool
     ensures memory { λ r. ⌜ now (numbers .exit) ≡ takenInto (now (image .entry)) (now (numbers .entry)) ⌝ }
 {
     let answer = read(image, ALL_KNOWN, numbers);
-    let Read::Done = answer else {
+    let Checked::Good = answer else {
         return false;
     };
     true

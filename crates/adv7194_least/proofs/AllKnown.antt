@@ -11,16 +11,16 @@ use lib.Seq.{ext-getD}
 use borrow.Author.Tests.{ltb-true, ltb-false, eq-eqb}
 use Rattle.bus.specs.Registers.{differs}
 use Rattle.bus.specs.Transactions.{Transaction, size, end}
-use Rattle.bus.specs.Run.{after}
+use Rattle.bus.specs.Run.{after, idleAt}
 use Rattle.adv7194_bus.specs.Board.{knows}
 use Rattle.adv7194_bus.specs.Kind.{registerCount, adv7194}
 use Rattle.adv7194_bus.specs.Limit.{noLimit}
 use Rattle.adv7194_bus.specs.Rules.{Rules}
 use Rattle.least_cost.proofs.Cheapest.{map-every}
-use Rattle.least_cost.proofs.Ends.{length-after}
+use Rattle.bus.proofs.After.{length-after}
 use Rattle.adv7194_least.specs.Aim.{Aim, must, compared}
 use Rattle.adv7194_least.specs.Change.{Change}
-use Rattle.adv7194_least.specs.Reaching.{idleAt, MayHold, Clear, Within, Reaches}
+use Rattle.adv7194_least.specs.Reaching.{MayHold, Clear, Within, Reaches}
 use Rattle.adv7194_least.specs.AllKnown.{KnownInFull, EndsIn, AsInFull}
 use Rattle.adv7194_least.proofs.Differing.{same-past}
 use Rattle.adv7194_least.proofs.Costs.{board-held}

@@ -18,7 +18,7 @@ use Rattle.least_cost.proofs.Near.{near, AllNear, plan-near}
 use Rattle.adv7194_least.specs.Aim.{Aim, must}
 use Rattle.adv7194_least.specs.Change.{settable, bridge, Change}
 use Rattle.adv7194_least.specs.Plan.{may, needed, taskFor, task, byteOf, planOf}
-use Rattle.adv7194_least.proofs.Registers.{among?, among-in}
+use Rattle.bus.proofs.RegisterLaws.{among?, among-in}
 use Rattle.adv7194_least.proofs.TaskLaws.{need-other}
 use Rattle.adv7194_least.proofs.Differing.{must-settable, permits}
 use Rattle.adv7194_least.proofs.Keeping.{right-fits}

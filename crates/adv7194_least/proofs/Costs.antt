@@ -9,12 +9,12 @@ use native.Mathlib.Omega.{arith}
 use lib.ListN.{length, getD, set, length-set}
 use lib.Seq.{getD-set-same, getD-set-other}
 use Rattle.bus.specs.Transactions.{Transaction, Touches, Touched, Every, busBytes}
-use Rattle.bus.specs.Run.{after}
+use Rattle.bus.specs.Run.{after, idleAt}
 use Rattle.bus.proofs.Play.{touched-or-same}
 use Rattle.adv7194_bus.specs.Kind.{registerCount, adv7194}
 use Rattle.adv7194_bus.specs.Board.{knows}
 use Rattle.adv7194_bus.specs.Rules.{Rules}
-use Rattle.adv7194_settings.proofs.FitLaws.{set-bytes}
+use Rattle.field_table.proofs.FitLaws.{set-bytes}
 use Rattle.least_cost.specs.Order.{NoDearer, SameSpans, Ascending, Holds}
 use Rattle.least_cost.specs.Task.{Allowed, Covers}
 use Rattle.least_cost.specs.Cheapest.{Does}
@@ -24,11 +24,12 @@ use Rattle.least_cost.proofs.Spans.{spans-ascending, same-list}
 use Rattle.adv7194_least.specs.Aim.{Aim, must, compared}
 use Rattle.adv7194_least.specs.Change.{Change}
 use Rattle.adv7194_least.specs.Plan.{may, task, byteOf, planOf}
-use Rattle.adv7194_least.specs.Reaching.{idleAt, MayHold, Clear, Within, Reaches}
+use Rattle.adv7194_least.specs.Reaching.{MayHold, Clear, Within, Reaches}
 use Rattle.adv7194_least.specs.Demands.{Least, First}
 use Rattle.adv7194_least.proofs.Registers.{writable-from}
 use Rattle.adv7194_least.proofs.TaskLaws.{rules-writable, allowed, covers-task}
-use Rattle.adv7194_least.proofs.Differing.{not-both, must-settable, must-compared}
+use Rattle.bus.proofs.RegisterLaws.{not-both}
+use Rattle.adv7194_least.proofs.Differing.{must-settable, must-compared}
 use Rattle.adv7194_least.proofs.Reached.{rules-kept, plan-cheapest}
 
 -- ---- a byte that is not the wanted one

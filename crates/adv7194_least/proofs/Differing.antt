@@ -1,27 +1,25 @@
 -- What must be written may be: known registers that differ, and unknown ones that are fixed, have a field or a must-be-zero bit, and so have the word's.
 -- Assumes nothing.
 use mathlib.Core.Path.{_≡_, refl, sym, _∙_}
-use mathlib.Core.Logic.{_⊎_, inl, inr, ⊎-elim}
 use mathlib.Core.Bool.{Bool, true, false, or-true}
-use mathlib.Core.List.{List}
 use Prim.Native.Nat.{ℕ, _≤_, _<_}
 use native.Mathlib.Omega.{arith}
-use lib.Dec.{T, ltb, eqb}
+use lib.Dec.{T, ltb}
 use lib.ListN.{getD, List·getD-eq-default}
-use borrow.Author.Tests.{ltb-true, ltb-false, eqb-true, eqb-false, eq-eqb, not-true}
-use Rattle.rounding.proofs.First.{flag}
+use borrow.Author.Tests.{ltb-true, ltb-false}
 use Rattle.rounding.proofs.Range.{below, below-at, imp, imp→, T→true}
 use Rattle.adv7194_table.specs.Fields.{timing, output, picture, dnr}
 use Rattle.adv7194_table.specs.Table.{singles, table}
 use Rattle.adv7194_table.specs.Masks.{maskWhere, fieldMask, zeroMask}
+use Rattle.bits.proofs.FlagLaws.{both-true}
 use Rattle.bus.specs.Registers.{differs}
+use Rattle.bus.proofs.RegisterLaws.{among-in, not-both}
 use Rattle.adv7194_bus.specs.Kind.{registerCount}
 use Rattle.adv7194_bus.specs.Board.{knows}
 use Rattle.adv7194_bus.proofs.LimitLaws.{right-limit}
 use Rattle.adv7194_least.specs.Aim.{Aim, must, compared}
 use Rattle.adv7194_least.specs.Change.{settable, Change}
 use Rattle.adv7194_least.specs.Plan.{writable, may}
-use Rattle.adv7194_least.proofs.Registers.{both-true, among-in}
 use Rattle.adv7194_least.proofs.TaskLaws.{Permits}
 
 -- ---- the fields' registers may be written
@@ -40,19 +38,6 @@ pub settable-writable : (r : ℕ) → r < registerCount → settable r ≡ true 
 settable-writable r h e = T→true (writable r) (imp→ (settable r) (writable r) (below-at fieldTest registerCount fields-writable r h) e)
 
 -- ---- so may those that differ
-
--- the images differ in a register, or have one byte there
-pub differs-or-same : (image wanted : List ℕ) (r : ℕ) → (differs image wanted r ≡ true) ⊎ (getD image r 0 ≡ getD wanted r 0)
-differs-or-same image wanted r =
-    ⊎-elim (λ e. inr (eqb-true (getD image r 0) (getD wanted r 0) e)) (λ e. inl (rw e)) (flag (eqb (getD image r 0) (getD wanted r 0)))
-
--- they don't do both
-pub not-both : (image wanted : List ℕ) (r : ℕ) → differs image wanted r ≡ true → getD image r 0 ≡ getD wanted r 0 → ⊥
-not-both image wanted r d = eqb-false (getD image r 0) (getD wanted r 0) (not-true (eqb (getD image r 0) (getD wanted r 0)) d)
-
--- an image has no difference from itself
-pub no-difference : (image : List ℕ) (r : ℕ) → differs image image r ≡ false
-no-difference image r = rw (eq-eqb (getD image r 0) (getD image r 0) refl)
 
 module _ (a : Aim) (χ : Change a) where
   -- past the last register neither image has a byte

@@ -2,19 +2,21 @@
 use mathlib.Core.Path.{_≡_, refl, sym, _∙_}
 use mathlib.Core.Logic.{_⊎_, inl, inr, ⊎-elim}
 use mathlib.Core.Bool.{Bool, true, false, false≢true}
-use Prim.Native.Nat.{ℕ, suc, _+_, _-_, _^_, _≤_, _<_}
+use Prim.Native.Nat.{ℕ, suc, _-_, _^_, _≤_, _<_}
 use native.Mathlib.Omega.{arith}
 use lib.Dec.{ltb}
-use lib.ListN.{getD, List·getD-eq-default}
 use borrow.Author.Tests.{ltb-true, ltb-false}
 use Rattle.bus.specs.Transactions.{Transaction, size, end, Touches}
 use Rattle.bus.proofs.Acknowledged.{Fits}
 use Rattle.unpacking.proofs.Tests.{Encodable}
 use Rattle.adv7194_bus.specs.Kind.{adv7194}
 use Rattle.adv7194_bus.specs.Rules.{Rules}
-use Rattle.least_cost.proofs.Attained.{Right, later}
+use Rattle.bus.proofs.After.{later}
+use Rattle.least_cost.proofs.Attained.{Right}
+use Rattle.least_cost.proofs.Held.{holds-bytes}
 use Rattle.adv7194_least.specs.Plan.{taskFor}
-use Rattle.adv7194_least.proofs.Registers.{among?, Writable}
+use Rattle.bus.proofs.RegisterLaws.{among?}
+use Rattle.adv7194_least.proofs.Registers.{Writable}
 use Rattle.adv7194_least.proofs.TaskLaws.{Permits, need-word, takes-facts, cut-inside, needed-may, may-facts}
 
 module _ (limit : ℕ) (must may : ℕ → Bool) (π : Permits limit must may) (want : ℕ → ℕ) where
@@ -77,11 +79,4 @@ module _ (limit : ℕ) (must may : ℕ → Bool) (π : Permits limit must may) (
   right-encodable b t h =
       let e = right-fits 0 t h .ends in
       let s = h .some in
-      record { subaddress = omega arith; some = s; count = omega arith; bytes = λ i. byte i (ltb i (size t)) refl }
-    where
-      byte : (i : ℕ) (a : Bool) → ltb i (size t) ≡ a → getD (t .bytes) i 0 < 2 ^ 8
-      byte i true e =
-          let d = ltb-true i (size t) e in
-          let q : t .subaddress + i - t .subaddress ≡ i = omega arith in
-          rw (← (rw q at (h .holds (t .subaddress + i) (omega arith)))) at (b (t .subaddress + i))
-      byte i false e = let d = ltb-false i (size t) e in rw (List·getD-eq-default (t .bytes) 0 d) (omega arith)
+      record { subaddress = omega arith; some = s; count = omega arith; bytes = holds-bytes want b t (h .holds) }

@@ -3,22 +3,15 @@ use mathlib.Core.Path.{_≡_, refl, sym, ap, _∙_}
 use mathlib.Core.Bool.{Bool, true, false, cond, false≢true}
 use mathlib.Core.List.{[], _∷_}
 use Prim.Native.Nat.{ℕ}
-use native.Mathlib.Omega.{arith}
 use Rattle.packing.specs.Packing.{packed}
 use Rattle.packing.proofs.PackedLaws.{nothing as nothing-packed}
 use Rattle.adv7194_bus.specs.Kind.{registerCount}
 use Rattle.adv7194_bus.specs.Board.{knows}
-use Rattle.least_cost.specs.Task.{Task}
-use Rattle.least_cost.specs.Plan.{Choice, scan, best, plan}
-use Rattle.least_cost.proofs.Rounds.{scan-skips}
+use Rattle.least_cost.specs.Plan.{best, plan}
+use Rattle.least_cost.proofs.Nothing.{scan-nothing}
 use Rattle.adv7194_least.specs.Aim.{Aim, must}
 use Rattle.adv7194_least.specs.Plan.{inWord, needed, taskFor, task, byteOf, planOf}
-use Rattle.adv7194_least.proofs.Differing.{no-difference}
-
--- past the last register the plan has no transaction
-scan-none : (p : Task) (goes : Choice) (want : ℕ → ℕ) (i : ℕ) → scan p goes want 0 i ≡ []
-unfolding scan
-scan-none p goes want i = refl
+use Rattle.bus.proofs.RegisterLaws.{no-difference}
 
 -- nothing is needed where the board is as wanted, and knows the registers that are fixed
 pub none-must : (a : Aim) → a .board .registers ≡ a .wanted → ((r : ℕ) → a .fixes r ≡ true → knows (a .board) r ≡ true) → (r : ℕ) → must a r ≡ false
@@ -41,9 +34,7 @@ module _ (a : Aim) (right : (r : ℕ) → must a r ≡ false) where
   -- where no register must be written the plan is empty
   pub plan-empty : planOf a ≡ []
   unfolding planOf plan taskFor
-  plan-empty =
-      scan-skips (task a) (best (task a)) (a .wanted) registerCount 0 0 registerCount (omega arith) (omega arith) (λ x u v. none-needed x)
-      ∙ scan-none (task a) (best (task a)) (byteOf a) registerCount
+  plan-empty = scan-nothing (task a) (best (task a)) (byteOf a) none-needed registerCount 0
 
   -- and its packing is 00
   pub packed-empty : packed (planOf a) ≡ 0x00 ∷ []

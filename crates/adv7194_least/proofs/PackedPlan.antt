@@ -10,7 +10,7 @@ use Rattle.bits.proofs.FlagLaws.{both}
 use Rattle.refusals.specs.Refusal.{accepted}
 use Rattle.bus.specs.Transactions.{Transaction, end, Every, busBytes}
 use Rattle.packing.specs.Packing.{packed, encodable, arranged, ascending}
-use Rattle.unpacking.specs.Unpacking.{unpack}
+use Rattle.unpacking.specs.Unpacking.{unpack, Counted}
 use Rattle.unpacking.proofs.Tests.{Encodable, encodable-from}
 use Rattle.unpacking.proofs.Exact.{round-trip}
 use Rattle.adv7194_bus.specs.Kind.{registerCount}
@@ -18,7 +18,6 @@ use Rattle.least_cost.specs.Order.{Ascending}
 use Rattle.adv7194_least.specs.Aim.{Aim, must}
 use Rattle.adv7194_least.specs.Change.{Change}
 use Rattle.adv7194_least.specs.Plan.{may, byteOf, planOf}
-use Rattle.adv7194_least.specs.Demands.{Counted}
 use Rattle.adv7194_least.proofs.Differing.{permits}
 use Rattle.adv7194_least.proofs.Keeping.{right-encodable}
 use Rattle.adv7194_least.proofs.Reached.{plan-each, plan-inside}

@@ -11,11 +11,11 @@ use Rattle.packing.specs.Packing.{packed}
 use Rattle.adv7194_bus.specs.Kind.{registerCount}
 use Rattle.adv7194_bus.specs.Board.{knows}
 use Rattle.adv7194_bus.specs.Rules.{allKeepRules}
-use Rattle.adv7194_bus.specs.Address.{addressRight}
+use Rattle.bus.specs.Address.{addressRight}
 use Rattle.adv7194_bus.proofs.RuleLaws.{agree-all}
 use Rattle.adv7194_playing.specs.declared.PlanKind.the-variants.{Settings}
 use Rattle.adv7194_playing.specs.Playing.{playedBoard, registersAfter}
-use Rattle.adv7194_playing.proofs.WrittenLaws.{written-length}
+use Rattle.bus.proofs.WrittenRun.{written-length}
 use Rattle.adv7194_playing.proofs.PlayedLaws.{played-judged, played-answer, played-registers, played-untouched, played-knows, played-past}
 use Rattle.adv7194_least.specs.Aim.{Aim, must, compared}
 use Rattle.adv7194_least.specs.Change.{Change}

@@ -9,7 +9,7 @@ use native.Mathlib.Omega.{arith}
 use lib.ListN.{getD}
 use borrow.Author.Tests.{ne-eqb}
 use Rattle.bus.specs.Transactions.{Transaction, end, Touched, Every}
-use Rattle.bus.specs.Run.{allAcknowledged, listEvents, after}
+use Rattle.bus.specs.Run.{allAcknowledged, listEvents, after, idleAt}
 use Rattle.bus.proofs.Acknowledged.{Fits, acknowledged-list}
 use Rattle.adv7194_bus.specs.Kind.{registerCount, readOnly, adv7194}
 use Rattle.adv7194_bus.specs.Board.{knows}
@@ -24,10 +24,11 @@ use Rattle.least_cost.proofs.Ends.{Kept, ends-in}
 use Rattle.adv7194_least.specs.Aim.{Aim, must, compared}
 use Rattle.adv7194_least.specs.Change.{Change}
 use Rattle.adv7194_least.specs.Plan.{writable, may, taskFor, task, byteOf, planOf}
-use Rattle.adv7194_least.specs.Reaching.{idleAt, MayHold, AsWanted, Clear, Within, Reaches}
-use Rattle.adv7194_least.proofs.Registers.{both-true}
+use Rattle.adv7194_least.specs.Reaching.{MayHold, AsWanted, Clear, Within, Reaches}
+use Rattle.bits.proofs.FlagLaws.{both-true}
 use Rattle.adv7194_least.proofs.TaskLaws.{must-needed, sound, limited}
-use Rattle.adv7194_least.proofs.Differing.{differs-or-same, permits}
+use Rattle.bus.proofs.RegisterLaws.{differs-or-same}
+use Rattle.adv7194_least.proofs.Differing.{permits}
 use Rattle.adv7194_least.proofs.Keeping.{right-may, right-within, right-rules, right-fits}
 
 -- what keeps the rules writes to registers that keep a byte

@@ -9,7 +9,7 @@ use native.Mathlib.Omega.{arith}
 use lib.Dec.{T, leb, ltb, leb→le}
 use lib.ListN.{length, replicate}
 use borrow.Author.Tests.{ltb-true, ltb-false, not-true}
-use Rattle.bits.proofs.FlagLaws.{first, second, holds}
+use Rattle.bits.proofs.FlagLaws.{first, second, holds, both-true}
 use Rattle.rounding.proofs.First.{flag}
 use Rattle.rounding.proofs.Range.{below, below-at, imp, imp→}
 use Rattle.adv7194_table.specs.Fields.{timing, output, picture, dnr}
@@ -27,13 +27,14 @@ use Rattle.adv7194_bus.specs.Rules.{Rules, keepsRules, allKeepRules}
 use Rattle.adv7194_bus.proofs.LimitLaws.{right-limit}
 use Rattle.adv7194_bus.proofs.RuleLaws.{agree-all}
 use Rattle.least_cost.specs.Order.{NoDearer, Ascending}
-use Rattle.least_cost.proofs.Attained.{later}
+use Rattle.bus.proofs.After.{later}
 use Rattle.adv7194_least.specs.Aim.{Aim, must, compared}
 use Rattle.adv7194_least.specs.Change.{settable, Change, Told}
-use Rattle.adv7194_least.specs.Plan.{among, planOf}
+use Rattle.bus.specs.Registers.{among}
+use Rattle.adv7194_least.specs.Plan.{planOf}
 use Rattle.adv7194_least.specs.Reaching.{Clear, Within}
 use Rattle.adv7194_least.specs.Demands.{mostBits, mostBytes, wideLimit, wideBits, wideBytes}
-use Rattle.adv7194_least.proofs.Registers.{both-true, among-true}
+use Rattle.bus.proofs.RegisterLaws.{among-true}
 use Rattle.adv7194_least.proofs.Differing.{must-settable}
 use Rattle.adv7194_least.proofs.Reached.{plan-inside}
 use Rattle.adv7194_least.proofs.Bridges.{reachable, Reachable, plan-reachable}

@@ -13,9 +13,12 @@ use Rattle.bus.specs.Transactions.{Transaction, size, end, Touches, Touched, Ev
 use Rattle.adv7194_bus.specs.Limit.{leastLimit}
 use Rattle.adv7194_bus.specs.Rules.{Rules}
 use Rattle.least_cost.specs.Task.{Allowed, Covers, Stop, Sound, Limited}
-use Rattle.least_cost.proofs.Attained.{later}
-use Rattle.adv7194_least.specs.Plan.{among, writable, wordIn, withWord, taskFor}
-use Rattle.adv7194_least.proofs.Registers.{both-true, among-true, among-in, among-out, among?, Writable, writable-facts}
+use Rattle.bus.proofs.After.{later}
+use Rattle.bus.specs.Registers.{among}
+use Rattle.adv7194_least.specs.Plan.{writable, wordIn, withWord, taskFor}
+use Rattle.bus.proofs.RegisterLaws.{among-true, among-in, among-out, among?}
+use Rattle.bits.proofs.FlagLaws.{both-true}
+use Rattle.adv7194_least.proofs.Registers.{Writable, writable-facts}
 
 -- the registers of a transaction that keeps the rules may be written
 pub rules-writable : (t : Transaction) → Rules t → (x : ℕ) → Touches t x → Writable x

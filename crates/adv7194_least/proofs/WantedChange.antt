@@ -1,19 +1,17 @@
 -- What settings aim at over a board: the wanted image differs from the board's registers only where there is a field or a must-be-zero bit, what is fixed has
 -- such bits, and where no unknown register is fixed only in part, every register with such bits is known or fixed, but for 1A and 1B where signalling is
 -- off. Assumes nothing.
-use mathlib.Core.Path.{_≡_, refl, sym, _∙_, subst}
+use mathlib.Core.Path.{_≡_, refl, sym, _∙_}
 use mathlib.Core.Bool.{Bool, true, false, _&&_, false≢true}
 use mathlib.Core.List.{List, [], _∷_}
 use Prim.Native.Nat.{ℕ, _<_}
 use native.Mathlib.Omega.{arith}
 use lib.Dec.{T, eqb, ltb}
 use lib.IntN.{ℤ}
-use lib.ListN.{getD}
-use lib.Seq.{getD-set-other}
 use borrow.Author.Tests.{ltb-true, ltb-false}
 use Rattle.bits.proofs.FlagLaws.{first, second, holds}
 use Rattle.rounding.proofs.Range.{below, below-at, imp, imp→}
-use Rattle.field_table.specs.Writes.{Write, put, puts, Each}
+use Rattle.field_table.proofs.FitLaws.{puts-stay}
 use Rattle.adv7194_bus.specs.Kind.{registerCount}
 use Rattle.adv7194_bus.specs.declared.board.Board.{Board}
 use Rattle.adv7194_bus.specs.Board.{knows}
@@ -27,23 +25,15 @@ use Rattle.adv7194_settings.specs.Codes.{blockCodes, codesIn}
 use Rattle.adv7194_settings.specs.Wanted.{writesOf, wantedBy}
 use Rattle.adv7194_settings.specs.Demand.{fixedMask}
 use Rattle.adv7194_settings.specs.Known.{fixesSome, unknown, partlyFixed}
-use Rattle.adv7194_settings.proofs.FitLaws.{FitsIn, tableTest, settings-fit, wanted-bytes, wanted-length}
+use Rattle.adv7194_settings.proofs.FitLaws.{tableTest, settings-fit, wanted-bytes, wanted-length}
 use Rattle.adv7194_settings.proofs.FixedLaws.{none-fixed, found-byte, none-partly}
 use Rattle.adv7194_least.specs.Aim.{must, aimOf}
 use Rattle.adv7194_least.specs.Change.{settable, Image, Change, Told}
-use Rattle.adv7194_least.specs.Plan.{among, inWord}
-use Rattle.adv7194_least.proofs.Registers.{among-true}
-use Rattle.adv7194_least.proofs.Differing.{no-difference}
+use Rattle.bus.specs.Registers.{among}
+use Rattle.adv7194_least.specs.Plan.{inWord}
+use Rattle.bus.proofs.RegisterLaws.{among-true, no-difference}
 
 -- ---- what is written
-
--- a register stays where every write is to one that has a field or a must-be-zero bit and it has none
-stays : (ws : List Write) (image : List ℕ) (r : ℕ) → Each (FitsIn settable) ws → settable r ≡ false → getD (puts image ws) r 0 ≡ getD image r 0
-unfolding puts
-stays [] image r h e = refl
-stays (w ∷ ws) image r h e =
-    stays ws (put image w) r (h .1) e
-    ∙ getD-set-other image (w .register) r _ 0 (λ p. subst T (subst (λ (k : ℕ). settable k ≡ false) p e) (h .0 .passes))
 
 -- the table's registers have such bits: a test over the masks
 table-settable : T (tableTest settable table)
@@ -129,7 +119,7 @@ module _ (b : Board) (zs : List ℤ) (limit : ℕ) (i : Image (b .registers)) wh
   settings-change l = record {
     found = i;
     wants = record { size = wanted-length (b .registers) zs ∙ i .size; bytes = wanted-bytes (b .registers) zs (i .bytes) };
-    kept = λ r h e. stays (writesOf zs table) (b .registers) r (settings-fit settable table-settable zs) e;
+    kept = λ r h e. puts-stay settable (writesOf zs table) (b .registers) r (settings-fit settable table-settable zs) e;
     fixed = full-settable (signalCodes zs);
     word = word-full (signalCodes zs);
     limited = l;

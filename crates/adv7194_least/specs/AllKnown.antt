@@ -7,13 +7,13 @@ use mathlib.Core.List.{List}
 use Prim.Native.Nat.{ℕ, _<_}
 use Rattle.bus.specs.Registers.{differs}
 use Rattle.bus.specs.Transactions.{Transaction, Every}
-use Rattle.bus.specs.Run.{run, listEvents}
+use Rattle.bus.specs.Run.{run, listEvents, idleAt}
 use Rattle.adv7194_bus.specs.declared.board.Board.{Board}
 use Rattle.adv7194_bus.specs.Board.{knows}
 use Rattle.adv7194_bus.specs.Kind.{registerCount, adv7194}
 use Rattle.adv7194_bus.specs.Rules.{Rules}
 use Rattle.adv7194_least.specs.Aim.{Aim, must, compared}
-use Rattle.adv7194_least.specs.Reaching.{idleAt, Reaches}
+use Rattle.adv7194_least.specs.Reaching.{Reaches}
 
 -- all of a board's registers are known
 abbrev pub KnownInFull : Board → Type 0

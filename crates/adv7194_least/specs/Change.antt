@@ -11,7 +11,8 @@ use Rattle.adv7194_bus.specs.Kind.{registerCount}
 use Rattle.adv7194_bus.specs.Limit.{limitRight}
 use Rattle.adv7194_table.specs.Masks.{fieldMask, zeroMask}
 use Rattle.adv7194_least.specs.Aim.{Aim, must, compared}
-use Rattle.adv7194_least.specs.Plan.{among, inWord}
+use Rattle.bus.specs.Registers.{among}
+use Rattle.adv7194_least.specs.Plan.{inWord}
 
 -- register r has a bit that belongs to a field or must be zero
 unfoldable pub settable : ℕ → Bool

@@ -6,22 +6,12 @@ use mathlib.Core.Logic.{_⊎_}
 use mathlib.Core.List.{List}
 use Prim.Native.Nat.{ℕ, _≤_, _<_}
 use lib.ListN.{length}
-use Rattle.refusals.specs.Refusal.{accepted}
 use Rattle.bus.specs.Transactions.{Transaction, Every, busBytes}
-use Rattle.unpacking.specs.Unpacking.{unpack}
 use Rattle.least_cost.specs.Order.{NoDearer, Before, Ascending}
 use Rattle.adv7194_bus.specs.Limit.{noLimit}
 use Rattle.adv7194_least.specs.Aim.{Aim}
 use Rattle.adv7194_least.specs.Plan.{joinedPlan}
 use Rattle.adv7194_least.specs.Reaching.{Within, Reaches}
-
--- the numbers answered with a plan's bytes: how many they are, and the transactions and bus bytes of the list that they unpack to
-pub record Counted (plan : List ℕ) (size transactions bytes : ℕ) : Type 0 where
-  pub list : List Transaction
-  pub unpacks : unpack plan ≡ accepted list
-  pub size-is : length plan ≡ size
-  pub transactions-are : length list ≡ transactions
-  pub bytes-are : busBytes list ≡ bytes
 
 -- demand 3: no list that keeps the rules and ends in the wanted image has fewer bus bytes, or as many and fewer transactions
 unfoldable pub Least : Aim → ℕ → ℕ → Type 0

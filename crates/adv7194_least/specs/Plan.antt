@@ -4,17 +4,14 @@
 use mathlib.Core.Bool.{Bool, cond, not, _&&_, _||_}
 use mathlib.Core.List.{List}
 use Prim.Native.Nat.{ℕ, _-_}
-use lib.Dec.{leb, ltb, eqb}
+use lib.Dec.{ltb, eqb}
 use lib.ListN.{getD}
+use Rattle.bus.specs.Registers.{among}
 use Rattle.bus.specs.Transactions.{Transaction}
 use Rattle.adv7194_bus.specs.Kind.{registerCount, readOnly}
 use Rattle.least_cost.specs.Task.{Task}
 use Rattle.least_cost.specs.Plan.{plan, greedyPlan}
 use Rattle.adv7194_least.specs.Aim.{Aim, must, compared}
-
--- register r is one of first to last
-abbrev pub among : ℕ → ℕ → ℕ → Bool
-among first last r = leb first r && leb r last
 
 -- a byte may be written to register r: the chip has it, it isn't the read-only one, and it isn't a caption register
 abbrev pub writable : ℕ → Bool

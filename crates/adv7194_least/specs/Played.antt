@@ -7,16 +7,16 @@ use Prim.Native.Nat.{ℕ, _≤_, _<_}
 use lib.ListN.{length, getD}
 use Rattle.refusals.specs.Refusal.{accepted}
 use Rattle.bus.specs.Transactions.{Transaction}
-use Rattle.bus.specs.Run.{allAcknowledged, listEvents}
+use Rattle.bus.specs.Run.{allAcknowledged, listEvents, idleAt}
 use Rattle.unpacking.specs.Unpacking.{unpack}
 use Rattle.adv7194_bus.specs.Kind.{registerCount, adv7194}
 use Rattle.adv7194_bus.specs.declared.board.Board.{Board}
 use Rattle.adv7194_bus.specs.Board.{knows}
-use Rattle.adv7194_bus.specs.Address.{addressRight}
+use Rattle.bus.specs.Address.{addressRight}
 use Rattle.adv7194_playing.specs.declared.PlanKind.the-variants.{Settings}
 use Rattle.adv7194_playing.specs.Playing.{playOf, playedBoard}
 use Rattle.adv7194_least.specs.Aim.{Aim, compared}
-use Rattle.adv7194_least.specs.Reaching.{idleAt, MayHold, AsWanted, Reaches}
+use Rattle.adv7194_least.specs.Reaching.{MayHold, AsWanted, Reaches}
 
 -- a board as playing leaves it: exactly the registers known or needed are known, each with its wanted byte, every other byte and flag as handed in
 pub record Leaves (a : Aim) (after : Board) : Type 0 where

@@ -6,19 +6,13 @@ use mathlib.Core.Bool.{true}
 use mathlib.Core.List.{List}
 use Prim.Native.Nat.{ℕ, _≤_, _<_, _^_}
 use lib.ListN.{length, getD}
-use Rattle.bus.specs.declared.chip.Phase.the-variants.{Idle}
 use Rattle.bus.specs.Transactions.{Transaction, size, Touches, Every}
-use Rattle.bus.specs.Chip.{Chip}
-use Rattle.bus.specs.Run.{run, listEvents}
+use Rattle.bus.specs.Run.{idleAt, run, listEvents}
 use Rattle.adv7194_bus.specs.declared.board.Board.{Board}
 use Rattle.adv7194_bus.specs.Board.{knows}
 use Rattle.adv7194_bus.specs.Kind.{registerCount, adv7194}
 use Rattle.adv7194_bus.specs.Rules.{Rules}
 use Rattle.adv7194_least.specs.Aim.{Aim, compared}
-
--- an idle chip that holds an image, its pointer anywhere
-abbrev pub idleAt : ℕ → List ℕ → Chip
-idleAt pointer image = record { phase = Idle; pointer = pointer; registers = image }
 
 -- what a chip may hold of which a board is known: a byte a register, and the board's in those that are known
 pub record MayHold (b : Board) (image : List ℕ) : Type 0 where

@@ -8,9 +8,10 @@ use native.Mathlib.Omega.{arith}
 use lib.IntN.{ℤ, pos}
 use Rattle.text.specs.Text.{space, signed}
 use Rattle.field_table.specs.Blocks.{is}
-use Rattle.adv7194_names.specs.Ascii.{ascii}
+use Rattle.writing.specs.Ascii.{ascii}
 use Rattle.adv7194_lines.specs.Kinds.{numberAt, cgmsText, signallingText, ratioText, bytesText, sevenText, curveText}
-use Rattle.adv7194_names.specs.Values.{number, code}
+use Rattle.writing.specs.Codes.{code}
+use Rattle.adv7194_names.specs.Values.{number}
 
 module _ (zs : List ℤ) (k : ℕ) where
   -- ---- signalling by its kind

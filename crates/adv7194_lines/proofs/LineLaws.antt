@@ -1,4 +1,4 @@
--- Laws of lines: which entries of the table have one, and the lines of rows that are packed in numbers. Assumes nothing.
+-- Laws of lines: their parts in a row, which entries of the table have one, and the lines of rows that are packed in numbers. Assumes nothing.
 use mathlib.Core.Path.{_≡_, refl, sym, ap, ap₂, _∙_}
 use mathlib.Core.List.{List, [], _∷_, _++_, append-assoc, append-nil}
 use Prim.Native.Nat.{ℕ, zero, suc, _+_, _≤_, _<_}
@@ -16,10 +16,20 @@ use Rattle.field_table.specs.Walk.{given}
 use Rattle.adv7194_table.specs.Fields.{numberCount, timing, pedestal, output, picture, dnr}
 use Rattle.adv7194_table.specs.Blocks.{signalling, curveA, curveB, word}
 use Rattle.adv7194_table.specs.Table.{Entry, single, whole, signals, curve, subcarrier, singles, table, singleFields, rowsIn, rowsOf}
+use Rattle.writing.specs.Put.{Put}
+use Rattle.writing.proofs.Putting.{more, wider}
 use Rattle.adv7194_names.specs.Names.{named}
 use Rattle.adv7194_names.specs.Values.{numberText}
+use Rattle.adv7194_names.specs.Widths.{curveWidth, labelWidth, lineWidth}
 use Rattle.adv7194_lines.specs.Lines.{labelText}
 use Rattle.adv7194_lines.specs.Lines.{lineOf, linesOf}
+
+-- a line in its four parts: number and name, a space, the setting, the line end
+pub composed : {n : ℕ} {line : List ℕ} {at : ℕ} {label value l1 l2 l3 l4 : List ℕ} {p1 p2 p3 p4 : ℕ} → Put labelWidth line at label l1 p1
+    → Put 1 l1 p1 space l2 p2
+    → Put n l2 p2 value l3 p3 → Put 1 l3 p3 lineEnd l4 p4 → n ≤ curveWidth → at + lineWidth ≤ length line
+    → Put lineWidth line at (label ++ space ++ value ++ lineEnd) l4 p4
+composed a b c d h r = wider lineWidth (omega arith) (more (more (more a b (omega arith)) c (omega arith)) d (omega arith))
 
 -- ---- the line of a row
 

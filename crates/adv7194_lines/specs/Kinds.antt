@@ -8,9 +8,10 @@ use Rattle.text.specs.Text.{space, signed}
 use Rattle.field_table.specs.Walk.{given}
 use Rattle.field_table.specs.Blocks.{is}
 use Rattle.adv7194_table.specs.Table.{Content, signals, curve, subcarrier, Entry, single, whole}
-use Rattle.adv7194_names.specs.Ascii.{ascii}
+use Rattle.writing.specs.Ascii.{ascii}
 use Rattle.adv7194_names.specs.Names.{named}
-use Rattle.adv7194_names.specs.Values.{numberText, number, flag, code}
+use Rattle.writing.specs.Codes.{code}
+use Rattle.adv7194_names.specs.Values.{numberText, number, flag}
 
 -- ---- signalling: five numbers from index k on
 

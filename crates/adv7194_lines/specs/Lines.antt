@@ -8,7 +8,7 @@ use lib.IntN.{ℤ}
 use Rattle.text.specs.Text.{space, lineEnd, decimal}
 use Rattle.adv7194_table.specs.Fields.{numberCount}
 use Rattle.adv7194_table.specs.Table.{Entry, single, whole, fieldOf}
-use Rattle.adv7194_names.specs.Ascii.{ascii}
+use Rattle.writing.specs.Ascii.{ascii}
 use Rattle.adv7194_names.specs.Names.{named}
 use Rattle.adv7194_lines.specs.Kinds.{valueText}
 

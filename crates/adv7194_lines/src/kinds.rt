@@ -1,18 +1,19 @@
 // The settings that have kinds, signalling and gamma curves: some of the settings' numbers from index k on. Each function answers the place after what
 // it wrote.
-use adv7194_names::values::put_code;
 use adv7194_names::values::put_flag;
-use adv7194_names::values::put_number;
-use adv7194_names::values::put_signed;
 use text::put;
-ghost use mathlib.Core.Path.{_≡_};
+use writing::number_at;
+use writing::put_code;
+use writing::put_number;
+use writing::put_signed;
 ghost use mathlib.Core.List.{_++_};
 ghost use Prim.Native.Nat.{_+_, _*_, _≤_, _<_};
 ghost use lib.ListN.{length};
 ghost use Rattle.text.specs.Text.{space};
-ghost use Rattle.adv7194_names.specs.Put.{Put, signallingWidth, nextWidth, curveWidth};
-ghost use Rattle.adv7194_lines.specs.Kinds.{numberAt, cgmsText, signallingText, ratioText, bytesText, sevenText, curveText};
-ghost use Rattle.adv7194_names.specs.Values.{code};
+ghost use Rattle.writing.specs.Put.{Put};
+ghost use Rattle.adv7194_names.specs.Widths.{signallingWidth, nextWidth, curveWidth};
+ghost use Rattle.adv7194_lines.specs.Kinds.{cgmsText, signallingText, ratioText, bytesText, sevenText, curveText};
+ghost use Rattle.writing.specs.Codes.{code};
 
 // The kinds of signalling.
 const OFF: i32 = 0;
@@ -30,16 +31,6 @@ const BYTES: i32 = 1;
 const FIRST_BYTE: usize = 3;
 
 const FURTHER_BYTES: usize = 6;
-
-// Number k of the settings, 0 past the last.
-pub fn number_at(numbers: &[i32], k: usize) -> i32
-    ensures answer { λ r. ⌜ r ≡ numberAt (now (numbers .entry)) k ⌝ }
-{
-    if k < numbers.len() {
-        return numbers[k];
-    }
-    0
-}
 
 // Writes CGMS: its payload and three yes/no.
 fn put_cgms(line: &mut [u8], at: usize, numbers: &[i32], k: usize) -> usize

@@ -23,7 +23,7 @@ use Rattle.field_table.specs.Walk.{held}
 use Rattle.field_table.specs.Blocks.{bytesFrom}
 use Rattle.adv7194_table.specs.Fields.{timing, output, picture, dnr}
 use Rattle.adv7194_table.specs.Table.{singles, table, singleFields, rowsIn, rowsOf}
-use Rattle.adv7194_names.specs.Ascii.{ascii}
+use Rattle.writing.specs.Ascii.{ascii}
 use Rattle.adv7194_listing.specs.Faults.{rowAt, fieldRow, counted, hexText, reservedText}
 
 -- ---- the row of a field

@@ -14,7 +14,7 @@ use Rattle.field_table.specs.Blocks.{bytesFrom}
 use Rattle.adv7194_table.specs.Blocks.{signalling, word}
 use Rattle.adv7194_table.specs.Table.{table, singleFields, rowsIn}
 use Rattle.adv7194_signalling.specs.Kind.{Signalling, off, cgms, wss, kindOf}
-use Rattle.adv7194_names.specs.Ascii.{ascii}
+use Rattle.writing.specs.Ascii.{ascii}
 use Rattle.adv7194_names.specs.Names.{named}
 use Rattle.adv7194_lines.specs.Lines.{labelText}
 

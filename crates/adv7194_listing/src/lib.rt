@@ -3,11 +3,11 @@ mod faults;
 
 use adv7194_lines::lines::NUMBERS;
 use adv7194_lines::lines::setting_lines;
-use adv7194_reading::Read;
 use adv7194_reading::read;
 pub use faults::byte_at;
 use faults::fault_line;
 pub use faults::field_row;
+use field_table::Checked;
 use listing::refused_line;
 use refusals::Refusal;
 use text::Place;
@@ -21,7 +21,8 @@ ghost use Rattle.text.specs.Line.{placeAfter, appended};
 ghost use Rattle.listing.specs.Lines.{refusedLine};
 ghost use Rattle.refusals.specs.Refusal.{numberOf};
 ghost use Rattle.adv7194_bus.specs.Board.{boardOf};
-ghost use Rattle.adv7194_names.specs.Put.{Put, textWidth};
+ghost use Rattle.writing.specs.Put.{Put};
+ghost use Rattle.adv7194_names.specs.Widths.{textWidth};
 ghost use Rattle.adv7194_listing.specs.Faults.{faultText};
 ghost use Rattle.adv7194_listing.specs.Listing.{settingsText};
 
@@ -48,8 +49,8 @@ fn compose(line: &mut [u8], image: &[u8], known: u64) -> usize
     let mut numbers = [0i32; NUMBERS];
     let answer = read(image, known, &mut numbers);
     match answer {
-        Read::Done => setting_lines(line, &numbers),
-        Read::Refused { refusal, field } => refused_text(line, image, refusal, field),
+        Checked::Good => setting_lines(line, &numbers),
+        Checked::Refused { refusal, field } => refused_text(line, image, refusal, field),
     }
 }
 

@@ -9,7 +9,7 @@ use lib.Dec.{eqb, leb}
 use lib.ListN.{length, getD, take, drop, length-drop}
 use lib.Seq.{drop-cons, take-suc, getD-drop, append-snoc}
 use borrow.Author.Tests.{leb-true, not-true}
-use Rattle.adv7194_names.specs.Ascii.{ascii}
+use Rattle.writing.specs.Ascii.{ascii}
 use Rattle.adv7194_names.specs.Names.{Named}
 use Rattle.adv7194_names.specs.Columns.{columnsText, columnOf, columnIn, ends, comma, newline}
 

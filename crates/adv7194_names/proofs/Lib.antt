@@ -1,4 +1,3 @@
 pub mod ColumnLaws
 pub mod TableLaws
-pub mod Putting
 pub mod Choosing

@@ -3,7 +3,7 @@ use mathlib.Core.Bool.{Bool, cond, _||_}
 use mathlib.Core.List.{List, [], _∷_, _++_}
 use Prim.Native.Nat.{ℕ, zero, suc}
 use lib.Dec.{eqb}
-use Rattle.adv7194_names.specs.Ascii.{ascii}
+use Rattle.writing.specs.Ascii.{ascii}
 use Rattle.adv7194_names.specs.Names.{Named}
 
 -- the ASCII codes of a comma and of a line's end

@@ -1,5 +1,4 @@
-pub mod Ascii
 pub mod Names
 pub mod Columns
 pub mod Values
-pub mod Put
+pub mod Widths

@@ -4,11 +4,10 @@ use mathlib.Core.Bool.{cond}
 use mathlib.Core.List.{List, [], _∷_, _++_}
 use Prim.Native.Nat.{ℕ}
 use Prim.Native.String.{String}
-use lib.Dec.{ltb}
-use lib.IntN.{ℤ, pos, negsuc}
-use Rattle.text.specs.Text.{signed, hexByte}
+use lib.IntN.{ℤ}
+use Rattle.text.specs.Text.{signed}
 use Rattle.field_table.specs.Blocks.{is}
-use Rattle.adv7194_names.specs.Ascii.{ascii}
+use Rattle.writing.specs.Ascii.{ascii}
 use Rattle.adv7194_names.specs.Names.{Named}
 
 -- the word of a setting: none but 0 and 1 may have one
@@ -35,8 +34,3 @@ yesNo n = cond (is 0 n) (ascii "no") (cond (is 1 n) (ascii "yes") (signed n))
 -- a word and a yes/no
 abbrev pub flag : String → ℤ → List ℕ
 flag word n = ascii word ++ yesNo n
-
--- a curve's byte: two hexadecimal digits
-unfoldable pub code : ℤ → List ℕ
-code (pos n) = cond (ltb n 256) (hexByte n) (signed (pos n))
-code (negsuc n) = signed (negsuc n)

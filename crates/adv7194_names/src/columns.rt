@@ -6,7 +6,8 @@ ghost use Prim.Native.Nat.{_+_, _-_, _≤_, _<_};
 ghost use lib.ListN.{length, take, drop};
 ghost use Rattle.adv7194_names.specs.Names.{names as namesOf, named};
 ghost use Rattle.adv7194_names.specs.Columns.{columnsText, columnOf, columnIn, ends};
-ghost use Rattle.adv7194_names.specs.Put.{Put, columnWidth};
+ghost use Rattle.writing.specs.Put.{Put};
+ghost use Rattle.adv7194_names.specs.Widths.{columnWidth};
 
 // How many columns a line has, and which they are.
 const COLUMNS: usize = 4;

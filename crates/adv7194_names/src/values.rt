@@ -1,57 +1,19 @@
-// Words and numbers written into a line that has room for them. Each function answers the place after what it wrote.
+// Settings of one number written into a line that has room for them. Each function answers the place after what it wrote.
 use crate::columns::ONE;
 use crate::columns::UNIT;
 use crate::columns::ZERO;
 use crate::columns::put_column;
-use text::Place;
 use text::put;
+use writing::put_signed;
 ghost use mathlib.Core.List.{_++_};
 ghost use Prim.Native.Nat.{_+_, _≤_};
 ghost use lib.ListN.{length};
-ghost use Rattle.text.specs.Text.{space, signed, decimal, hexByte};
-ghost use Rattle.adv7194_names.specs.Ascii.{ascii};
+ghost use Rattle.text.specs.Text.{signed};
+ghost use Rattle.writing.specs.Ascii.{ascii};
 ghost use Rattle.adv7194_names.specs.Names.{named};
-ghost use Rattle.adv7194_names.specs.Put.{Put, numberWidth, countWidth, columnWidth, settingWidth};
-ghost use Rattle.adv7194_names.specs.Values.{wordOf, numberText, yesNo, code};
-
-// The largest byte.
-const LARGEST_BYTE: i32 = 255;
-
-// Writes a number in signed decimal.
-pub fn put_signed(line: &mut [u8], at: usize, n: i32) -> usize
-    requires { ⌜ at + numberWidth ≤ length (now line) ⌝ }
-    ensures written { λ r. ⌜ Put numberWidth (now (line .entry)) at (signed n) (now (line .exit)) r ⌝ }
-{
-    let place = text::signed(line, at, n);
-    let Place::After(next) = place else {
-        return at;
-    };
-    next
-}
-
-// Writes a count in decimal.
-pub fn put_decimal(line: &mut [u8], at: usize, n: u64) -> usize
-    requires { ⌜ at + countWidth ≤ length (now line) ⌝ }
-    ensures written { λ r. ⌜ Put countWidth (now (line .entry)) at (decimal n) (now (line .exit)) r ⌝ }
-{
-    let place = text::decimal(line, at, n);
-    let Place::After(next) = place else {
-        return at;
-    };
-    next
-}
-
-// Writes a byte in two hexadecimal digits.
-pub fn put_hex(line: &mut [u8], at: usize, b: u8) -> usize
-    requires { ⌜ at + 2 ≤ length (now line) ⌝ }
-    ensures written { λ r. ⌜ Put 2 (now (line .entry)) at (hexByte b) (now (line .exit)) r ⌝ }
-{
-    let place = text::hex_byte(line, at, b);
-    let Place::After(next) = place else {
-        return at;
-    };
-    next
-}
+ghost use Rattle.writing.specs.Put.{Put, numberWidth};
+ghost use Rattle.adv7194_names.specs.Widths.{columnWidth, settingWidth};
+ghost use Rattle.adv7194_names.specs.Values.{wordOf, numberText, yesNo};
 
 // Writes the word of a field's setting, nothing where it has none.
 fn put_word(line: &mut [u8], at: usize, field: u8, n: i32) -> usize
@@ -88,15 +50,6 @@ pub fn put_setting(line: &mut [u8], at: usize, field: u8, n: i32) -> usize
     put_amount(line, at, field, n)
 }
 
-// Writes a word and a number.
-pub fn put_number(line: &mut [u8], at: usize, word: &[u8], n: i32) -> usize
-    requires { ⌜ at + (length (now word) + numberWidth) ≤ length (now line) ⌝ }
-    ensures written { λ r. ⌜ Put (length (now (word .entry)) + numberWidth) (now (line .entry)) at (now (word .entry) ++ signed n) (now (line .exit)) r ⌝ }
-{
-    let after = put(line, at, word);
-    put_signed(line, after, n)
-}
-
 // Writes a yes/no.
 fn put_yes(line: &mut [u8], at: usize, n: i32) -> usize
     requires { ⌜ at + numberWidth ≤ length (now line) ⌝ }
@@ -118,37 +71,4 @@ pub fn put_flag(line: &mut [u8], at: usize, word: &[u8], n: i32) -> usize
 {
     let after = put(line, at, word);
     put_yes(line, after, n)
-}
-
-// Writes a curve's byte, in signed decimal where it is no byte.
-pub fn put_code(line: &mut [u8], at: usize, n: i32) -> usize
-    requires { ⌜ at + numberWidth ≤ length (now line) ⌝ }
-    ensures written { λ r. ⌜ Put numberWidth (now (line .entry)) at (code n) (now (line .exit)) r ⌝ }
-{
-    if n < 0 {
-        return put_signed(line, at, n);
-    }
-    if LARGEST_BYTE < n {
-        return put_signed(line, at, n);
-    }
-    put_hex(line, at, n as u8)
-}
-
-// Writes a count among words.
-pub fn put_counted(line: &mut [u8], at: usize, before: &[u8], n: u64, after: &[u8]) -> usize
-    requires { ⌜ at + (length (now before) + countWidth + length (now after)) ≤ length (now line) ⌝ }
-    ensures written { λ r. ⌜ Put (length (now (before .entry)) + countWidth + length (now (after .entry))) (now (line .entry)) at (now (before .entry) ++ decimal n ++ now (after .entry)) (now (line .exit)) r ⌝ }
-{
-    let begun = put(line, at, before);
-    let counted = put_decimal(line, begun, n);
-    put(line, counted, after)
-}
-
-// Writes a byte of an image after a space.
-pub fn put_byte(line: &mut [u8], at: usize, b: u8) -> usize
-    requires { ⌜ at + 3 ≤ length (now line) ⌝ }
-    ensures written { λ r. ⌜ Put 3 (now (line .entry)) at (space ++ hexByte b) (now (line .exit)) r ⌝ }
-{
-    let spaced = put(line, at, b" ");
-    put_hex(line, spaced, b)
 }

@@ -7,14 +7,15 @@ use lib.Dec.{T, eqb, ltb}
 use lib.IntN.{ℤ}
 use lib.ListN.{length, drop}
 use borrow.Author.Tests.{eq-eqb, ne-eqb, lt-ltb, le-ltb, not-true}
-use Rattle.bits.proofs.FlagLaws.{first, second, holds}
+use Rattle.bits.proofs.FlagLaws.{first, second, holds, both-true}
 use Rattle.refusals.specs.Verdict.{Verdict, good, refusedAt, after}
-use Rattle.refusals.specs.Order.{Place, firstOf, placesAt, placesOver}
+use Rattle.refusals.specs.Order.{firstOf, placesAt, placesOver}
 use Rattle.refusals.proofs.OrderLaws.{first-append}
+use Rattle.refusals.proofs.PlaceLaws.{allPass, same-first}
 use Rattle.packing.specs.Packing.{packed}
 use Rattle.planning.specs.Plan.{Counts, countsOf, leftBy}
 use Rattle.adv7194_bus.specs.Kind.{registerCount}
-use Rattle.adv7194_bus.specs.Address.{addressRight}
+use Rattle.bus.specs.Address.{addressRight}
 use Rattle.adv7194_bus.specs.Limit.{limitRight}
 use Rattle.adv7194_bus.specs.declared.board.Board.{Board}
 use Rattle.adv7194_table.specs.Fields.{numberCount, timing, output, picture, dnr}
@@ -32,15 +33,10 @@ use Rattle.adv7194_planning.specs.Planning.{planningOf, planLeft}
 abbrev pub bySettings : ℕ → ℕ → Bool
 bySettings n f = not (eqb n 10) && (not (eqb n 11) && not (eqb f 0))
 
--- some places are such
-abbrev pub allBySettings : List Place → Bool
-allBySettings [] = true
-allBySettings (p ∷ ps) = bySettings (p .row) (p .field) && allBySettings ps
-
--- those of the settings' checking order are
-pub order-by-settings : T (allBySettings order)
+-- those of the settings' checking order are such
+pub order-by-settings : allPass bySettings order ≡ true
 unfolding order placesOf placesAt orderOf table singles timing output picture dnr
-order-by-settings = tt
+order-by-settings = refl
 
 -- ---- the unknown registers' row
 
@@ -64,23 +60,16 @@ table-fields = tt
 
 module _ (b : Board) (zs : List ℤ) (address limit room : ℕ) where
   -- a row holds of what is handed to planning where it holds of the settings
-  same-row : (n f : ℕ) → T (bySettings n f) → rowPlanned b zs address limit room n f ≡ rowHolds zs n f
+  same-row : (n f : ℕ) → bySettings n f ≡ true → rowPlanned b zs address limit room n f ≡ rowHolds zs n f
   unfolding rowPlanned
   same-row n f t =
-      let own = not (eqb n 11) && not (eqb f 0) in
-      let q = second (not (eqb n 10)) own t in
-      rw (
-        not-true (eqb f 0) (holds (not (eqb f 0)) (second (not (eqb n 11)) (not (eqb f 0)) q)),
-        not-true (eqb n 11) (holds (not (eqb n 11)) (first (not (eqb n 11)) (not (eqb f 0)) q)),
-      )
+      let q = both-true (not (eqb n 11)) (not (eqb f 0)) (both-true (not (eqb n 10)) (not (eqb n 11) && not (eqb f 0)) t .1) in
+      rw (not-true (eqb f 0) (q .1), not-true (eqb n 11) (q .0))
 
-  pub same-first : {A : Type 0} (ps : List Place) (a : A) → T (allBySettings ps)
-      → firstOf (rowPlanned b zs address limit room) ps a ≡ firstOf (rowHolds zs) ps a
-  unfolding firstOf
-  same-first [] a t = refl
-  same-first (p ∷ ps) a t =
-      let own = bySettings (p .row) (p .field) in
-      rw (same-row (p .row) (p .field) (first own (allBySettings ps) t), same-first ps a (second own (allBySettings ps) t))
+  -- so the settings' checking order answers what it does of the settings
+  pub same-check : firstOf (rowPlanned b zs address limit room) order (tt {0}) ≡ checkOf zs
+  unfolding checkOf
+  same-check = same-first bySettings (rowPlanned b zs address limit room) (rowHolds zs) same-row order (tt {0}) order-by-settings
 
   -- row 11 is given at the lowest field that has such a register
   pub by-register : (fs : List ℕ) → T (allFields fs) → (let f = lowestIn (unfixed b zs) fs in
@@ -134,10 +123,9 @@ module _ (b : Board) (zs : List ℤ) (address limit room : ℕ) where
 
   -- the settings' rows, and then those
   settings-then : firstOf (rowPlanned b zs address limit room) (order ++ lastChecks) (countsOf (listOf b zs limit)) ≡ after (checkOf zs) lastVerdict
-  unfolding checkOf
   settings-then =
       first-append (rowPlanned b zs address limit room) order lastChecks (countsOf (listOf b zs limit))
-      ∙ ap (λ (v : Verdict (Unit {0})). after v lastVerdict) (same-first order (tt {0}) order-by-settings)
+      ∙ ap (λ (v : Verdict (Unit {0})). after v lastVerdict) same-check
 
   -- row 1: the image isn't 54 bytes
   pub wrong-length : (length (b .registers) ≡ registerCount → ⊥) → planningOf b zs address limit room ≡ refusedAt 1 0

@@ -4,17 +4,17 @@ use mathlib.Core.Bool.{Bool, true, false, cond, _&&_}
 use mathlib.Core.List.{List, [], _∷_, _++_, append-assoc}
 use Prim.Native.Nat.{ℕ}
 use native.Mathlib.Omega.{arith}
-use lib.Dec.{eqb, leb}
+use lib.Dec.{eqb}
 use lib.IntN.{ℤ}
 use lib.ListN.{length}
-use borrow.Author.Tests.{eq-eqb, ne-eqb, eqb-true, eqb-false, lt-ltb, le-ltb, leb-true, leb-false}
+use borrow.Author.Tests.{eq-eqb, ne-eqb, eqb-true, eqb-false}
 use Rattle.refusals.specs.Verdict.{Verdict, good, refusedAt, after}
 use Rattle.refusals.specs.Order.{Place, firstOf, placesAt, placesOver}
 use Rattle.refusals.proofs.OrderLaws.{first-append}
-use Rattle.packing.specs.Packing.{packed}
 use Rattle.planning.specs.Plan.{countsOf, packingOf}
+use Rattle.planning.proofs.AnswerLaws.{by-room}
 use Rattle.adv7194_bus.specs.Kind.{registerCount}
-use Rattle.adv7194_bus.specs.Address.{addressRight}
+use Rattle.bus.specs.Address.{addressRight}
 use Rattle.adv7194_bus.specs.Limit.{limitRight}
 use Rattle.adv7194_bus.specs.declared.board.Board.{Board}
 use Rattle.adv7194_table.specs.Fields.{numberCount}
@@ -26,7 +26,7 @@ use Rattle.adv7194_planning.specs.Aims.{Passing}
 use Rattle.adv7194_planning.specs.Rows.{listOf, rowPlanned, lastChecks, planOrder}
 use Rattle.adv7194_planning.specs.Checks.{checks, checkedImage}
 use Rattle.adv7194_planning.specs.Planning.{planningOf}
-use Rattle.adv7194_planning.proofs.CaseLaws.{order-by-settings, same-first}
+use Rattle.adv7194_planning.proofs.CaseLaws.{same-check}
 
 -- the limit is right, and the settings pass the check
 pub record Cleared (zs : List ℤ) (limit : ℕ) : Type 0 where
@@ -62,10 +62,9 @@ module _ (b : Board) (zs : List ℤ) (address limit room : ℕ) where
 
   -- the settings' rows, and then row 11
   settings-then : firstOf row (order ++ placesOver 11 (orderOf table)) (tt {0}) ≡ after (checkOf zs) unknownVerdict
-  unfolding checkOf
   settings-then =
       first-append row order (placesOver 11 (orderOf table)) (tt {0})
-      ∙ ap (λ (v : Verdict (Unit {0})). after v unknownVerdict) (same-first b zs address limit room order (tt {0}) order-by-settings)
+      ∙ ap (λ (v : Verdict (Unit {0})). after v unknownVerdict) (same-check b zs address limit room)
 
   module _ (l : limitRight limit ≡ true) where
     -- the count of the numbers
@@ -102,12 +101,7 @@ module _ (b : Board) (zs : List ℤ) (address limit room : ℕ) where
   -- row 10 alone answers what packing the list does
   room-is : firstOf row (placesAt (10 ∷ []) 0) (countsOf (listOf b zs limit)) ≡ packingOf (listOf b zs limit) room
   unfolding firstOf placesAt rowPlanned
-  room-is = by (leb (length (packed (listOf b zs limit))) room) refl
-    where
-      by : (x : Bool) → leb (length (packed (listOf b zs limit))) room ≡ x
-          → firstOf row (placesAt (10 ∷ []) 0) (countsOf (listOf b zs limit)) ≡ packingOf (listOf b zs limit) room
-      by true p = let q = le-ltb room (length (packed (listOf b zs limit))) (leb-true (length (packed (listOf b zs limit))) room p) in rw (p, q)
-      by false p = let q = lt-ltb room (length (packed (listOf b zs limit))) (leb-false (length (packed (listOf b zs limit))) room p) in rw (p, q)
+  room-is = by-room (listOf b zs limit) room
 
   -- the places from the limit on are the checks and then the room
   then-room : firstOf row (placesAt (3 ∷ []) 0 ++ (order ++ lastChecks)) (countsOf (listOf b zs limit)) ≡ after verdict (packingOf (listOf b zs limit) room)

@@ -1,19 +1,20 @@
 -- Demands 1, 2 and 3 of whatever planning answers and leaves. Assumes nothing.
-use mathlib.Core.Path.{_≡_, refl, sym, ap, _∙_, subst}
+use mathlib.Core.Path.{_≡_, sym, ap, _∙_, subst}
 use mathlib.Core.Bool.{not}
 use mathlib.Core.List.{List}
 use Prim.Native.Nat.{ℕ, _^_, _≤_, _<_}
 use native.Mathlib.Omega.{arith}
 use lib.IntN.{ℤ}
-use lib.ListN.{length, getD, take, drop}
-use lib.Seq.{take-append-seam}
+use lib.ListN.{length, getD, take}
 use lib.Dec.{T, eqb}
-use Rattle.refusals.specs.Verdict.{Verdict, good, refusedAt}
+use Rattle.refusals.specs.Verdict.{Verdict, refusedAt}
 use Rattle.refusals.specs.Order.{Exactly}
 use Rattle.refusals.proofs.OrderLaws.{exactly}
 use Rattle.bus.specs.Transactions.{busBytes}
 use Rattle.packing.specs.Packing.{packed}
-use Rattle.planning.specs.Plan.{Counts, countsOf, done}
+use Rattle.unpacking.specs.Unpacking.{Counted}
+use Rattle.planning.specs.Plan.{Counts, countsOf, leftBy, done}
+use Rattle.planning.proofs.AnswerLaws.{left-packed}
 use Rattle.adv7194_bus.specs.declared.board.Board.{Board}
 use Rattle.adv7194_settings.specs.Wanted.{wantedBy}
 use Rattle.adv7194_settings.specs.Demand.{Demanded}
@@ -21,7 +22,7 @@ use Rattle.adv7194_settings.proofs.DemandLaws.{demanded}
 use Rattle.adv7194_least.specs.Aim.{aimOf}
 use Rattle.adv7194_least.specs.Change.{Change, Told}
 use Rattle.adv7194_least.specs.Played.{Played}
-use Rattle.adv7194_least.specs.Demands.{Counted, Least, First, Only, mostBytes, wideLimit, wideBytes}
+use Rattle.adv7194_least.specs.Demands.{Least, First, Only, mostBytes, wideLimit, wideBytes}
 use Rattle.adv7194_least.proofs.WantedChange.{settings-change, settings-told}
 use Rattle.adv7194_least.proofs.PackedPlan.{plan-counted}
 use Rattle.adv7194_least.proofs.PlayedPlan.{plan-played}
@@ -30,7 +31,7 @@ use Rattle.adv7194_least.proofs.Joined.{plan-only}
 use Rattle.adv7194_least.proofs.Room.{plan-room, wide-room}
 use Rattle.adv7194_planning.specs.Rows.{listOf, rowPlanned, planOrder}
 use Rattle.adv7194_planning.specs.Planning.{planningOf, planLeft}
-use Rattle.adv7194_planning.proofs.CaseLaws.{unfixed, accept}
+use Rattle.adv7194_planning.proofs.CaseLaws.{unfixed}
 use Rattle.adv7194_planning.proofs.Outcomes.{none-among, Passed, Outcome, early, short, planned, outcome}
 
 -- all that planning promises of an answer, and of what it leaves of the lent plan
@@ -47,27 +48,13 @@ Clauses board zs address limit plan after v =
     × (((f : ℕ) → v ≡ refusedAt 10 f → (length plan < mostBytes) × (wideLimit ≤ limit → length plan < wideBytes))
     × Exactly (rowPlanned board zs address limit (length plan)) planOrder (countsOf (listOf board zs limit)) v))))))))
 
--- what an answered plan tells: all before the room has passed, and the numbers are the list's
-record Answered (board : Board) (zs : List ℤ) (limit : ℕ) (v : Verdict Counts) (l t b : ℕ) : Type 0 where
-  passed : Passed board zs limit
-  verdict : v ≡ good (countsOf (listOf board zs limit))
-  size : l ≡ length (packed (listOf board zs limit))
-  transactions : t ≡ length (listOf board zs limit)
-  cost : b ≡ busBytes (listOf board zs limit)
-
 module _ (board : Board) (zs : List ℤ) (limit room : ℕ) where
-  is-planned : (v : Verdict Counts) → Outcome board zs limit room v → (l t b : ℕ) → v ≡ done l t b → Answered board zs limit v l t b
+  -- an answered plan: all before the room has passed, and the numbers are the list's
+  is-planned : (v : Verdict Counts) → Outcome board zs limit room v → (l t b : ℕ) → v ≡ done l t b
+      → Passed board zs limit × (countsOf (listOf board zs limit) ≡ record { length = l; transactions = t; busBytes = b })
   is-planned _ (early h) l t b e = let z : _≡_ {A = ℕ} 0 1 = cc in absurd (omega arith)
   is-planned _ (short p h) l t b e = let z : _≡_ {A = ℕ} 0 1 = cc in absurd (omega arith)
-  is-planned _ (planned p) l t b e =
-      let same : countsOf (listOf board zs limit) ≡ record { length = l; transactions = t; busBytes = b } = cc in
-      record {
-        passed = p;
-        verdict = refl;
-        size = sym (ap (λ (n : Counts). n .length) same);
-        transactions = sym (ap (λ (n : Counts). n .transactions) same);
-        cost = sym (ap (λ (n : Counts). n .busBytes) same);
-      }
+  is-planned _ (planned p) l t b e = (p, cc)
 
   -- where the room is refused, it is too short for the list
   is-short : (v : Verdict Counts) → Outcome board zs limit room v → (f : ℕ) → v ≡ refusedAt 10 f
@@ -91,43 +78,45 @@ module _ (board : Board) (zs : List ℤ) (limit : ℕ) (bytes : (r : ℕ) → ge
     came = subst (Outcome board zs limit (length plan)) (sym answer) (outcome board zs address limit (length plan))
 
     module _ (l t b : ℕ) (e : v ≡ done l t b) where
-      answered : Answered board zs limit v l t b
+      answered : Passed board zs limit × (countsOf (listOf board zs limit) ≡ record { length = l; transactions = t; busBytes = b })
       answered = is-planned board zs limit (length plan) v came l t b e
 
       -- the bytes answered are the packed plan
       left : take l after ≡ packed (listOf board zs limit)
       left =
           let list = listOf board zs limit in
-          ap (λ (k : ℕ). take k after) (answered .size)
-          ∙ ap (take (length (packed list))) (memory ∙ accept board zs address limit plan (sym answer ∙ answered .verdict))
-          ∙ take-append-seam (packed list) (drop (length (packed list)) plan)
+          left-packed list plan after l t b (answered .1) (memory ∙ ap (leftBy list plan) (sym answer ∙ e))
 
       -- the numbers are those of the list that the bytes unpack to
       pub counted : Counted (take l after) l t b
       unfolding listOf
-      counted = rw (left, answered .size, answered .transactions, answered .cost) (plan-counted (aimOf board zs limit) (change (answered .passed)))
+      counted =
+          subst (λ (n : Counts). Counted (take l after) (n .length) (n .transactions) (n .busBytes)) (answered .1)
+          (rw left (plan-counted (aimOf board zs limit) (change (answered .0))))
 
       -- demand 2: the wanted image, bit by bit
       pub wanted : Demanded (board .registers) zs (wantedBy (board .registers) zs)
-      wanted = demanded (board .registers) zs (answered .passed .long)
+      wanted = demanded (board .registers) zs (answered .0 .long)
 
       -- and that the plan leads to it
       pub played : Played (aimOf board zs limit) (take l after)
       unfolding listOf
-      played = rw left (plan-played (aimOf board zs limit) (change (answered .passed)))
+      played = rw left (plan-played (aimOf board zs limit) (change (answered .0)))
 
       -- demand 3
       pub least : Least (aimOf board zs limit) t b
       unfolding listOf
-      least = rw (answered .transactions, answered .cost) (plan-least (aimOf board zs limit) (change (answered .passed)))
+      least =
+          subst (λ (n : Counts). Least (aimOf board zs limit) (n .transactions) (n .busBytes)) (answered .1)
+          (plan-least (aimOf board zs limit) (change (answered .0)))
 
       pub first : First (aimOf board zs limit) (listOf board zs limit)
       unfolding listOf
-      first = plan-first (aimOf board zs limit) (change (answered .passed))
+      first = plan-first (aimOf board zs limit) (change (answered .0))
 
       pub only : Only (aimOf board zs limit) (listOf board zs limit)
       unfolding listOf
-      only = plan-only (aimOf board zs limit) (change (answered .passed))
+      only = plan-only (aimOf board zs limit) (change (answered .0))
 
     -- a lent plan that is too short is shorter than any plan needs, and with a wide limit than any plan needs then
     pub room : (f : ℕ) → v ≡ refusedAt 10 f → (length plan < mostBytes) × (wideLimit ≤ limit → length plan < wideBytes)

@@ -7,7 +7,7 @@ use Prim.Native.Nat.{ℕ, _^_, _<_}
 use native.Mathlib.Omega.{arith}
 use lib.Dec.{T, eqb, lit<}
 use lib.IntN.{ℤ}
-use Rattle.rounding.proofs.Range.{below}
+use Rattle.bits.proofs.Checks.{agrees, below, map-is}
 use Rattle.bits.specs.Maps.{has}
 use Rattle.refusals.specs.Refusal.{Judged, accepted, refused}
 use Rattle.refusals.specs.Verdict.{Verdict, good, refusedAt, after, faultOf, faultWhere}
@@ -28,7 +28,6 @@ use Rattle.adv7194_settings.proofs.FixedLaws.{none-fixed}
 use Rattle.adv7194_wanted.specs.Parts.{firstPart, secondPart, faultIn}
 use Rattle.adv7194_wanted.proofs.CheckLaws.{signalFault, second-part, check-parts}
 use Rattle.adv7194_planning.specs.Aims.{Passing}
-use Rattle.adv7194_planning.proofs.RegisterMaps.{agree, map-is}
 
 -- ---- the maps, the codes of field 11 being these
 
@@ -40,25 +39,25 @@ abbrev someFixed : List ℕ → ℕ → Bool
 someFixed cs r = not (eqb (fixedMask cs r) 0) && not (allFixed cs r)
 
 -- a map that has below 64 what a test of the fixed bits says has it everywhere
-fixed-is : (m : ℕ) (cs : List ℕ) (test : ℕ → Bool) → test 0 ≡ false → m < 2 ^ 64 → T (below (λ i. agree (has m i) (test (fixedMask cs i))) 64)
+fixed-is : (m : ℕ) (cs : List ℕ) (test : ℕ → Bool) → test 0 ≡ false → m < 2 ^ 64 → T (below 64 (λ i. agrees (has m i) (test (fixedMask cs i))))
     → (i : ℕ) → has m i ≡ test (fixedMask cs i)
 fixed-is m cs test none small same =
     map-is m (λ i. test (fixedMask cs i)) small same (λ i h. ap test (none-fixed cs i (omega arith)) ∙ none)
 
 all-off : (i : ℕ) → has 0xF_FFFF_E001_F020 i ≡ allFixed [] i
-unfolding fixedMask fieldMask zeroMask maskWhere table singles timing output picture dnr
+unfolding below agrees fixedMask fieldMask zeroMask maskWhere table singles timing output picture dnr
 all-off = fixed-is 0xF_FFFF_E001_F020 [] (λ m. eqb m 0xFF) refl (lit< tt) tt
 
 all-sent : (c : ℕ) (cs : List ℕ) (i : ℕ) → has 0xF_FFFF_EE01_F020 i ≡ allFixed (c ∷ cs) i
-unfolding fixedMask fieldMask zeroMask maskWhere table singles timing output picture dnr
+unfolding below agrees fixedMask fieldMask zeroMask maskWhere table singles timing output picture dnr
 all-sent c cs = fixed-is 0xF_FFFF_EE01_F020 (c ∷ cs) (λ m. eqb m 0xFF) refl (lit< tt) tt
 
 some-off : (i : ℕ) → has 0x200_0007 i ≡ someFixed [] i
-unfolding fixedMask fieldMask zeroMask maskWhere table singles timing output picture dnr
+unfolding below agrees fixedMask fieldMask zeroMask maskWhere table singles timing output picture dnr
 some-off = fixed-is 0x200_0007 [] (λ m. not (eqb m 0) && not (eqb m 0xFF)) refl (lit< tt) tt
 
 some-sent : (c : ℕ) (cs : List ℕ) (i : ℕ) → has 0x7 i ≡ someFixed (c ∷ cs) i
-unfolding fixedMask fieldMask zeroMask maskWhere table singles timing output picture dnr
+unfolding below agrees fixedMask fieldMask zeroMask maskWhere table singles timing output picture dnr
 some-sent c cs = fixed-is 0x7 (c ∷ cs) (λ m. not (eqb m 0) && not (eqb m 0xFF)) refl (lit< tt) tt
 
 -- ---- the codes of field 11 of settings that pass the check

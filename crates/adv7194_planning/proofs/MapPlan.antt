@@ -8,7 +8,7 @@ use lib.Dec.{ltb}
 use lib.IntN.{ℤ}
 use lib.ListN.{length}
 use Rattle.bits.specs.Maps.{has}
-use Rattle.bus.specs.Registers.{differs}
+use Rattle.bus.specs.Registers.{differs, among}
 use Rattle.least_cost.specs.Task.{Task, Stop}
 use Rattle.least_cost.proofs.Alike.{plan-alike}
 use Rattle.cutting.specs.Task.{Bounded, Plannable, mapTask, planBy}
@@ -18,7 +18,7 @@ use Rattle.adv7194_settings.specs.Wanted.{wantedBy}
 use Rattle.adv7194_settings.specs.Known.{fixesAll}
 use Rattle.adv7194_least.specs.Aim.{Aim, must, aimOf}
 use Rattle.adv7194_least.specs.Change.{Change}
-use Rattle.adv7194_least.specs.Plan.{among, writable, withWord, may, needed, task, taskFor, byteOf, planOf}
+use Rattle.adv7194_least.specs.Plan.{writable, withWord, may, needed, task, taskFor, byteOf, planOf}
 use Rattle.adv7194_least.proofs.TaskLaws.{need-word, needed-may, may-facts}
 use Rattle.adv7194_least.proofs.Differing.{differs-settable, permits}
 use Rattle.adv7194_least.proofs.Reached.{task-sound}

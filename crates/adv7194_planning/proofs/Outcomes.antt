@@ -1,20 +1,20 @@
 -- What an answer of planning tells: a refusal before the room's, or that all before the room has passed. Assumes nothing.
 use mathlib.Core.Path.{_≡_, refl, sym, ap, _∙_, subst, subst⁻¹}
-use mathlib.Core.Bool.{Bool, true, false, cond, not, _&&_}
-use mathlib.Core.List.{List, [], _∷_}
+use mathlib.Core.Bool.{Bool, true, false, not, _&&_}
+use mathlib.Core.List.{List}
 use Prim.Native.Nat.{ℕ, zero, suc, _+_, _≤_, _<_}
 use native.Mathlib.Omega.{arith}
 use lib.Dec.{T, eqb, ltb}
 use lib.IntN.{ℤ}
 use lib.ListN.{length}
 use borrow.Author.Tests.{eqb-true, eqb-false, ltb-true, ltb-false}
-use Rattle.bits.proofs.FlagLaws.{first, second}
+use Rattle.bits.proofs.FlagLaws.{both-true}
 use Rattle.refusals.specs.Verdict.{Verdict, good, refusedAt}
-use Rattle.refusals.specs.Order.{Place, firstOf}
+use Rattle.refusals.proofs.PlaceLaws.{refused-at}
 use Rattle.packing.specs.Packing.{packed}
 use Rattle.planning.specs.Plan.{Counts, countsOf}
 use Rattle.adv7194_bus.specs.Kind.{registerCount}
-use Rattle.adv7194_bus.specs.Address.{addressRight}
+use Rattle.bus.specs.Address.{addressRight}
 use Rattle.adv7194_bus.specs.Limit.{limitRight}
 use Rattle.adv7194_bus.specs.declared.board.Board.{Board}
 use Rattle.adv7194_table.specs.Fields.{numberCount}
@@ -24,7 +24,7 @@ use Rattle.adv7194_settings.specs.Order.{order}
 use Rattle.adv7194_settings.specs.Rows.{rowHolds, checkOf}
 use Rattle.adv7194_planning.specs.Rows.{listOf}
 use Rattle.adv7194_planning.specs.Planning.{planningOf}
-use Rattle.adv7194_planning.proofs.CaseLaws.{bySettings, allBySettings, order-by-settings, lowestUnfixed, wrong-length, wrong-address, wrong-limit}
+use Rattle.adv7194_planning.proofs.CaseLaws.{bySettings, order-by-settings, lowestUnfixed, wrong-length, wrong-address, wrong-limit}
 use Rattle.adv7194_planning.proofs.CaseLaws.{wrong-count, wrong-settings, passed, wrong-register, wrong-room, no-row}
 
 -- ---- the lowest field that has a register that passes a test
@@ -45,26 +45,11 @@ none-among P e f h l = none-from P 1 28 (omega arith) (sym (lowest-fields P) ∙
 
 -- ---- the settings' rows
 
--- a refusal by some places is one of them
-refused-by : (holds : ℕ → ℕ → Bool) (ps : List Place) (n f : ℕ) → T (allBySettings ps) → firstOf holds ps (tt {0}) ≡ refusedAt n f → T (bySettings n f)
-unfolding firstOf
-refused-by holds [] n f t e = let z : _≡_ {A = ℕ} 0 1 = cc in absurd (omega arith)
-refused-by holds (p ∷ ps) n f t e =
-    by (holds (p .row) (p .field)) e (refused-by holds ps n f (second (bySettings (p .row) (p .field)) (allBySettings ps) t))
-  where
-    by : (b : Bool) → cond b (refusedAt (p .row) (p .field)) (firstOf holds ps (tt {0})) ≡ refusedAt n f
-        → (firstOf holds ps (tt {0}) ≡ refusedAt n f → T (bySettings n f)) → T (bySettings n f)
-    by true e rest =
-        let r : p .row ≡ n = cc in
-        let g : p .field ≡ f = cc in
-        subst (λ (k : ℕ). T (bySettings n k)) g
-        (subst (λ (k : ℕ). T (bySettings k (p .field))) r (first (bySettings (p .row) (p .field)) (allBySettings ps) t))
-    by false e rest = rest e
-
--- the settings' refusals are such
-settings-row : (zs : List ℤ) (n f : ℕ) → checkOf zs ≡ refusedAt n f → T (bySettings n f)
+-- the settings are never refused for the room
+settings-row : (zs : List ℤ) (n f : ℕ) → checkOf zs ≡ refusedAt n f → not (eqb n 10) ≡ true
 unfolding checkOf
-settings-row zs n f e = refused-by (rowHolds zs) order n f order-by-settings e
+settings-row zs n f e =
+    both-true (not (eqb n 10)) (not (eqb n 11) && not (eqb f 0)) (refused-at bySettings (rowHolds zs) order n f order-by-settings e) .0
 
 -- ---- what an answer tells
 
@@ -107,7 +92,7 @@ module _ (board : Board) (zs : List ℤ) (address limit room : ℕ) where
     by-settings (good tt) k = by-register k (eqb (lowestUnfixed board zs) 0) refl
     by-settings (refusedAt n f) k =
         given (wrong-settings board zs address limit room h e l c n f k)
-        (early (first (not (eqb n 10)) (not (eqb n 11) && not (eqb f 0)) (settings-row zs n f k)))
+        (early (subst T (sym (settings-row zs n f k)) tt))
 
   by-count : length (board .registers) ≡ registerCount → addressRight address ≡ true → limitRight limit ≡ true
       → (x : Bool) → eqb (length zs) numberCount ≡ x → Right

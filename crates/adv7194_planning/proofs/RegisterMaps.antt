@@ -1,73 +1,39 @@
--- A map against a test on registers, and the maps of the registers that must and may be written, that are needed, and before which no transaction may end.
+-- The maps of the registers that must and may be written, that are needed, and before which no transaction may end.
 -- Assumes nothing.
 use mathlib.Core.Path.{_≡_, refl, sym, ap, ap₂, _∙_}
 use mathlib.Core.Logic.{inr}
 use mathlib.Core.Bool.{Bool, true, false, cond, not, _&&_, _||_, and-true, and-false, or-true, or-false}
-use Prim.Native.Nat.{ℕ, _^_, _≤_, _<_}
+use Prim.Native.Nat.{ℕ, _^_, _<_}
 use native.Mathlib.Omega.{arith}
 use lib.Bits.{bitAnd, bitOr, and-le-l}
 use lib.Count.{trailingZeros}
-use lib.Dec.{T, ltb, eqb, lit<}
-use borrow.Author.Tests.{ltb-true, ltb-false, le-ltb, eqb-true, ne-eqb}
-use Rattle.rounding.proofs.Range.{below, below-at}
+use lib.Dec.{eqb, lit<}
+use borrow.Author.Tests.{le-ltb, eqb-true, ne-eqb}
 use Rattle.bits.specs.Maps.{has, complement}
 use Rattle.bits.proofs.MapLaws.{least}
-use Rattle.bits.proofs.SetLaws.{has-and, has-or, has-past, has-not, same-map}
+use Rattle.bits.proofs.FlagLaws.{both-true}
+use Rattle.bits.proofs.Checks.{agrees, below, map-is}
+use Rattle.bits.proofs.SetLaws.{has-and, has-or, none-has, has-without, same-map}
 use Rattle.adv7194_bus.specs.Kind.{registerCount}
-use Rattle.adv7194_least.specs.Plan.{among, writable, inWord, wordIn, withWord}
-use Rattle.adv7194_least.proofs.Registers.{both-true, among-true, among-out}
+use Rattle.bus.specs.Registers.{among}
+use Rattle.adv7194_least.specs.Plan.{writable, inWord, wordIn, withWord}
+use Rattle.bus.proofs.RegisterLaws.{among-true, among-out}
 use Rattle.adv7194_least.proofs.TaskLaws.{need-word, must-needed}
-
--- ---- a map against a test on registers
-
--- two tests agree
-abbrev pub agree : Bool → Bool → Bool
-agree true b = b
-agree false b = not b
-
-agrees : (a b : Bool) → T (agree a b) → a ≡ b
-agrees true true t = refl
-agrees true false t = absurd t
-agrees false true t = absurd t
-agrees false false t = refl
-
--- a map has the registers that pass a test, where it does below 64 and none beyond passes
-pub map-is : (m : ℕ) (test : ℕ → Bool) → m < 2 ^ 64 → T (below (λ i. agree (has m i) (test i)) 64) → ((i : ℕ) → 64 ≤ i → test i ≡ false)
-    → (i : ℕ) → has m i ≡ test i
-map-is m test small same past i = split (ltb i 64) refl
-  where
-    split : (b : Bool) → ltb i 64 ≡ b → has m i ≡ test i
-    split true e = agrees (has m i) (test i) (below-at (λ i. agree (has m i) (test i)) 64 same i (ltb-true i 64 e))
-    split false e = let h = ltb-false i 64 e in has-past 64 m i small h ∙ sym (past i h)
 
 -- the word's registers
 abbrev pub wordMap : ℕ
 wordMap = 0xF000
 
 pub word-is : (i : ℕ) → has wordMap i ≡ inWord i
+unfolding below agrees
 word-is = map-is wordMap inWord (lit< tt) tt (λ i h. among-out 0x0c 0x0f i (inr (omega arith)))
 
 -- the registers that a byte may be written to
 writable-is : (i : ℕ) → has 0x2F_FFFF_FFE1_FFFF i ≡ writable i
+unfolding below agrees
 writable-is = map-is 0x2F_FFFF_FFE1_FFFF writable (lit< tt) tt (λ i h. rw (le-ltb i registerCount (omega arith)))
 
--- the empty map has no register
-pub none-has : (i : ℕ) → has 0 i ≡ false
-none-has i = has-past 0 0 i (omega arith) (omega arith)
-
 -- ---- by which registers are known
-
--- in a map and not in another
-pub has-without : (m k i : ℕ) → m < 2 ^ 64 → k < 2 ^ 64 → has (bitAnd m (complement k)) i ≡ (not (has k i) && has m i)
-has-without m k i hm hk = has-and m (complement k) i ∙ split (ltb i 64) refl
-  where
-    turned : (x y : Bool) → (x && not y) ≡ (not y && x)
-    turned true y = sym (and-true (not y))
-    turned false y = sym (and-false (not y))
-
-    split : (b : Bool) → ltb i 64 ≡ b → (has m i && has (complement k) i) ≡ (not (has k i) && has m i)
-    split true e = ap (λ (b : Bool). has m i && b) (has-not 64 k i hk (ltb-true i 64 e)) ∙ turned (has m i) (has k i)
-    split false e = rw (has-past 64 m i hm (ltb-false i 64 e)) (sym (and-false (not (has k i))))
 
 -- not known and fixed only in part
 pub unfixed-has : (partly known : ℕ) → partly < 2 ^ 64 → known < 2 ^ 64
@@ -138,9 +104,11 @@ module _ (d : ℕ) where
 
 -- the word's first register, and the others
 first-is : (i : ℕ) → has 0x1000 i ≡ eqb i 0x0c
+unfolding below agrees
 first-is = map-is 0x1000 (λ i. eqb i 0x0c) (lit< tt) tt (λ i h. ne-eqb i 0x0c (omega arith))
 
 rest-is : (i : ℕ) → has 0xE000 i ≡ among 0x0d 0x0f i
+unfolding below agrees
 rest-is = map-is 0xE000 (among 0x0d 0x0f) (lit< tt) tt (λ i h. among-out 0x0d 0x0f i (inr (omega arith)))
 
 module _ (n : ℕ) where

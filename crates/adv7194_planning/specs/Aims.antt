@@ -8,14 +8,14 @@ use lib.IntN.{ℤ}
 use lib.ListN.{length}
 use Rattle.bits.specs.Maps.{has}
 use Rattle.refusals.specs.Verdict.{good}
-use Rattle.bus.specs.Registers.{differs}
+use Rattle.bus.specs.Registers.{differs, among}
 use Rattle.adv7194_bus.specs.Kind.{registerCount}
 use Rattle.adv7194_bus.specs.declared.board.Board.{Board}
 use Rattle.adv7194_table.specs.Fields.{numberCount}
 use Rattle.adv7194_settings.specs.Rows.{checkOf}
 use Rattle.adv7194_least.specs.Aim.{Aim, must}
 use Rattle.adv7194_least.specs.Change.{settable}
-use Rattle.adv7194_least.specs.Plan.{among, wordIn, may, needed}
+use Rattle.adv7194_least.specs.Plan.{wordIn, may, needed}
 use Rattle.adv7194_planning.specs.declared.registers.RegisterMaps.{RegisterMaps}
 
 -- from a board to a wanted image, the fixed registers being those of a map, with a limit

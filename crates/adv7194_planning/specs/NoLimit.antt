@@ -11,7 +11,7 @@ use Rattle.bus.specs.Transactions.{Transaction}
 use Rattle.packing.specs.Packing.{packed}
 use Rattle.planning.specs.Plan.{Counts, countsOf}
 use Rattle.adv7194_bus.specs.Kind.{registerCount}
-use Rattle.adv7194_bus.specs.Address.{addressRight}
+use Rattle.bus.specs.Address.{addressRight}
 use Rattle.adv7194_bus.specs.Limit.{noLimit}
 use Rattle.adv7194_bus.specs.declared.board.Board.{Board}
 use Rattle.adv7194_table.specs.Fields.{numberCount}

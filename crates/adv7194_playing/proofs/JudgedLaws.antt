@@ -1,16 +1,17 @@
--- The judgement that playing begins with, case by case, and what a refusal answers and leaves. Assumes nothing.
-use mathlib.Core.Path.{_≡_, sym, ap, _∙_}
-use mathlib.Core.Bool.{Bool, true, false, cond}
+-- The judgement that playing begins with: the plan's list by whether it is taken, once image and addresses are right; and what a refusal answers and
+-- leaves. Assumes nothing.
+use mathlib.Core.Path.{_≡_, refl, sym, ap, _∙_}
+use mathlib.Core.Bool.{Bool, true, cond}
 use mathlib.Core.List.{List}
 use Prim.Native.Nat.{ℕ}
 use lib.ListN.{length}
-use borrow.Author.Tests.{eq-eqb, ne-eqb}
 use Rattle.refusals.specs.Refusal.{Judged, accepted, refused}
 use Rattle.bus.specs.Transactions.{Transaction}
 use Rattle.unpacking.specs.Unpacking.{unpack}
+use Rattle.unpacking.proofs.Judging.{judgedIf, by-test, right-so-far}
 use Rattle.adv7194_bus.specs.Kind.{registerCount}
 use Rattle.adv7194_bus.specs.Board.{boardOf}
-use Rattle.adv7194_bus.specs.Address.{addressRight}
+use Rattle.bus.specs.Address.{addressRight}
 use Rattle.adv7194_playing.specs.declared.PlanKind.{PlanKind}
 use Rattle.adv7194_playing.specs.Playing.{takes, judgedAs, judged, acknowledgedBy, boardAfter}
 
@@ -19,37 +20,18 @@ pub refuse : (image : List ℕ) (known used own : ℕ) (j : Judged (List Transac
     → (refused n ≡ acknowledgedBy image used own j) × (boardOf image known ≡ boardAfter (boardOf image known) used own j)
 refuse image known used own j n e = (sym (ap (acknowledgedBy image used own) e), sym (ap (boardAfter (boardOf image known) used own) e))
 
--- what a list that was unpacked is judged as, by whether it is taken
+-- a list that was unpacked is judged by whether it is taken
+pub judged-if : (kind : PlanKind) (j : Judged (List Transaction)) → judgedAs kind j ≡ judgedIf (takes kind) j
+judged-if kind (accepted ts) = refl
+judged-if kind (refused n) = refl
+
 pub by-taken : (kind : PlanKind) {j : Judged (List Transaction)} {ts : List Transaction} {b : Bool} → j ≡ accepted ts → takes kind ts ≡ b
     → judgedAs kind j ≡ cond b (accepted ts) (refused 9)
-by-taken kind {j} {ts} {b} e f = ap (judgedAs kind) e ∙ ap (λ (x : Bool). cond x (accepted ts) (refused 9)) f
+by-taken kind {j} e f = judged-if kind j ∙ by-test (takes kind) e f
 
-module _ (kind : PlanKind) (image : List ℕ) (used own : ℕ) (plan : List ℕ) where
-  -- the image's length
-  pub wrong-length : (length image ≡ registerCount → ⊥) → judged kind image used own plan ≡ refused 1
-  unfolding judged
-  wrong-length h = rw (ne-eqb (length image) registerCount h)
-
-  module _ (h : length image ≡ registerCount) where
-    -- the address used, and the chip's own
-    pub wrong-used : addressRight used ≡ false → judged kind image used own plan ≡ refused 2
-    unfolding judged
-    wrong-used e = rw (eq-eqb (length image) registerCount h, e)
-
-    pub wrong-own : addressRight used ≡ true → addressRight own ≡ false → judged kind image used own plan ≡ refused 2
-    unfolding judged
-    wrong-own e f = rw (eq-eqb (length image) registerCount h, e, f)
-
-    module _ (e : addressRight used ≡ true) (f : addressRight own ≡ true) where
-      -- the plan is left to judge
-      pub right-so-far : judged kind image used own plan ≡ judgedAs kind (unpack plan)
-      unfolding judged
-      right-so-far = rw (eq-eqb (length image) registerCount h, e, f)
-
-      -- its packing, and then whether its list is taken
-      pub wrong-packing : (n : ℕ) → unpack plan ≡ refused n → judged kind image used own plan ≡ refused n
-      wrong-packing n p = right-so-far ∙ ap (judgedAs kind) p
-
-      pub by-list : (ts : List Transaction) (b : Bool) → unpack plan ≡ accepted ts → takes kind ts ≡ b
-          → judged kind image used own plan ≡ cond b (accepted ts) (refused 9)
-      by-list ts b p q = right-so-far ∙ by-taken kind p q
+-- the plan decides, once image and addresses are right
+pub by-list : (kind : PlanKind) (image : List ℕ) (used own : ℕ) (plan : List ℕ) → length image ≡ registerCount → addressRight used ≡ true
+    → addressRight own ≡ true → (ts : List Transaction) (b : Bool) → unpack plan ≡ accepted ts → takes kind ts ≡ b
+    → judged kind image used own plan ≡ cond b (accepted ts) (refused 9)
+unfolding judged
+by-list kind image used own plan h e f ts b p q = right-so-far registerCount image used own (judgedAs kind (unpack plan)) h e f ∙ by-taken kind p q

@@ -1,7 +1,7 @@
 -- What the kinds of plans ask: of a list it is what they ask of each transaction and of how many there are; data that they take are for registers that
 -- the chip keeps, and those of a pair are read from the registers that they were written to. Assumes nothing.
 use mathlib.Core.Path.{_≡_, refl, sym, ap, ap₂, _∙_, subst⁻¹}
-use mathlib.Core.Logic.{_≢_, ⊎-elim}
+use mathlib.Core.Logic.{⊎-elim}
 use mathlib.Core.Bool.{Bool, true, false, not, _&&_, _||_, and-true}
 use mathlib.Core.List.{List, [], _∷_, _++_, append-assoc}
 use Prim.Native.Nat.{ℕ, suc, _+_, _≤_, _<_}
@@ -12,9 +12,11 @@ use lib.ListN.{length, take, drop, getD}
 use lib.Seq.{drop-cons, take-at, drop-at, length-take-le, sets, length-sets, sets-eq}
 use borrow.Author.Tests.{leb-true, lt-ltb, ne-eqb}
 use Rattle.bits.proofs.FlagLaws.{first, second, either}
-use Rattle.bus.specs.Transactions.{Transaction, size, Touches, Every}
-use Rattle.bus.proofs.Acknowledged.{and-assoc}
-use Rattle.adv7194_bus.specs.Kind.{registerCount, readOnly}
+use Rattle.bus.specs.Transactions.{Transaction, size, Every}
+use Rattle.bus.specs.Known.{marks, marksOf}
+use Rattle.bus.proofs.Play.{Kept}
+use Rattle.unpacking.proofs.Writing.{Turns, passes, stateAfter}
+use Rattle.adv7194_bus.specs.Kind.{registerCount, readOnly, adv7194}
 use Rattle.adv7194_bus.specs.Rules.{keepsRules, allKeepRules}
 use Rattle.adv7194_bus.proofs.RuleLaws.{agree}
 use Rattle.adv7194_captions.specs.Characters.{isOdd}
@@ -31,61 +33,45 @@ use Rattle.adv7194_playing.specs.Playing.{takes}
 abbrev pub takesOne : PlanKind → Transaction → Bool
 takesOne kind t = takesHeader kind (t .subaddress) (size t) && takesData kind (t .bytes)
 
--- of each of a list
-unfoldable pub takesEach : PlanKind → List Transaction → Bool
-takesEach kind [] = true
-takesEach kind (t ∷ ts) = takesOne kind t && takesEach kind ts
+-- at its turn, whatever was before it; the registers known go on
+abbrev pub turns : PlanKind → Turns ℕ
+turns kind = record { asks = λ map l t. takesOne kind t; goes = λ map l t. marks map (t .subaddress) (size t) }
 
 -- and of how many there are
 abbrev pub enough : PlanKind → ℕ → Bool
 enough kind n = not (eqb n 0 && needsTransaction kind)
 
 -- the rules of each
-each-settings : (ts : List Transaction) → allKeepRules ts ≡ takesEach Settings ts
-unfolding allKeepRules takesEach
-each-settings [] = refl
-each-settings (t ∷ ts) = ap₂ (λ (x y : Bool). x && y) (sym (and-true (keepsRules (t .subaddress) (size t)))) (each-settings ts)
+each-settings : (ts : List Transaction) (map : ℕ) (l : List ℕ) → allKeepRules ts ≡ passes (turns Settings) map l ts
+unfolding allKeepRules passes
+each-settings [] map l = refl
+each-settings (t ∷ ts) map l =
+    ap₂ (λ (x y : Bool). x && y) (sym (and-true (keepsRules (t .subaddress) (size t))))
+    (each-settings ts (marks map (t .subaddress) (size t)) (sets l (t .subaddress) (t .bytes)))
 
 -- each a pair
-each-captions : (ts : List Transaction) → allPairs ts ≡ takesEach Captions ts
-unfolding allPairs takesEach
-each-captions [] = refl
-each-captions (t ∷ ts) = ap (λ (b : Bool). takesOne Captions t && b) (each-captions ts)
+each-captions : (ts : List Transaction) (map : ℕ) (l : List ℕ) → allPairs ts ≡ passes (turns Captions) map l ts
+unfolding allPairs passes
+each-captions [] map l = refl
+each-captions (t ∷ ts) map l =
+    ap (λ (b : Bool). takesOne Captions t && b) (each-captions ts (marks map (t .subaddress) (size t)) (sets l (t .subaddress) (t .bytes)))
 
 -- what a play call takes
-pub takes-parts : (kind : PlanKind) (ts : List Transaction) → takes kind ts ≡ enough kind (length ts) && takesEach kind ts
-takes-parts Settings ts = go (eqb (length ts) 0)
+pub takes-parts : (kind : PlanKind) (ts : List Transaction) (map : ℕ) (l : List ℕ) → takes kind ts ≡ enough kind (length ts) && passes (turns kind) map l ts
+takes-parts Settings ts map l = go (eqb (length ts) 0)
   where
-    go : (b : Bool) → allKeepRules ts ≡ not (b && false) && takesEach Settings ts
-    go true = each-settings ts
-    go false = each-settings ts
-takes-parts Captions [] = refl
-takes-parts Captions (t ∷ ts) =
-    rw (lt-ltb 0 (length (t ∷ ts)) (omega arith), ne-eqb (length (t ∷ ts)) 0 (λ p. omega arith)) (each-captions (t ∷ ts))
+    go : (b : Bool) → allKeepRules ts ≡ not (b && false) && passes (turns Settings) map l ts
+    go true = each-settings ts map l
+    go false = each-settings ts map l
+takes-parts Captions [] map l = refl
+takes-parts Captions (t ∷ ts) map l =
+    rw (lt-ltb 0 (length (t ∷ ts)) (omega arith), ne-eqb (length (t ∷ ts)) 0 (λ p. omega arith)) (each-captions (t ∷ ts) map l)
 
-module _ (kind : PlanKind) where
-  -- none is taken
-  pub each-none : takesEach kind [] ≡ true
-  unfolding takesEach
-  each-none = refl
-
-  -- one more is asked last
-  pub each-more : (ts : List Transaction) (t : Transaction) → takesEach kind (ts ++ (t ∷ [])) ≡ takesEach kind ts && takesOne kind t
-  unfolding takesEach
-  each-more [] t = and-true (takesOne kind t)
-  each-more (u ∷ ts) t =
-      ap (λ (b : Bool). takesOne kind u && b) (each-more ts t) ∙ and-assoc (takesOne kind u) (takesEach kind ts) (takesOne kind t)
-
-  -- a list that begins with one that isn't taken isn't either
-  pub each-broken : (ts us : List Transaction) → takesEach kind ts ≡ false → takesEach kind (ts ++ us) ≡ false
-  unfolding takesEach
-  each-broken [] us e = absurd (subst⁻¹ T (sym e) tt)
-  each-broken (t ∷ ts) us e = go (takesOne kind t) e (each-broken ts us)
-    where
-      go : (b : Bool) → b && takesEach kind ts ≡ false → (takesEach kind ts ≡ false → takesEach kind (ts ++ us) ≡ false)
-          → b && takesEach kind (ts ++ us) ≡ false
-      go true p f = f p
-      go false p f = refl
+-- the registers known after a list
+pub marks-state : (kind : PlanKind) (ts : List Transaction) (map : ℕ) (l : List ℕ) → stateAfter (turns kind) map l ts ≡ marksOf map ts
+unfolding stateAfter marksOf
+marks-state kind [] map l = refl
+marks-state kind (t ∷ ts) map l = marks-state kind ts (marks map (t .subaddress) (size t)) (sets l (t .subaddress) (t .bytes))
 
 -- ---- a transaction
 
@@ -109,27 +95,29 @@ room Settings subaddress count h e = go (leb (subaddress + count) registerCount)
     go false p = let z : false ≡ true = rw (ne-eqb count 0 (λ q. omega arith), p) at e in absurd (subst⁻¹ T z tt)
 room Captions subaddress count h e = let p = pair-at subaddress count (subst⁻¹ T e tt) in omega (arith, p .0, p .1)
 
--- the data of a transaction are for registers that the chip keeps
-abbrev pub Kept : Transaction → Type 0
-Kept t = (r : ℕ) → Touches t r → (r < registerCount) × (r ≢ readOnly)
+module _ (own : ℕ) where
+  -- data that a kind takes are for registers that the chip keeps
+  one-kept : (kind : PlanKind) (t : Transaction) → T (takesOne kind t) → Kept (adv7194 own) t
+  one-kept Settings t h r m =
+      let k = agree t .0 (first (keepsRules (t .subaddress) (size t)) true h) .inside r m in
+      (k .0, rw (ne-eqb r readOnly (k .1)))
+  one-kept Captions t h r m =
+      let p = pair-at (t .subaddress) (size t) (first (atPair (t .subaddress) (size t)) (allOdd (t .bytes)) h) in
+      (omega (arith, p .0, p .1, m .1), rw (ne-eqb r readOnly (λ z. omega (arith, p .0, p .1, m .1))))
 
--- those that a kind takes are
-one-kept : (kind : PlanKind) (t : Transaction) → T (takesOne kind t) → Kept t
-one-kept Settings t h = agree t .0 (first (keepsRules (t .subaddress) (size t)) true h) .inside
-one-kept Captions t h =
-    let p = pair-at (t .subaddress) (size t) (first (atPair (t .subaddress) (size t)) (allOdd (t .bytes)) h) in
-    λ r m. (omega (arith, p .0, p .1, m .1), λ z. omega (arith, p .0, p .1, m .1))
+  -- and so is each of a list
+  each-kept : (kind : PlanKind) (ts : List Transaction) (map : ℕ) (l : List ℕ) → T (passes (turns kind) map l ts) → Every (Kept (adv7194 own)) ts
+  unfolding passes
+  each-kept kind [] map l h = tt
+  each-kept kind (t ∷ ts) map l h =
+      let map′ = marks map (t .subaddress) (size t) in
+      let l′ = sets l (t .subaddress) (t .bytes) in
+      let rest = passes (turns kind) map′ l′ ts in
+      (one-kept kind t (first (takesOne kind t) rest h), each-kept kind ts map′ l′ (second (takesOne kind t) rest h))
 
--- and so is each of a list
-each-kept : (kind : PlanKind) (ts : List Transaction) → T (takesEach kind ts) → Every Kept ts
-unfolding takesEach
-each-kept kind [] h = tt
-each-kept kind (t ∷ ts) h =
-    (one-kept kind t (first (takesOne kind t) (takesEach kind ts) h), each-kept kind ts (second (takesOne kind t) (takesEach kind ts) h))
-
-pub all-kept : (kind : PlanKind) (ts : List Transaction) → takes kind ts ≡ true → Every Kept ts
-all-kept kind ts e =
-    each-kept kind ts (second (enough kind (length ts)) (takesEach kind ts) (subst⁻¹ T (sym (takes-parts kind ts) ∙ e) tt))
+  pub all-kept : (kind : PlanKind) (ts : List Transaction) → takes kind ts ≡ true → Every (Kept (adv7194 own)) ts
+  all-kept kind ts e =
+      each-kept kind ts 0 [] (second (enough kind (length ts)) (passes (turns kind) 0 [] ts) (subst⁻¹ T (sym (takes-parts kind ts 0 []) ∙ e) tt))
 
 -- ---- data in registers
 

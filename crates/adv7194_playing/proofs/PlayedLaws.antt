@@ -11,24 +11,25 @@ use lib.ListN.{length, getD}
 use Rattle.refusals.specs.Refusal.{accepted}
 use Rattle.bus.specs.Transactions.{Transaction, Touched, Every}
 use Rattle.bus.specs.Chip.{fresh}
-use Rattle.bus.proofs.Play.{touched-or-same}
+use Rattle.bus.proofs.Play.{Kept, touched-or-same}
 use Rattle.bus.proofs.KnownLaws.{touchedBy, touched-agree, has-marks-of}
 use Rattle.unpacking.specs.Unpacking.{unpack}
 use Rattle.adv7194_bus.specs.Kind.{registerCount, adv7194}
 use Rattle.adv7194_bus.specs.declared.board.Board.{Board}
 use Rattle.adv7194_bus.specs.Board.{knows}
-use Rattle.adv7194_bus.specs.Address.{addressRight}
+use Rattle.bus.specs.Address.{addressRight}
 use Rattle.adv7194_playing.specs.declared.PlanKind.{PlanKind}
 use Rattle.adv7194_playing.specs.Playing.{takes, judged, acknowledgedBy, registersAfter, boardAfter, playOf, playedBoard}
-use Rattle.adv7194_playing.specs.Written.{allWritten, boardWritten}
-use Rattle.adv7194_playing.proofs.KindLaws.{Kept, all-kept}
+use Rattle.bus.specs.Written.{allWritten}
+use Rattle.adv7194_playing.specs.Written.{boardWritten}
+use Rattle.adv7194_playing.proofs.KindLaws.{all-kept}
 use Rattle.adv7194_playing.proofs.JudgedLaws.{by-taken, by-list}
 use Rattle.adv7194_playing.proofs.WrittenRun.{own-list}
 
 -- a register that is touched by data for registers that the chip keeps is one of the chip's
-touched-inside : (ts : List Transaction) (r : ℕ) → Every Kept ts → Touched ts r → r < registerCount
-touched-inside [] r h u = absurd u
-touched-inside (t ∷ ts) r h u = ⊎-elim (λ v. h .0 r v .0) (λ v. touched-inside ts r (h .1) v) u
+touched-inside : (own : ℕ) (ts : List Transaction) (r : ℕ) → Every (Kept (adv7194 own)) ts → Touched ts r → r < registerCount
+touched-inside own [] r h u = absurd u
+touched-inside own (t ∷ ts) r h u = ⊎-elim (λ v. h .0 r v .0) (λ v. touched-inside own ts r (h .1) v) u
 
 module _ (kind : PlanKind) (b : Board) (own : ℕ) (plan : List ℕ) (ts : List Transaction) (long : length (b .registers) ≡ registerCount)
     (right : addressRight own ≡ true) (unpacks : unpack plan ≡ accepted ts) (taken : takes kind ts ≡ true) where
@@ -64,5 +65,5 @@ module _ (kind : PlanKind) (b : Board) (own : ℕ) (plan : List ℕ) (ts : List 
   played-past r past = played-knows r ∙ ap (λ (x : Bool). knows b r || x) (none (touchedBy ts r) refl) ∙ or-false (knows b r)
     where
       none : (x : Bool) → touchedBy ts r ≡ x → touchedBy ts r ≡ false
-      none true e = absurd (omega (arith, touched-inside ts r (all-kept kind ts taken) (touched-agree ts r .0 (subst⁻¹ T e tt))))
+      none true e = absurd (omega (arith, touched-inside own ts r (all-kept own kind ts taken) (touched-agree ts r .0 (subst⁻¹ T e tt))))
       none false e = e

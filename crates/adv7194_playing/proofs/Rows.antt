@@ -1,5 +1,5 @@
 -- The judgement by tests is the one that the rows of document 01's table give. Assumes nothing.
-use mathlib.Core.Path.{_≡_, refl, sym, subst, subst⁻¹, _∙_}
+use mathlib.Core.Path.{_≡_, refl, sym, ap, _∙_, subst⁻¹}
 use mathlib.Core.Logic.{_⊎_, inl, inr, ⊎-elim, _↔_}
 use mathlib.Core.Bool.{Bool, true, false, true≢false}
 use mathlib.Core.List.{List}
@@ -12,23 +12,18 @@ use Rattle.bits.proofs.FlagLaws.{holds}
 use Rattle.refusals.specs.Refusal.{Judged, accepted, refused}
 use Rattle.bus.specs.Transactions.{Transaction}
 use Rattle.packing.specs.Packing.{behind}
-use Rattle.unpacking.specs.Unpacking.{Unpacks, packs-none, unpack}
-use Rattle.unpacking.proofs.Exact.{unpacks-packed, in-order, judges as unpacking-judges}
+use Rattle.unpacking.specs.Unpacking.{unpack}
+use Rattle.unpacking.proofs.Exact.{unpacks-packed, in-order, refused-nine}
+use Rattle.unpacking.proofs.Judging.{wrong-length, wrong-used, wrong-own, right-so-far}
 use Rattle.adv7194_bus.specs.Kind.{registerCount}
-use Rattle.adv7194_bus.specs.Address.{AddressFault, addressRight}
-use Rattle.adv7194_bus.proofs.AddressLaws.{no-address-fault, an-address-fault}
+use Rattle.bus.specs.Address.{AddressFault, addressRight}
+use Rattle.bus.proofs.AddressLaws.{no-address-fault, an-address-fault}
 use Rattle.adv7194_bus.proofs.RuleLaws.{agree-all}
 use Rattle.adv7194_captions.proofs.JustThese.{just-these}
 use Rattle.adv7194_playing.specs.declared.PlanKind.{PlanKind}
 use Rattle.adv7194_playing.specs.declared.PlanKind.the-variants.{Settings, Captions}
-use Rattle.adv7194_playing.specs.Playing.{Takes, Judges, image-fault, address-fault, packing-fault, rules-fault, no-fault, takes, judged}
-use Rattle.adv7194_playing.proofs.JudgedLaws.{wrong-length, wrong-used, wrong-own, wrong-packing, by-list}
-
--- ---- the rows
-
--- a packing is refused by 9 and nothing else
-nine : (plan : List ℕ) (n : ℕ) → Unpacks plan (refused n) → _≡_ {A = Judged (List Transaction)} (refused n) (refused 9)
-nine plan n (packs-none f) = refl
+use Rattle.adv7194_playing.specs.Playing.{Takes, Judges, image-fault, address-fault, packing-fault, rules-fault, no-fault, takes, judgedAs, judged}
+use Rattle.adv7194_playing.proofs.JudgedLaws.{by-list}
 
 -- of a list that was unpacked, the test holds exactly where it is one that the play call takes
 test-holds : (kind : PlanKind) (plan : List ℕ) (ts : List Transaction) → unpack plan ≡ accepted ts → (takes kind ts ≡ true) ↔ Takes kind ts
@@ -40,6 +35,10 @@ module _ (kind : PlanKind) (image : List ℕ) (used own : ℕ) (plan : List ℕ)
   abbrev Right : Type 0
   Right = Judges kind image used own plan (judged kind image used own plan)
 
+  -- what is judged last
+  abbrev rest : Judged (List Transaction)
+  rest = judgedAs kind (unpack plan)
+
   -- it is, once the tests have given what a row gives
   given : {j : Judged (List Transaction)} → judged kind image used own plan ≡ j → Judges kind image used own plan j → Right
   given e r = subst⁻¹ (Judges kind image used own plan) e r
@@ -50,26 +49,29 @@ module _ (kind : PlanKind) (image : List ℕ) (used own : ℕ) (plan : List ℕ)
     right = ⊎-elim (no-address-fault used e) (no-address-fault own f)
 
     -- the plan's list decides, then its packing, then the addresses, then the image's length
-    by-test : (ts : List Transaction) → unpack plan ≡ accepted ts → (b : Bool) → takes kind ts ≡ b → Right
-    by-test ts p true q = given (by-list kind image used own plan h e f ts true p q) (no-fault h right p (test-holds kind plan ts p .0 q))
-    by-test ts p false q =
+    by-takes : (ts : List Transaction) → unpack plan ≡ accepted ts → (b : Bool) → takes kind ts ≡ b → Right
+    by-takes ts p true q = given (by-list kind image used own plan h e f ts true p q) (no-fault h right p (test-holds kind plan ts p .0 q))
+    by-takes ts p false q =
         given (by-list kind image used own plan h e f ts false p q)
         (rules-fault h right p (λ k. true≢false (sym (test-holds kind plan ts p .1 k) ∙ q)))
 
     by-packing : (j : Judged (List Transaction)) → unpack plan ≡ j → Right
-    by-packing (accepted ts) p = by-test ts p (takes kind ts) refl
+    unfolding judged
+    by-packing (accepted ts) p = by-takes ts p (takes kind ts) refl
     by-packing (refused n) p =
-        given (wrong-packing kind image used own plan h e f n p ∙ nine plan n (subst (Unpacks plan) p (unpacking-judges behind plan)))
+        given (right-so-far registerCount image used own rest h e f ∙ ap (judgedAs kind) p ∙ ap refused (sym (refused-nine behind plan n p)))
         (packing-fault h right (λ ts q. let z : _≡_ {A = ℕ} 0 1 = cc in omega arith))
 
   by-addresses : length image ≡ registerCount → (x : Bool) → addressRight used ≡ x → (y : Bool) → addressRight own ≡ y → Right
+  unfolding judged
   by-addresses h true e true f = by-packing h e f (unpack plan) refl
-  by-addresses h true e false f = given (wrong-own kind image used own plan h e f) (address-fault h (inr (an-address-fault own f)))
-  by-addresses h false e y f = given (wrong-used kind image used own plan h e) (address-fault h (inl (an-address-fault used e)))
+  by-addresses h true e false f = given (wrong-own registerCount image used own rest h e f) (address-fault h (inr (an-address-fault own f)))
+  by-addresses h false e y f = given (wrong-used registerCount image used own rest h e) (address-fault h (inl (an-address-fault used e)))
 
   by-length : (b : Bool) → eqb (length image) registerCount ≡ b → Right
+  unfolding judged
   by-length true e = by-addresses (eqb-true (length image) registerCount e) (addressRight used) refl (addressRight own) refl
-  by-length false e = let h = eqb-false (length image) registerCount e in given (wrong-length kind image used own plan h) (image-fault h)
+  by-length false e = let h = eqb-false (length image) registerCount e in given (wrong-length registerCount image used own rest h) (image-fault h)
 
   -- the judgement by tests is the one that the rows give
   pub judges : Judges kind image used own plan (judged kind image used own plan)

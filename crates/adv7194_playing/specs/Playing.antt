@@ -17,7 +17,7 @@ use Rattle.unpacking.specs.Unpacking.{unpack}
 use Rattle.adv7194_bus.specs.Kind.{registerCount, adv7194}
 use Rattle.adv7194_bus.specs.declared.board.Board.{Board}
 use Rattle.adv7194_bus.specs.Board.{boardOf}
-use Rattle.adv7194_bus.specs.Address.{AddressFault, addressRight}
+use Rattle.bus.specs.Address.{AddressFault, addressRight}
 use Rattle.adv7194_bus.specs.Rules.{Rules, allKeepRules}
 use Rattle.adv7194_captions.specs.Plans.{Captions as CaptionsOf, areCaptions}
 use Rattle.adv7194_playing.specs.declared.PlanKind.{PlanKind}

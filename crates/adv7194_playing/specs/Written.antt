@@ -1,22 +1,17 @@
 -- Document 01, "The bus and its three rules": data are stored, and the pointer rises by one. Document 02, P5: a stored byte makes its register known. What
 -- a list of transactions that a play call takes leaves of a board.
 use mathlib.Core.Path.{_≡_}
-use mathlib.Core.List.{List, [], _∷_}
+use mathlib.Core.List.{List}
 use Prim.Native.Nat.{ℕ}
 use lib.ListN.{length}
-use lib.Seq.{sets}
 use Rattle.refusals.specs.Refusal.{Judged, accepted, refused, numberOf}
 use Rattle.bus.specs.Transactions.{Transaction}
+use Rattle.bus.specs.Written.{allWritten}
 use Rattle.bus.specs.Known.{marksOf}
 use Rattle.adv7194_bus.specs.declared.board.Board.{Board}
 use Rattle.adv7194_bus.specs.Board.{boardOf}
 use Rattle.adv7194_playing.specs.declared.Walk.{Walk}
 use Rattle.adv7194_playing.specs.declared.Walk.the-variants.{Taken, Refused}
-
--- the registers with the data of every transaction written over them, transaction after transaction
-unfoldable pub allWritten : List ℕ → List Transaction → List ℕ
-allWritten l [] = l
-allWritten l (t ∷ ts) = allWritten (sets l (t .subaddress) (t .bytes)) ts
 
 -- a board with the data written over its registers, which are then known
 abbrev pub boardWritten : Board → List Transaction → Board

@@ -1,29 +1,12 @@
-// What reading answers.
+// The verdict of reading on a board that is known in part.
 ghost use mathlib.Core.Path.{_≡_};
 ghost use Rattle.field_table.specs.Answers.{checkedAs};
 ghost use Rattle.adv7194_settings.specs.Reading.{withUnknown};
-ghost use Rattle.adv7194_reading.specs.Answers.{readAs};
 use field_table::Checked;
 use refusals::Refusal;
 
 // The field of a refusal where none applies.
 pub(crate) const NO_FIELD: u8 = 0;
-
-// The settings are in the lent numbers, or a refusal with its field.
-pub enum Read {
-    Done,
-    Refused { refusal: Refusal, field: u8 },
-}
-
-// A verdict as the answer.
-pub(crate) fn answer(judged: Checked) -> Read
-    ensures answer { λ r. ⌜ readAs r ≡ checkedAs judged ⌝ }
-{
-    match judged {
-        Checked::Good => Read::Done,
-        Checked::Refused { refusal, field } => Read::Refused { refusal, field },
-    }
-}
 
 // The verdict on an image of which a field is the first with an unknown register, 0 where none is: a fault of an earlier field comes first.
 pub(crate) fn with_unknown(judged: Checked, unknown: u8) -> Checked

@@ -2,9 +2,9 @@
 ghost use mathlib.Core.Path.{_≡_};
 ghost use lib.ListN.{length};
 ghost use Rattle.refusals.specs.Order.{Exactly};
+ghost use Rattle.field_table.specs.Answers.{checkedAs};
 ghost use Rattle.adv7194_bus.specs.Board.{boardOf};
 ghost use Rattle.adv7194_settings.specs.Reading.{rowRead, readOrder, readOf, readLeft};
-ghost use Rattle.adv7194_reading.specs.Answers.{readAs};
 
 mod answers;
 mod house;
@@ -13,8 +13,6 @@ mod reading;
 use adv7194_bus::REGISTERS;
 use adv7194_table::lowest_field;
 use answers::NO_FIELD;
-pub use answers::Read;
-use answers::answer;
 use answers::with_unknown;
 use field_table::Checked;
 pub use house::read_house;
@@ -40,19 +38,19 @@ pub(crate) fn copy(from: &[i32], to: &mut [i32])
 
 // The settings of a board, left in the 49 lent numbers; on a refusal these are as they were. The board is an image and the map of its known registers; the
 // byte of a register that is not known means nothing.
-pub fn read(image: &[u8], known: u64, numbers: &mut [i32]) -> Read
-    ensures answer { λ r. ⌜ readAs r ≡ readOf (boardOf (now (image .entry)) known) (length (now (numbers .entry))) ⌝ }
+pub fn read(image: &[u8], known: u64, numbers: &mut [i32]) -> Checked
+    ensures answer { λ r. ⌜ checkedAs r ≡ readOf (boardOf (now (image .entry)) known) (length (now (numbers .entry))) ⌝ }
     ensures memory { λ r. ⌜ now (numbers .exit) ≡ readLeft (boardOf (now (image .entry)) known) (now (numbers .entry)) ⌝ }
-    ensures exactly { λ r. ⌜ Exactly (rowRead (boardOf (now (image .entry)) known) (length (now (numbers .entry)))) readOrder tt (readAs r) ⌝ }
+    ensures exactly { λ r. ⌜ Exactly (rowRead (boardOf (now (image .entry)) known) (length (now (numbers .entry)))) readOrder tt (checkedAs r) ⌝ }
 {
     if image.len() != REGISTERS as usize {
-        return Read::Refused {
+        return Checked::Refused {
             refusal: Refusal::ImageLength,
             field: NO_FIELD,
         };
     }
     if numbers.len() != NUMBERS {
-        return Read::Refused {
+        return Checked::Refused {
             refusal: Refusal::OutOfRange,
             field: NO_FIELD,
         };
@@ -62,8 +60,8 @@ pub fn read(image: &[u8], known: u64, numbers: &mut [i32]) -> Read
     let last = read_last(first, image, &mut held);
     let judged = with_unknown(last, lowest_field(!known));
     let Checked::Good = judged else {
-        return answer(judged);
+        return judged;
     };
     copy(&held, numbers);
-    Read::Done
+    Checked::Good
 }

@@ -17,7 +17,7 @@ use Rattle.least_cost.proofs.Attained.{Right}
 use Rattle.adv7194_least.specs.Aim.{Aim, must}
 use Rattle.adv7194_least.specs.Change.{settable, Change}
 use Rattle.adv7194_least.specs.Plan.{wordIn, taskFor, may, needed, task, byteOf, planOf}
-use Rattle.adv7194_least.proofs.Registers.{among?}
+use Rattle.bus.proofs.RegisterLaws.{among?}
 use Rattle.adv7194_least.proofs.TaskLaws.{need-word, need-other}
 use Rattle.adv7194_least.proofs.Differing.{permits}
 use Rattle.adv7194_least.proofs.Keeping.{right-rules}

@@ -15,7 +15,7 @@ use Rattle.bits.proofs.CoverLaws.{allMasks, SameUnder, same-number}
 use Rattle.bits.proofs.SetLaws.{has-and, has-past, by-bits}
 use Rattle.adv7194_bus.specs.Kind.{registerCount}
 use Rattle.adv7194_bus.specs.declared.board.Board.{Board}
-use Rattle.adv7194_bus.proofs.Checks.{below, at-below}
+use Rattle.bits.proofs.Checks.{below, at-below}
 use Rattle.adv7194_table.specs.Blocks.{signalling}
 use Rattle.adv7194_table.specs.Fields.{timing, output, picture, dnr}
 use Rattle.adv7194_table.specs.Table.{signals, singles, table, orderOf}

@@ -13,7 +13,8 @@ use Rattle.adv7194_bus.specs.Kind.{registerCount}
 use Rattle.adv7194_table.specs.Registers.{someBelow}
 use Rattle.adv7194_table.proofs.RegisterLaws.{same-below, some-of-map}
 use Rattle.adv7194_least.specs.Plan.{inWord}
-use Rattle.adv7194_planning.proofs.RegisterMaps.{wordMap, has-without, in-both}
+use Rattle.bits.proofs.SetLaws.{has-without}
+use Rattle.adv7194_planning.proofs.RegisterMaps.{wordMap, in-both}
 
 -- a test of two numbers is that of the two exchanged
 eqb-turned : (m n : ℕ) → eqb m n ≡ eqb n m

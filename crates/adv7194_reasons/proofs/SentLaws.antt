@@ -6,8 +6,8 @@ use mathlib.Core.List.{List, [], _∷_}
 use Prim.Native.Nat.{ℕ}
 use lib.Dec.{T}
 use borrow.Author.Tests.{le-leb, lt-ltb}
-use Rattle.bus.specs.Transactions.{Transaction, end, Touches, Touched, Every}
-use Rattle.bus.proofs.KnownLaws.{touches, touchedBy, touched-agree}
+use Rattle.bus.specs.Transactions.{Transaction, end, Touches, Touched, Every, touches}
+use Rattle.bus.proofs.KnownLaws.{touchedBy, touched-agree}
 use Rattle.cutting.specs.Spans.{touched}
 use Rattle.adv7194_reasons.specs.Reasons.{joined}
 

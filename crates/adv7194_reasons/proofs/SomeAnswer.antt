@@ -23,7 +23,7 @@ use Rattle.least_cost.proofs.Attained.{Right}
 use Rattle.adv7194_least.specs.Aim.{Aim, must, aimOf}
 use Rattle.adv7194_least.specs.Change.{Image, Change}
 use Rattle.adv7194_least.specs.Plan.{inWord, wordIn, needed, task, byteOf, planOf}
-use Rattle.adv7194_least.proofs.Registers.{among?, among-in}
+use Rattle.bus.proofs.RegisterLaws.{among?, among-in}
 use Rattle.adv7194_least.proofs.TaskLaws.{need-word, need-other}
 use Rattle.adv7194_least.proofs.Reached.{plan-right, plan-rules}
 use Rattle.adv7194_least.proofs.WantedChange.{settings-change}

@@ -9,7 +9,7 @@ use Rattle.refusals.specs.Verdict.{Verdict, good, refusedAt, after}
 use Rattle.refusals.specs.Order.{placesAt, firstOf, Exactly}
 use Rattle.refusals.proofs.OrderLaws.{with-value, exactly}
 use Rattle.adv7194_bus.specs.Kind.{registerCount}
-use Rattle.adv7194_bus.specs.Address.{boardAddress}
+use Rattle.adv7194_bus.specs.Kind.{boardAddress}
 use Rattle.adv7194_bus.specs.declared.board.Board.{Board}
 use Rattle.adv7194_planning.specs.Rows.{rowPlanned}
 use Rattle.adv7194_planning.specs.Checks.{checks}

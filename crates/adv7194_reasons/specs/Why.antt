@@ -8,7 +8,7 @@ use Rattle.refusals.specs.Refusal.{numberOf}
 use Rattle.refusals.specs.Verdict.{Verdict, good, refusedAt}
 use Rattle.refusals.specs.Order.{Place, placesAt, placesOver, firstOf}
 use Rattle.adv7194_bus.specs.declared.board.Board.{Board}
-use Rattle.adv7194_bus.specs.Address.{boardAddress}
+use Rattle.adv7194_bus.specs.Kind.{boardAddress}
 use Rattle.adv7194_table.specs.Table.{table, orderOf}
 use Rattle.adv7194_settings.specs.Order.{order}
 use Rattle.adv7194_least.specs.Aim.{aimOf}

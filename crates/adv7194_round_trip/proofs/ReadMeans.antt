@@ -7,6 +7,7 @@ use Rattle.refusals.specs.Refusal.{accepted}
 use Rattle.refusals.specs.Verdict.{good}
 use Rattle.field_table.specs.Writes.{Write, Each}
 use Rattle.field_table.proofs.ApartLaws.{AllThere, puts-there}
+use Rattle.field_table.proofs.FitLaws.{each-append}
 use Rattle.adv7194_table.specs.Fields.{standard}
 use Rattle.adv7194_table.specs.Blocks.{signalling}
 use Rattle.adv7194_table.specs.Table.{Entry, table}
@@ -23,10 +24,6 @@ use Rattle.adv7194_round_trip.proofs.CodedLaws.{Known, known, Coded, si
 
 -- ---- the writes of some entries, entry by entry
 
-joined : (P : Write → Type 0) (vs ws : List Write) → Each P vs → Each P ws → Each P (vs ++ ws)
-joined P [] ws p q = q
-joined P (v ∷ vs) ws p q = (p .0, joined P vs ws (p .1) q)
-
 divided : (P : Write → Type 0) (vs ws : List Write) → Each P (vs ++ ws) → Each P vs × Each P ws
 divided P [] ws h = (tt, h)
 divided P (v ∷ vs) ws h = let rest = divided P vs ws (h .1) in ((h .0, rest .0), rest .1)
@@ -34,7 +31,7 @@ divided P (v ∷ vs) ws h = let rest = divided P vs ws (h .1) in ((h .0, rest .0
 pub each-write : (P : Write → Type 0) (zs : List ℤ) (es : List Entry) → All (λ e. Each P (entryWrites zs e)) es → Each P (writesOf zs es)
 unfolding writesOf
 each-write P zs [] h = tt
-each-write P zs (e ∷ es) h = joined P (entryWrites zs e) (writesOf zs es) (h .0) (each-write P zs es (h .1))
+each-write P zs (e ∷ es) h = each-append P (entryWrites zs e) (writesOf zs es) (h .0) (each-write P zs es (h .1))
 
 pub each-entry : (P : Write → Type 0) (zs : List ℤ) (es : List Entry) → Each P (writesOf zs es) → All (λ e. Each P (entryWrites zs e)) es
 unfolding writesOf

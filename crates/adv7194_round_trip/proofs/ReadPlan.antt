@@ -13,7 +13,7 @@ use Rattle.bus.specs.Transactions.{Transaction, busBytes}
 use Rattle.packing.specs.Packing.{packed}
 use Rattle.planning.specs.Plan.{countsOf, done}
 use Rattle.adv7194_bus.specs.Kind.{registerCount}
-use Rattle.adv7194_bus.specs.Address.{addressRight}
+use Rattle.bus.specs.Address.{addressRight}
 use Rattle.adv7194_bus.specs.Limit.{limitRight}
 use Rattle.adv7194_bus.specs.declared.board.Board.{Board}
 use Rattle.adv7194_table.specs.Fields.{numberCount, timing, output, picture, dnr}

@@ -17,6 +17,7 @@ use Rattle.field_table.specs.Walk.{given, held, settingIn, codingOf, rowWrite, 
 use Rattle.field_table.specs.Blocks.{is}
 use Rattle.field_table.proofs.ApartLaws.{AllThere}
 use Rattle.field_table.proofs.PlainLaws as plain
+use Rattle.field_table.proofs.FitLaws.{FitsIn}
 use Rattle.adv7194_bus.specs.Kind.{registerCount}
 use Rattle.adv7194_table.specs.Fields.{standard, squarePixel, oversampling, pedestal}
 use Rattle.adv7194_table.specs.Blocks.{signalling}
@@ -26,7 +27,7 @@ use Rattle.adv7194_settings.specs.Codes.{oneCode, codesOf, codesIn}
 use Rattle.adv7194_settings.specs.Wanted.{blockWrites, entryWrites, writesOf, wantedBy}
 use Rattle.adv7194_settings.specs.Held.{settingHeld, bytesIn, settingsHeld}
 use Rattle.adv7194_settings.specs.Rows.{checkOf}
-use Rattle.adv7194_settings.proofs.FitLaws.{FitsIn, inChip, writes-fit, wanted-bytes}
+use Rattle.adv7194_settings.proofs.FitLaws.{inChip, writes-fit, wanted-bytes}
 use Rattle.adv7194_settings.proofs.DemandLaws.{demanded}
 use Rattle.adv7194_round_trip.specs.RoundTrip.{Bytes, ReadsBack}
 use Rattle.adv7194_round_trip.proofs.EntryLaws as entries

@@ -1,15 +1,18 @@
-// The calls of the C interface.
+// The calls of the ADV7194's C interface.
 use crate::context::Context;
 use crate::print;
-use crate::tokens;
-use adv7194_answers::plan_numbers::PlanAnswer;
 use adv7194_answers::play_numbers::PlayAnswer;
 use adv7194_answers::why_numbers::WhyAnswer;
+use answers::plan_numbers::PlanAnswer;
+use records::tokens;
 
 // The most settings of a record, and where they begin.
-const MOST_SETTINGS: usize = 64;
+pub(crate) const MOST_SETTINGS: usize = 64;
 
 const FIRST_SETTING: usize = 2;
+
+// More settings than a record may have.
+const NO_SETTINGS: usize = 65;
 
 // How many numbers a set of settings is.
 const SETTINGS: usize = 49;
@@ -23,7 +26,7 @@ const MOST_CHARACTERS: usize = 8;
 const FIRST_CHARACTER: usize = 2;
 
 // The settings of a record of planning or of why a register is sent, or the numbers of one of captions: those after the first number.
-fn settings(held: [u64; 192]) -> [i32; 64] {
+pub(crate) fn settings(held: [u64; 192]) -> [i32; 64] {
     let mut settings = [0i32; 64];
     let mut i = 0;
     while i < MOST_SETTINGS {
@@ -34,6 +37,14 @@ fn settings(held: [u64; 192]) -> [i32; 64] {
     settings
 }
 
+// How many settings a record with so many tokens before its lists has; `NO_SETTINGS` where it lacks the number before them.
+pub(crate) fn setting_count(numbers: usize) -> usize {
+    if numbers < FIRST_SETTING {
+        return NO_SETTINGS;
+    }
+    numbers - FIRST_SETTING
+}
+
 // Planning: the word and numbers, the image, the known registers and the limit, and the lent plan.
 pub(crate) fn plan(
     held: [u64; 192],
@@ -42,10 +53,7 @@ pub(crate) fn plan(
     context: Context,
     plan: &mut [u8],
 ) -> bool {
-    if numbers < 2 {
-        return false;
-    }
-    let count = numbers - 2;
+    let count = setting_count(numbers);
     if MOST_SETTINGS < count {
         return false;
     }
@@ -64,7 +72,7 @@ pub(crate) fn plan(
 }
 
 // What planning answers.
-fn planned(answer: PlanAnswer) {
+pub(crate) fn planned(answer: PlanAnswer) {
     print::verdict(answer.refusal, answer.field);
     print::decimal(answer.length);
     print::decimal(answer.transactions);
@@ -73,10 +81,7 @@ fn planned(answer: PlanAnswer) {
 
 // Why a register is sent: the word, the register and the settings, and the image.
 pub(crate) fn why(held: [u64; 192], numbers: usize, image: &[u8], context: Context) -> bool {
-    if numbers < 2 {
-        return false;
-    }
-    let count = numbers - 2;
+    let count = setting_count(numbers);
     if MOST_SETTINGS < count {
         return false;
     }

@@ -1,8 +1,6 @@
 // The chip at bus events.
 use crate::context::Context;
 use crate::print;
-use crate::tokens::BYTE;
-use crate::tokens::Tokens;
 use adv7194_bus::board::known_after;
 use adv7194_bus::image::copied;
 use bus::chip;
@@ -10,6 +8,8 @@ use bus::chip::Acknowledge;
 use bus::chip::Event;
 use bus::chip::Phase;
 use bus::chip::State;
+use records::tokens::BYTE;
+use records::tokens::Tokens;
 
 // How many registers the chip has.
 const REGISTERS: usize = adv7194_bus::REGISTERS as usize;

@@ -3,12 +3,12 @@ ghost use lib.Dec.{T};
 ghost use Rattle.field_table.specs.Rows.{rowOf};
 ghost use Rattle.field_table.specs.Walk.{rowFits};
 use crate::print;
-use crate::tokens;
-use crate::tokens::BYTE;
 use adv7194_table::rows;
 use field_table::row::Coded;
 use field_table::row::Decoded;
 use field_table::row::row_of;
+use records::tokens;
+use records::tokens::BYTE;
 
 // The last field that is set by one number, and the one before it that is not.
 const LAST_FIELD: u64 = 25;

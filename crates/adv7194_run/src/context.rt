@@ -1,8 +1,8 @@
 // What a record gives to those after it: which registers are known, and the limit on the data of a transaction.
-use crate::tokens;
-use crate::tokens::Tokens;
 use adv7194_bus::NO_LIMIT;
 use adv7194_bus::board::ALL_KNOWN;
+use records::tokens;
+use records::tokens::Tokens;
 
 // The characters of the words.
 const KNOWN: u64 = 0x6B_6E6F_776E;

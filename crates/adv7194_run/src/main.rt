@@ -15,25 +15,27 @@
 //                                           N one read and not acknowledged. For each the byte that the master reads with + acknowledged, - not
 //                                           acknowledged, . not asked; then the pointer, the phase (I idle, A awaits the address, S the subaddress,
 //                                           D data, T sends) and the image
+//   plan7195 ADDRESS SETTINGS..:IMAGE..;LENT..  planning for the ADV7195: answered as plan is
+//   play7195 USED OWN:IMAGE..;PLAN..        playing a plan of the ADV7195's: answered as play is
+//   read7195:IMAGE..                        reading an image of the ADV7195's: the 58 settings
 //   known:FLAGS..                           which registers are known in the records after it: eight bytes, the highest first, bit r for register r; all
 //                                           are where no line says so
 //   limit N                                 the most data bytes in one transaction, for the records of planning after it: 54 where no line says so
 //   code FIELD SETTING, setting FIELD:CODE  the code of a field's setting, the setting of its code
 //
 // What is answered stands after `ok`; a refusal is `REFUSED number field`. Where a line gave flags, `play`, `playcap` and `events` end in `known` and
-// the flags after the call, eight bytes likewise. A line that is no record is answered `NOT A RECORD`, an empty line and a
-// comment, which begins with #, by an empty line.
-mod answers;
+// the flags after the call, eight bytes likewise; flags and limits don't touch the ADV7195's records. A line that is no record is answered
+// `NOT A RECORD`, an empty line and a comment, which begins with #, by an empty line.
 mod calls;
 mod chip;
 mod codings;
 mod context;
-mod lines;
+mod kinds;
 mod print;
-mod tokens;
+mod progressive;
 
 use context::initial;
-use lines::read_line;
+use records::lines::read_line;
 
 // Room for a line and its end.
 const LINE_WIDTH: usize = 1024;
@@ -48,7 +50,7 @@ fn main() {
         if n == 0 {
             return;
         }
-        context = answers::answer(&line[0..n - 1], context);
+        context = kinds::answer(&line[0..n - 1], context);
         turns -= 1;
     }
 }

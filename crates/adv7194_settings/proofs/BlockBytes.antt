@@ -2,11 +2,12 @@
 use mathlib.Core.Path.{_≡_, refl, sym, subst}
 use mathlib.Core.Logic.{_⊎_, inl, inr}
 use mathlib.Core.List.{List, [], _∷_}
-use Prim.Native.Nat.{ℕ, zero, suc, _^_, _≤_, _<_}
+use Prim.Native.Nat.{ℕ, zero, suc, _≤_, _<_}
 use native.Mathlib.Omega.{arith}
 use lib.IntN.{ℤ}
-use lib.ListN.{length, getD}
+use lib.ListN.{length}
 use Rattle.refusals.specs.Refusal.{Judged, accepted, refused}
+use Rattle.field_table.proofs.FitLaws.{Bytes}
 use Rattle.adv7194_subcarrier.specs.Subcarrier.{wordCodes}
 use Rattle.adv7194_subcarrier.proofs.ByteLaws.{codes-small, codes-four}
 use Rattle.adv7194_gamma.specs.Curve.{curveCodes}
@@ -14,10 +15,6 @@ use Rattle.adv7194_gamma.proofs.SettingLaws.{curve-seven}
 use Rattle.adv7194_signalling.specs.Signalling.{signallingCodes}
 use Rattle.adv7194_signalling.proofs.SettingLaws.{Three, coded-bytes}
 use Rattle.adv7194_settings.specs.Codes.{codesIn}
-
--- every number of a list is a byte
-abbrev pub Bytes : List ℕ → Type 0
-Bytes l = (i : ℕ) → getD l i 0 < 2 ^ 8
 
 -- bytes that fill no more than n registers
 pub record Filling (n : ℕ) (cs : List ℕ) : Type 0 where

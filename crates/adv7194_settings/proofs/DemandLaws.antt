@@ -3,26 +3,25 @@ use mathlib.Core.Path.{_≡_, refl, sym, ap, _∙_, subst}
 use mathlib.Core.Logic.{⊎-elim}
 use mathlib.Core.Bool.{Bool, true, false, cond, not, _&&_, _||_}
 use mathlib.Core.List.{List, [], _∷_, _++_}
-use Prim.Native.Nat.{ℕ, _+_, _-_, _%_, _^_, _≤_, _<_}
-use native.Mathlib.Nat.{zero-div}
+use Prim.Native.Nat.{ℕ, _+_, _-_, _%_, _^_, _<_}
 use native.Mathlib.Omega.{arith}
-use lib.Dec.{T, eqb, leb, ltb, eqb→eq, leb→le}
+use lib.Dec.{T, eqb, leb, ltb, leb→le}
 use lib.IntN.{ℤ}
 use lib.ListN.{length, getD}
 use borrow.Author.Tests.{eq-eqb}
 use Rattle.bits.specs.Fields.{field, bit}
-use Rattle.bits.proofs.FieldLaws.{bit-inside, write-back}
 use Rattle.bits.proofs.FlagLaws.{first, second, either}
 use Rattle.rounding.proofs.Range.{below, below-at, imp, imp→}
-use Rattle.refusals.specs.Refusal.{accepted, refused, codeIn}
+use Rattle.refusals.specs.Refusal.{codeIn}
 use Rattle.field_table.specs.Rows.{rowOf}
-use Rattle.field_table.specs.Coding.{Field, outside, codeBy, codeOf, encode, plainOf}
-use Rattle.field_table.specs.Writes.{Write, puts, sets, bitAfter, held, Each, AllHeld}
+use Rattle.field_table.specs.Coding.{Field, encode, plainOf}
+use Rattle.field_table.specs.Writes.{Write, puts, sets, held, Each, AllHeld}
 use Rattle.field_table.specs.Walk.{given, rowWrite, writeOf}
 use Rattle.field_table.proofs.WriteLaws.{AllFit, puts-length, puts-bit}
 use Rattle.field_table.proofs.ApartLaws.{puts-held}
-use Rattle.field_table.proofs.Judging.{in-range}
 use Rattle.field_table.proofs.RoundTripLaws.{All}
+use Rattle.field_table.proofs.FitLaws.{each-append, untouched}
+use Rattle.field_table.proofs.MaskLaws.{zero-code, bit-zero}
 use Rattle.adv7194_bus.specs.Kind.{registerCount}
 use Rattle.adv7194_table.specs.declared.blocks.Block.{Block}
 use Rattle.adv7194_table.specs.Blocks.{signalling}
@@ -32,7 +31,7 @@ use Rattle.adv7194_table.specs.Masks.{inBlock, maskWhere, fieldMask, zeroMask}
 use Rattle.adv7194_settings.specs.Codes.{blockCodes, codesIn}
 use Rattle.adv7194_settings.specs.Wanted.{offWrite, signalWrites, entryWrites, writesOf, wantedBy}
 use Rattle.adv7194_settings.specs.Demand.{fixedMask, Demanded}
-use Rattle.adv7194_settings.proofs.FitLaws.{all-fit, is-number, each-append}
+use Rattle.adv7194_settings.proofs.FitLaws.{all-fit, is-number}
 use Rattle.adv7194_settings.proofs.EntryLaws.{ownTest, entry-inside, entriesApart, writes-apart}
 
 -- a test at every bit of every register
@@ -43,15 +42,6 @@ at-bit : (P : ℕ → ℕ → Bool) → T (everyBit P) → (r i : ℕ) → r < r
 at-bit P t r i hr hi = below-at (λ i. P r i) 8 (below-at (λ r. below (λ i. P r i) 8) registerCount t r hr) i hi
 
 -- ---- bits that no write sets
-
-untouched : (found : ℕ) (ws : List Write) (r i : ℕ) → Each (λ w. T (not (sets w r i))) ws → bitAfter found ws r i ≡ found
-unfolding bitAfter
-untouched found [] r i h = refl
-untouched found (w ∷ ws) r i h = by (sets w r i) (h .0) (untouched found ws r i (h .1))
-  where
-    by : (b : Bool) → T (not b) → bitAfter found ws r i ≡ found → bitAfter (cond b (bit (i - w .place) (w .value)) found) ws r i ≡ found
-    by true t e = absurd t
-    by false t e = e
 
 -- field 11 leaves a bit, its codes being these
 abbrev signalsFree : List ℕ → Block → ℕ → ℕ → Bool
@@ -149,15 +139,6 @@ each-single Q zs [] h = tt
 each-single Q zs (single f ∷ es) h = (h .0, each-single Q zs es (h .1))
 each-single Q zs (whole c b ∷ es) h = each-single Q zs es (each-rest Q (entryWrites zs (whole c b)) (writesOf zs es) h)
 
--- a code is 0 where that of every setting in the range is: a refusal stands for 0
-code-zero : (f : Field) → ((z : ℤ) → outside (f .row) z ≡ false → codeOf f z ≡ 0) → (z : ℤ) → codeIn (encode f z) ≡ 0
-unfolding encode
-code-zero f h z = by (outside (f .row) z) _ refl
-  where
-    by : (b : Bool) (n : ℕ) → outside (f .row) z ≡ b → codeIn (cond b (refused n) (accepted (codeOf f z))) ≡ 0
-    by true n e = refl
-    by false n e = h z e
-
 -- must-be-zero bits: the rows of 21 and of 22
 abbrev brightnessZero : Field
 brightnessZero = plainOf (rowOf 0x10_FF_21_71_000_000_04)
@@ -167,20 +148,10 @@ sharpnessZero = plainOf (rowOf 0x11_FF_22_44_000_000_04)
 
 -- their code is 0
 brightness-zero : (z : ℤ) → codeIn (encode brightnessZero z) ≡ 0
-unfolding codeBy
-brightness-zero =
-    code-zero brightnessZero (λ z o. eqb→eq (codeOf brightnessZero z) 0 (in-range 0 0 (λ s. eqb (codeOf brightnessZero s) 0) tt z o))
+brightness-zero = zero-code (brightnessZero .row) tt tt
 
 sharpness-zero : (z : ℤ) → codeIn (encode sharpnessZero z) ≡ 0
-unfolding codeBy
-sharpness-zero =
-    code-zero sharpnessZero (λ z o. eqb→eq (codeOf sharpnessZero z) 0 (in-range 0 0 (λ s. eqb (codeOf sharpnessZero s) 0) tt z o))
-
--- a bit of a field that holds 0
-bit-zero : (k j b i : ℕ) → field k j b ≡ 0 → k ≤ i → i < k + j → bit i b ≡ 0
-bit-zero k j b i e l h =
-    ap (bit i) (sym (write-back k j b)) ∙ bit-inside k j b (field k j b) i l h ∙ ap (bit (i - k)) e
-    ∙ ap (λ (n : ℕ). n % 2 ^ 1) (zero-div (2 ^ (i - k)))
+sharpness-zero = zero-code (sharpnessZero .row) tt tt
 
 -- where the bits are: a test over the table
 abbrev in21 : ℕ → ℕ → Bool

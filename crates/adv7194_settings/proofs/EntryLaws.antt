@@ -13,12 +13,13 @@ use Rattle.field_table.specs.Writes.{Write, Each}
 use Rattle.field_table.specs.Walk.{rowWrite}
 use Rattle.field_table.specs.Blocks.{byteWrites}
 use Rattle.field_table.proofs.ApartLaws.{apart, apartFrom, allApart}
+use Rattle.field_table.proofs.FitLaws.{FitsIn, each-append}
 use Rattle.adv7194_table.specs.declared.blocks.Block.{Block}
 use Rattle.adv7194_table.specs.Table.{Content, signals, curve, subcarrier, Entry, single, whole}
 use Rattle.adv7194_table.specs.Masks.{inBlock}
 use Rattle.adv7194_settings.specs.Codes.{blockCodes, codesIn}
 use Rattle.adv7194_settings.specs.Wanted.{blockWrites, entryWrites, writesOf}
-use Rattle.adv7194_settings.proofs.FitLaws.{FitsIn, allFrom, contentTest, block-fills, block-fits, each-append}
+use Rattle.adv7194_settings.proofs.FitLaws.{allFrom, contentTest, block-fills, block-fits}
 
 -- ---- an entry's own bits
 

@@ -1,18 +1,14 @@
 -- Whatever the settings, every value that they set fits its bits, these are bits of a register of the table, and the wanted image is bytes where the
 -- starting image is. Assumes nothing.
 use mathlib.Core.Path.{_≡_, refl, ap, _∙_}
-use mathlib.Core.Bool.{Bool, true, false, _&&_}
-use mathlib.Core.Logic.{inl}
-use mathlib.Core.List.{List, [], _∷_, _++_}
-use Prim.Native.Nat.{ℕ, zero, suc, _+_, _^_, _≤_, _<_}
+use mathlib.Core.Bool.{Bool, true, _&&_}
+use mathlib.Core.List.{List, [], _∷_}
+use Prim.Native.Nat.{ℕ, zero, suc, _+_, _<_}
 use native.Mathlib.Omega.{arith}
 use lib.Dec.{T, eqb, leb, ltb, leb→le, ltb→lt}
 use lib.IntN.{ℤ}
-use lib.ListN.{length, getD, set, length-set, List·getD-eq-default}
-use lib.Seq.{getD-set-same, getD-set-other}
-use borrow.Author.Tests.{eqb-true, eqb-false, ltb-true, ltb-false}
-use Rattle.bits.specs.Fields.{withField}
-use Rattle.bits.proofs.FieldLaws.{with-lt}
+use lib.ListN.{length, set}
+use borrow.Author.Tests.{eqb-true}
 use Rattle.bits.proofs.FlagLaws.{first, second, holds}
 use Rattle.field_table.specs.Coding.{Field}
 use Rattle.field_table.specs.Writes.{Write, put, puts, Each}
@@ -20,6 +16,8 @@ use Rattle.field_table.specs.Walk.{given, bitsFit}
 use Rattle.field_table.specs.Blocks.{numbersFrom, byteWrites}
 use Rattle.field_table.proofs.WriteLaws.{AllFit, puts-length}
 use Rattle.field_table.proofs.RoundTripLaws.{All, CodesFit}
+use Rattle.field_table.proofs.FitLaws as fit
+use Rattle.field_table.proofs.FitLaws.{FitsIn, each-append, Bytes, puts-bytes}
 use Rattle.adv7194_bus.specs.Kind.{registerCount}
 use Rattle.adv7194_table.specs.declared.blocks.Block.{Block}
 use Rattle.adv7194_table.specs.Fields.{standard, squarePixel, timing, output, picture, dnr}
@@ -27,20 +25,7 @@ use Rattle.adv7194_table.specs.Table.{Content, signals, curve, subcarrier, Entr
 use Rattle.adv7194_codes.proofs.FitLaws.{codes-fit}
 use Rattle.adv7194_settings.specs.Codes.{numbersIn, blockCodes, codesIn}
 use Rattle.adv7194_settings.specs.Wanted.{blockWrites, writesOf, wantedBy}
-use Rattle.adv7194_settings.proofs.BlockBytes.{Bytes, Filling, curve-fills, signalling-fills, word-fills}
-
--- ---- writes
-
--- a write is to a register that passes a test, its bits are bits of a byte, and its value fits them
-pub record FitsIn (P : ℕ → Bool) (w : Write) : Type 0 where
-  pub passes : T (P (w .register))
-  pub inside : w .place + w .width ≤ 8
-  pub fits : w .value < 2 ^ w .width
-
--- what holds of each of some writes and of each of others
-pub each-append : (Q : Write → Type 0) (vs ws : List Write) → Each Q vs → Each Q ws → Each Q (vs ++ ws)
-each-append Q [] ws p q = q
-each-append Q (v ∷ vs) ws p q = (p .0, each-append Q vs ws (p .1) q)
+use Rattle.adv7194_settings.proofs.BlockBytes.{Filling, curve-fills, signalling-fills, word-fills}
 
 -- each of n registers from r on passes a test
 abbrev pub allFrom : (ℕ → Bool) → ℕ → ℕ → Bool
@@ -62,7 +47,7 @@ bytes-fit P r (suc n) (c ∷ cs) t f = let s = f .size in (
   bytes-fit P (suc r) n cs (second (P r) (allFrom P (suc r) n) t) (record { size = omega arith; bytes = λ i. f .bytes (suc i) }),
 )
 
--- ---- those of the table
+-- ---- writes of the table
 
 -- a block has the registers and the numbers that its content wants
 abbrev pub contentTest : Content → Block → Bool
@@ -151,36 +136,9 @@ writes-fit zs = settings-fit inChip table-inside zs
 
 -- the same as the laws of writes have it
 pub all-fit : (zs : List ℤ) → AllFit registerCount (writesOf zs table)
-all-fit zs = by (writesOf zs table) (writes-fit zs)
-  where
-    by : (ws : List Write) → Each (FitsIn inChip) ws → AllFit registerCount ws
-    by [] f = tt
-    by (w ∷ ws) f = ((ltb→lt (w .register) registerCount (f .0 .passes), inl (f .0 .fits)), by ws (f .1))
+all-fit zs = fit.all-fit inChip registerCount (λ r t. ltb→lt r registerCount t) (writesOf zs table) (writes-fit zs)
 
 -- ---- the wanted image
-
--- bytes with one more byte among them
-pub set-bytes : (l : List ℕ) (r v : ℕ) → Bytes l → v < 2 ^ 8 → Bytes (set l r v)
-set-bytes l r v b h i = split (eqb i r) refl (ltb r (length l)) refl
-  where
-    split : (x : Bool) → eqb i r ≡ x → (y : Bool) → ltb r (length l) ≡ y → getD (set l r v) i 0 < 2 ^ 8
-    split false e y f = rw (getD-set-other l r i v 0 (eqb-false i r e)) (b i)
-    split true e true f = rw (eqb-true i r e) (rw (getD-set-same l r v 0 (ltb-true r (length l) f)) h)
-    split true e false f =
-        let n = length-set l r v in
-        let d = ltb-false r (length l) f in
-        let p = eqb-true i r e in
-        let q : length (set l r v) ≤ i = omega arith in
-        rw (List·getD-eq-default (set l r v) 0 q) (omega arith)
-
--- bytes after such writes are bytes
-puts-bytes : (P : ℕ → Bool) (ws : List Write) (l : List ℕ) → Each (FitsIn P) ws → Bytes l → Bytes (puts l ws)
-unfolding puts
-puts-bytes P [] l f b = b
-puts-bytes P (w ∷ ws) l f b =
-    puts-bytes P ws (put l w) (f .1)
-    (set-bytes l (w .register) (withField (w .place) (w .width) (getD l (w .register) 0) (w .value)) b
-    (with-lt 8 (w .place) (w .width) (getD l (w .register) 0) (w .value) (b (w .register)) (f .0 .inside) (f .0 .fits)))
 
 -- the wanted image is bytes where the starting image is
 pub wanted-bytes : (image : List ℕ) (zs : List ℤ) → Bytes image → Bytes (wantedBy image zs)

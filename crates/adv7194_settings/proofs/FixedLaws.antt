@@ -27,7 +27,7 @@ use Rattle.adv7194_settings.specs.Codes.{blockCodes, codesIn}
 use Rattle.adv7194_settings.specs.Wanted.{wantedBy}
 use Rattle.adv7194_settings.specs.Demand.{fixedMask}
 use Rattle.adv7194_settings.specs.Known.{fixedBits, fixesSome, unknown, partlyFixed}
-use Rattle.adv7194_settings.proofs.BlockBytes.{Bytes}
+use Rattle.field_table.proofs.FitLaws.{Bytes}
 use Rattle.adv7194_settings.proofs.FitLaws.{wanted-bytes}
 use Rattle.adv7194_settings.proofs.DemandLaws.{demanded}
 

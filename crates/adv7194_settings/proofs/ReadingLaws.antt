@@ -17,7 +17,7 @@ use Rattle.refusals.proofs.OrderLaws.{first-append}
 use Rattle.adv7194_bus.specs.Kind.{registerCount}
 use Rattle.adv7194_bus.specs.declared.board.Board.{Board}
 use Rattle.adv7194_bus.specs.Board.{boardOf, allKnown}
-use Rattle.adv7194_bus.proofs.Checks.{below, at-below}
+use Rattle.bits.proofs.Checks.{below, at-below}
 use Rattle.adv7194_table.specs.Fields.{numberCount}
 use Rattle.adv7194_table.specs.Blocks.{signalling}
 use Rattle.adv7194_table.specs.Table.{table, orderOf}

@@ -12,12 +12,13 @@ use borrow.Author.Tests.{lt-leb, le-leb, lt-ltb, le-ltb, eq-eqb, ne-eqb}
 use Rattle.field_table.specs.declared.row.Row.{Row}
 use Rattle.field_table.specs.Rows.{rowOf}
 use Rattle.adv7194_bus.specs.Kind.{registerCount, readOnly}
-use Rattle.adv7194_bus.proofs.Checks.{below, at-below}
+use Rattle.bits.proofs.Checks.{below, at-below}
 use Rattle.adv7194_table.specs.declared.blocks.Block.{Block}
 use Rattle.adv7194_table.specs.Fields.{timing, output, picture, dnr}
 use Rattle.adv7194_table.specs.Blocks.{blockOf, blocksOf}
 use Rattle.adv7194_table.specs.Table.{Entry, single, whole, singles, table, fieldOf, mustBeZero, singleFields, blocksIn, rowsIn, rowsOf}
-use Rattle.adv7194_table.specs.Masks.{inBlock, rowBits, blockBits, bitsOf, maskWhere, fieldMask, zeroMask, ownMask, rowsMask, blocksMask, each, fieldMasks, zeroMasks}
+use Rattle.field_table.specs.Masks.{rowBits}
+use Rattle.adv7194_table.specs.Masks.{inBlock, blockBits, bitsOf, maskWhere, fieldMask, zeroMask, ownMask, rowsMask, blocksMask, each, fieldMasks, zeroMasks}
 
 -- ---- the bits of a field, by rows and blocks
 

@@ -18,7 +18,7 @@ use Rattle.bits.proofs.FlagLaws.{either}
 use Rattle.bits.proofs.MapLaws.{least}
 use Rattle.bits.proofs.SetLaws.{has-and, has-in, has-mod, has-past}
 use Rattle.adv7194_bus.specs.Kind.{registerCount}
-use Rattle.adv7194_bus.proofs.Checks.{below, at-below}
+use Rattle.bits.proofs.Checks.{below, at-below}
 use Rattle.adv7194_table.specs.Fields.{timing, output, picture, dnr}
 use Rattle.adv7194_table.specs.Table.{singles, table, orderOf}
 use Rattle.adv7194_table.specs.Masks.{maskWhere, ownMask, each}

@@ -9,7 +9,7 @@ use lib.Dec.{T, eqb, ltb, ltb→lt, eqb→eq}
 use borrow.Author.Tests.{ne-eqb, ltb-true, ltb-false}
 use Rattle.bits.proofs.FlagLaws.{first, second}
 use Rattle.adv7194_bus.specs.Kind.{registerCount}
-use Rattle.adv7194_bus.proofs.Checks.{below, at-below}
+use Rattle.bits.proofs.Checks.{below, at-below}
 use Rattle.adv7194_table.specs.Fields.{timing, output, picture, dnr}
 use Rattle.adv7194_table.specs.Table.{Entry, singles, table, fieldOf, mustBeZero}
 use Rattle.adv7194_table.specs.Masks.{maskWhere, fieldMask, ownMask, settingMask}

@@ -1,9 +1,10 @@
 -- Document 01, fields table: the bits of each register that belong to a field, and "Must-be-zero bits: bit 7 of 21, bits 7-4 of 22".
 use mathlib.Core.Bool.{Bool, not, cond, _&&_}
 use mathlib.Core.List.{List, [], _∷_}
-use Prim.Native.Nat.{ℕ, zero, suc, _+_, _-_, _*_, _^_}
+use Prim.Native.Nat.{ℕ, zero, suc, _+_, _-_}
 use lib.Dec.{eqb, leb, ltb}
 use Rattle.field_table.specs.declared.row.Row.{Row}
+use Rattle.field_table.specs.Masks.{rowBits}
 use Rattle.adv7194_bus.specs.Kind.{registerCount}
 use Rattle.adv7194_table.specs.declared.blocks.Block.{Block}
 use Rattle.adv7194_table.specs.Table.{Entry, single, whole, table, fieldOf, mustBeZero}
@@ -11,10 +12,6 @@ use Rattle.adv7194_table.specs.Table.{Entry, single, whole, table, field
 -- register r is one of a block's
 abbrev pub inBlock : Block → ℕ → Bool
 inBlock b r = leb (b .register) r && ltb r (b .register + b .registers)
-
--- the bits of register r that a row has
-abbrev pub rowBits : Row → ℕ → ℕ
-rowBits row r = cond (eqb (row .register) r) ((2 ^ row .width - 1) * 2 ^ row .bit) 0
 
 -- the bits of register r that a block has
 abbrev pub blockBits : Block → ℕ → ℕ

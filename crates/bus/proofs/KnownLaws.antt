@@ -19,7 +19,7 @@ use Rattle.bus.specs.declared.chip.Phase.{Phase}
 use Rattle.bus.specs.declared.chip.Phase.the-variants.{Idle, AwaitAddress, AwaitSubaddress, AwaitData, Sending}
 use Rattle.bus.specs.declared.chip.Event.{Event}
 use Rattle.bus.specs.declared.chip.Event.the-variants.{FromMaster}
-use Rattle.bus.specs.Transactions.{Transaction, size, end, Touches, Touched, Every}
+use Rattle.bus.specs.Transactions.{Transaction, size, end, Touches, Touched, Every, touches}
 use Rattle.bus.specs.Chip.{Kind, Chip, store, fromMaster, step}
 use Rattle.bus.specs.Run.{run, dataEvents, transactionEvents, listEvents}
 use Rattle.bus.specs.Known.{mark, marks, marksOf, stored, knownBy, knownAfter}
@@ -76,10 +76,6 @@ has-marks n s m r =
     ap (λ (x : ℕ). has x r) (marks-or n s m) ∙ has-or m ((2 ^ n - 1) * 2 ^ s) r ∙ ap (λ (x : Bool). has m r || x) (has-span s n r)
 
 -- ---- touched registers, as a test
-
--- a transaction touches register r
-abbrev pub touches : Transaction → ℕ → Bool
-touches t r = leb (t .subaddress) r && ltb r (end t)
 
 -- some transaction of a list does
 abbrev pub touchedBy : List Transaction → ℕ → Bool

@@ -11,7 +11,7 @@ use Rattle.refusals.specs.Order.{placesAt}
 use Rattle.refusals.proofs.OrderLaws.{good-none}
 use Rattle.planning.specs.Plan.{Counts, countsOf, leftBy}
 use Rattle.answer_listing.proofs.AnswerLaws.{Plans}
-use Rattle.adv7194_bus.specs.Address.{boardAddress}
+use Rattle.adv7194_bus.specs.Kind.{boardAddress}
 use Rattle.adv7194_captions.specs.Pairs.{pairsRight, captionList}
 use Rattle.adv7194_captions.specs.Planning.{captionRow, captionOrder, captionPlanning, captionPlanLeft}
 use Rattle.adv7194_captions.proofs.ListLaws.{captions-unpack}

@@ -19,7 +19,7 @@ use Rattle.listing.specs.Lines.{countsLine, refusedLine}
 use Rattle.plan_listing.specs.PlanText.{planText}
 use Rattle.plan_listing.proofs.TextLaws.{first-length, text-length}
 use Rattle.answer_listing.specs.AnswerText.{answerText}
-use Rattle.adv7194_bus.specs.Address.{boardAddress}
+use Rattle.adv7194_bus.specs.Kind.{boardAddress}
 use Rattle.adv7194_captions.specs.Pairs.{captionField, pairsRight, captionList}
 use Rattle.adv7194_captions.specs.Plans.{pairSize}
 use Rattle.adv7194_captions.proofs.ListLaws.{captions-length, captions-sized}

@@ -8,7 +8,7 @@ use lib.IntN.{ℤ, pos}
 use lib.ListN.{length, take, drop}
 use Rattle.listing.specs.Lines.{refusedLine}
 use Rattle.answer_listing.specs.AnswerText.{answerText}
-use Rattle.adv7194_bus.specs.Address.{boardAddress}
+use Rattle.adv7194_bus.specs.Kind.{boardAddress}
 use Rattle.adv7194_captions.specs.Pairs.{captionField, captionList}
 use Rattle.adv7194_captions.specs.Plans.{pairSize}
 use Rattle.adv7194_captions.specs.Planning.{captionPlanning}

@@ -13,7 +13,7 @@ use Rattle.text.specs.Text.{space, hexByte}
 use Rattle.field_table.specs.declared.row.Row.{Row}
 use Rattle.field_table.specs.Walk.{given}
 use Rattle.adv7194_bus.specs.Kind.{registerCount}
-use Rattle.adv7194_bus.proofs.Checks.{below, at-below}
+use Rattle.bits.proofs.Checks.{below, at-below}
 use Rattle.adv7194_table.specs.Fields.{timing, output, picture, dnr}
 use Rattle.adv7194_table.specs.Blocks.{signalling, curveA, curveB, word}
 use Rattle.adv7194_table.specs.Table.{Entry, single, whole, singles, table, singleFields, rowsIn}

@@ -10,7 +10,7 @@ use Rattle.text.specs.Text.{space, lineEnd, decimal, hexByte}
 use Rattle.listing.specs.Lines.{refusedLine}
 use Rattle.adv7194_table.specs.RawCodes.{outsideBits}
 use Rattle.adv7194_settings.specs.Held.{settingsHeld}
-use Rattle.adv7194_names.specs.Ascii.{ascii}
+use Rattle.writing.specs.Ascii.{ascii}
 use Rattle.adv7194_lines.specs.Lines.{labelText}
 use Rattle.adv7194_compare.specs.Differences.{fieldsDiffering, registersDiffering}
 use Rattle.adv7194_compare.specs.Compare.{canBeRead, whole}

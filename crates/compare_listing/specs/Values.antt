@@ -10,7 +10,7 @@ use Rattle.adv7194_table.specs.declared.blocks.Block.{Block}
 use Rattle.adv7194_table.specs.Table.{Content, signals, curve, subcarrier, Entry, single, whole, table, fieldOf}
 use Rattle.adv7194_table.specs.Masks.{ownMask}
 use Rattle.adv7194_table.specs.RawCodes.{ownBits, rawCode}
-use Rattle.adv7194_names.specs.Ascii.{ascii}
+use Rattle.writing.specs.Ascii.{ascii}
 use Rattle.adv7194_listing.specs.Faults.{hexText}
 use Rattle.adv7194_lines.specs.Kinds.{valueText, signallingText, curveText}
 

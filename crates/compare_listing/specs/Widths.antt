@@ -1,7 +1,7 @@
 -- The most bytes of each line of two images side by side, and of the whole text.
 use Prim.Native.Nat.{ℕ, _+_, _*_}
 use Rattle.adv7194_bus.specs.Kind.{registerCount}
-use Rattle.adv7194_names.specs.Put.{labelWidth}
+use Rattle.adv7194_names.specs.Widths.{labelWidth}
 
 -- a raw code, by the number of registers
 abbrev pub rawWidth : ℕ

@@ -5,7 +5,7 @@ ghost use Prim.Native.Nat.{_+_, _≤_};
 ghost use lib.ListN.{length};
 ghost use Rattle.text.specs.Line.{placeAfter, appended};
 ghost use Rattle.listing.specs.Lines.{refusedLine};
-ghost use Rattle.adv7194_names.specs.Put.{Put};
+ghost use Rattle.writing.specs.Put.{Put};
 ghost use Rattle.adv7194_compare.specs.Differences.{fieldsDiffering, registersDiffering};
 ghost use Rattle.compare_listing.specs.Widths.{textWidth};
 ghost use Rattle.compare_listing.specs.CompareText.{sideText, sidesText, compareText};

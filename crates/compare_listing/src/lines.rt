@@ -5,8 +5,8 @@ ghost use Prim.Native.Nat.{_+_, _*_, _≤_, _<_};
 ghost use lib.ListN.{length};
 ghost use Rattle.text.specs.Text.{space, hexByte};
 ghost use Rattle.adv7194_bus.specs.Kind.{registerCount};
-ghost use Rattle.adv7194_names.specs.Ascii.{ascii};
-ghost use Rattle.adv7194_names.specs.Put.{Put};
+ghost use Rattle.writing.specs.Ascii.{ascii};
+ghost use Rattle.writing.specs.Put.{Put};
 ghost use Rattle.adv7194_compare.specs.Differences.{fieldDiffers, fieldsDiffering, registerDiffers, registersDiffering};
 ghost use Rattle.compare_listing.specs.CompareText.{countLine, fieldLine, registerLine, linesOf};
 ghost use Rattle.compare_listing.specs.Widths.{countLineWidth, fieldWidth, registerWidth};
@@ -18,9 +18,9 @@ use adv7194_compare::LAST_FIELD;
 use adv7194_compare::field_differs;
 use adv7194_compare::register_differs;
 use adv7194_lines::lines::put_label;
-use adv7194_names::values::put_decimal;
-use adv7194_names::values::put_hex;
 use text::put;
+use writing::put_decimal;
+use writing::put_hex;
 
 // Writes how many differences there are.
 pub(crate) fn count_line(line: &mut [u8], at: usize, count: u64) -> usize

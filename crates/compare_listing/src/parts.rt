@@ -5,7 +5,8 @@ ghost use Rattle.text.specs.Text.{space, hexByte};
 ghost use Rattle.adv7194_bus.specs.Kind.{registerCount};
 ghost use Rattle.adv7194_table.specs.Blocks.{word};
 ghost use Rattle.adv7194_table.specs.RawCodes.{rawCode, outsideBits};
-ghost use Rattle.adv7194_names.specs.Put.{Put, curveWidth};
+ghost use Rattle.writing.specs.Put.{Put};
+ghost use Rattle.adv7194_names.specs.Widths.{curveWidth};
 ghost use Rattle.adv7194_listing.specs.Faults.{hexText};
 ghost use Rattle.compare_listing.specs.Widths.{rawWidth, sideWidth};
 ghost use Rattle.compare_listing.specs.Values.{ownText, wordText, fieldValue, markOf, sideOf};
@@ -14,7 +15,6 @@ use adv7194_lines::kinds::put_curve;
 use adv7194_lines::kinds::put_signalling;
 use adv7194_listing::byte_at;
 use adv7194_listing::field_row;
-use adv7194_names::values::put_hex;
 use adv7194_names::values::put_setting;
 use adv7194_table::blocks::CURVE_A;
 use adv7194_table::blocks::CURVE_B;
@@ -26,6 +26,7 @@ use adv7194_table::own_bits;
 use adv7194_table::own_mask;
 use field_table::given;
 use text::put;
+use writing::put_hex;
 
 // The fields that fill whole registers.
 const SIGNALLING_FIELD: u8 = 11;

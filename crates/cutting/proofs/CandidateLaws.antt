@@ -9,7 +9,7 @@ use lib.Dec.{leb, ltb, eqb}
 use borrow.Author.Tests.{ltb-true, ltb-false, leb-true, leb-false, eq-eqb, eqb-true, not-false}
 use Rattle.bits.specs.Maps.{has}
 use Rattle.bits.proofs.SetLaws.{has-and, has-past, has-in}
-use Rattle.least_cost.proofs.Attained.{later}
+use Rattle.bus.proofs.After.{later}
 use Rattle.cutting.specs.Cuts.{firstLeast, Candidates, Highest}
 use Rattle.cutting.proofs.LowestLaws.{First}
 use Rattle.cutting.proofs.SpanLaws.{one-has, one-less}
@@ -22,14 +22,14 @@ or-true false = refl
 -- ---- the first least of some numbers
 
 -- what it is: less than those before it, and no more than those after it
-record FirstLeast (f : ℕ → ℕ) (k x r : ℕ) : Type 0 where
-  from : x ≤ r
-  to : r ≤ x + k
-  before : (j : ℕ) → x ≤ j → j < r → f r < f j
-  after : (j : ℕ) → r ≤ j → j ≤ x + k → f r ≤ f j
+pub record FirstLeast (f : ℕ → ℕ) (k x r : ℕ) : Type 0 where
+  pub from : x ≤ r
+  pub to : r ≤ x + k
+  pub before : (j : ℕ) → x ≤ j → j < r → f r < f j
+  pub after : (j : ℕ) → r ≤ j → j ≤ x + k → f r ≤ f j
 
 -- it is that
-first-least : (f : ℕ → ℕ) (k x : ℕ) → FirstLeast f k x (firstLeast f k x)
+pub first-least : (f : ℕ → ℕ) (k x : ℕ) → FirstLeast f k x (firstLeast f k x)
 unfolding firstLeast
 first-least f zero x = record {
   from = omega arith;

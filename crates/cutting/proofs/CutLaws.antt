@@ -16,7 +16,7 @@ use Rattle.bits.proofs.SetLaws.{has-shr}
 use Rattle.bus.specs.Transactions.{Transaction}
 use Rattle.least_cost.specs.Task.{Task, Sound, Limited}
 use Rattle.least_cost.specs.Plan.{best, stopOf, Run}
-use Rattle.least_cost.proofs.Attained.{later}
+use Rattle.bus.proofs.After.{later}
 use Rattle.least_cost.proofs.Rounds.{scan-skips, scan-stop, stop-in}
 use Rattle.least_cost.proofs.Segments.{joins-ok, same-stop}
 use Rattle.cutting.specs.Spans.{MapsSoFar}

@@ -13,7 +13,7 @@ use Rattle.bits.specs.Maps.{has}
 use Rattle.least_cost.specs.Task.{Task}
 use Rattle.least_cost.specs.Weight.{byteWeight, startWeight, tooHeavy, penalty, leastClosed, leastOpen}
 use Rattle.least_cost.specs.Plan.{best, stopOf}
-use Rattle.least_cost.proofs.Attained.{later}
+use Rattle.bus.proofs.After.{later}
 use Rattle.least_cost.proofs.WeightLaws.{closed-need, closed-skip, open-takes, open-barred, open-shut}
 use Rattle.cutting.specs.Cuts.{firstLeast, Candidates, Highest}
 use Rattle.cutting.specs.Task.{runTask}

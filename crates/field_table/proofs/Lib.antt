@@ -7,3 +7,8 @@ pub mod ApartLaws
 pub mod WalkLaws
 pub mod StepLaws
 pub mod RoundTripLaws
+pub mod RefusalLaws
+pub mod FitLaws
+pub mod MaskLaws
+pub mod FillLaws
+pub mod PlaceLaws

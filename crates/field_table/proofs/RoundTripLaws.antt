@@ -15,15 +15,14 @@ use borrow.Author.Tests.{eqb-true, eqb-false, ltb-true, ltb-false}
 use Rattle.refusals.specs.Refusal.{Judged, accepted, refused, codeIn}
 use Rattle.refusals.specs.Verdict.{Verdict, good, after, faultOf}
 use Rattle.bits.proofs.FlagLaws.{first, second}
-use Rattle.field_table.specs.Rows.{rowOf}
-use Rattle.field_table.specs.Coding.{Field, encode, decode, plainOf, plainFields}
+use Rattle.field_table.specs.declared.row.Row.{Row}
+use Rattle.field_table.specs.Coding.{Coding, plain, offset, signMagnitude, rounded, roundedSigned, Field, encode, decode, plainOf}
 use Rattle.field_table.specs.Writes.{puts, AllHeld}
-use Rattle.field_table.specs.Walk.{given, held, settingIn, codingOf, checkOf, writeOf, writesOf, readingOf, judgeOf, store, numbersOf, allFit, within}
+use Rattle.field_table.specs.Walk.{given, held, settingIn, codingOf, checkOf, writeOf, writesOf, readingOf, judgeOf, store, numbersOf, rowFits, within}
 use Rattle.field_table.specs.RoundTrip.{rowsApart, apartFrom, allApart, someAt, onlyZero, ownNumbers, allNumbered, MeansItself, ReadsBack}
 use Rattle.field_table.proofs.Decoding.{decode-coded, only-zero}
 use Rattle.field_table.proofs.PlainLaws.{row-fits, code-fits, read-coded}
 use Rattle.field_table.proofs.WriteLaws.{AllFit}
-use Rattle.field_table.proofs.WalkLaws.{fits-first, fits-rest}
 use Rattle.field_table.proofs.ApartLaws as writes
 use Rattle.field_table.proofs.ApartLaws.{AllThere, puts-held, puts-there}
 
@@ -141,7 +140,7 @@ unfolding apartFrom writesOf
 apart-from zs f [] = refl
 apart-from zs f (g ∷ fs) = ap (λ b. rowsApart (f .row) (g .row) && b) (apart-from zs f fs)
 
-all-apart : (zs : List ℤ) (fs : List Field) → allApart fs ≡ writes.allApart (writesOf zs fs)
+pub all-apart : (zs : List ℤ) (fs : List Field) → allApart fs ≡ writes.allApart (writesOf zs fs)
 unfolding allApart writesOf
 all-apart zs [] = refl
 all-apart zs (f ∷ fs) = ap₂ (λ a b. a && b) (apart-from zs f fs) (all-apart zs fs)
@@ -228,23 +227,38 @@ reads-back image zs fs own fits inside apart all e =
 
 -- ---- a table of plain rows
 
-plain-own : (ps : List ℕ) → T (allFit (plainFields ps)) → All OwnCodes (plainFields ps)
-unfolding plainFields
-plain-own [] t = tt
-plain-own (p ∷ ps) t =
-    let f = plainOf (rowOf p) in
-    (read-coded (f .row) (row-fits (f .row) (fits-first f (plainFields ps) t)), plain-own ps (fits-rest f (plainFields ps) t))
+-- the setting is the code
+abbrev isPlain : Coding → Bool
+isPlain plain = true
+isPlain (offset b) = false
+isPlain signMagnitude = false
+isPlain (rounded b n d) = false
+isPlain (roundedSigned n d) = false
 
-pub plain-fit : (ps : List ℕ) → T (allFit (plainFields ps)) → All CodesFit (plainFields ps)
-unfolding plainFields
-plain-fit [] t = tt
-plain-fit (p ∷ ps) t =
-    let f = plainOf (rowOf p) in
-    (code-fits (f .row) (row-fits (f .row) (fits-first f (plainFields ps) t)), plain-fit ps (fits-rest f (plainFields ps) t))
+-- that of every field is, and its row passes a test
+unfoldable pub allPlain : (Row → Bool) → List Field → Bool
+allPlain P [] = true
+allPlain P (f ∷ fs) = (isPlain (f .coding) && P (f .row)) && allPlain P fs
+
+-- what holds of such rows holds of each field
+pub each-plain : (P : Row → Bool) (Q : Field → Type 0) → ((r : Row) → T (P r) → Q (plainOf r)) → (fs : List Field) → T (allPlain P fs) → All Q fs
+unfolding allPlain
+each-plain P Q h [] t = tt
+each-plain P Q h (f ∷ fs) t =
+    let here = isPlain (f .coding) && P (f .row) in
+    (by (f .coding) (first here (allPlain P fs) t), each-plain P Q h fs (second here (allPlain P fs) t))
+  where
+    by : (c : Coding) → T (isPlain c && P (f .row)) → Q (record { row = f .row; coding = c })
+    by plain t = h (f .row) t
+    by (offset b) t = absurd t
+    by signMagnitude t = absurd t
+    by (rounded b n d) t = absurd t
+    by (roundedSigned n d) t = absurd t
+
+pub plain-fit : (fs : List Field) → T (allPlain rowFits fs) → All CodesFit fs
+plain-fit = each-plain rowFits CodesFit (λ r t. code-fits r (row-fits r t))
 
 -- what was placed by such a table is read
-pub plain-reads-back : (image : List ℕ) (zs : List ℤ) (ps : List ℕ) → T (allFit (plainFields ps)) → T (within (length image) (plainFields ps))
-    → T (allApart (plainFields ps))
-    → T (allNumbered (length zs) (plainFields ps)) → checkOf zs (plainFields ps) ≡ good tt
-    → ReadsBack (plainFields ps) (puts image (writesOf zs (plainFields ps))) zs
-plain-reads-back image zs ps fit = reads-back image zs (plainFields ps) (plain-own ps fit) (plain-fit ps fit)
+pub plain-reads-back : (image : List ℕ) (zs : List ℤ) (fs : List Field) → T (allPlain rowFits fs) → T (within (length image) fs) → T (allApart fs)
+    → T (allNumbered (length zs) fs) → checkOf zs fs ≡ good tt → ReadsBack fs (puts image (writesOf zs fs)) zs
+plain-reads-back image zs fs t = reads-back image zs fs (each-plain rowFits OwnCodes (λ r t. read-coded r (row-fits r t)) fs t) (plain-fit fs t)

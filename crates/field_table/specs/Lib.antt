@@ -5,3 +5,5 @@ pub mod Walk
 pub mod Blocks
 pub mod Answers
 pub mod RoundTrip
+pub mod Refusals
+pub mod Masks

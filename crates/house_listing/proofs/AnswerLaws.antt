@@ -12,7 +12,7 @@ use Rattle.unpacking.specs.Unpacking.{unpack}
 use Rattle.planning.specs.Plan.{Counts, countsOf, leftBy}
 use Rattle.answer_listing.proofs.AnswerLaws.{Plans}
 use Rattle.adv7194_bus.specs.Kind.{registerCount}
-use Rattle.adv7194_bus.specs.Address.{boardAddress}
+use Rattle.adv7194_bus.specs.Kind.{boardAddress}
 use Rattle.adv7194_bus.specs.Limit.{noLimit}
 use Rattle.adv7194_settings.specs.House.{house}
 use Rattle.adv7194_least.specs.Aim.{aimOf}

@@ -22,7 +22,7 @@ use Rattle.plan_listing.specs.PlanText.{planText}
 use Rattle.plan_listing.proofs.TextLaws.{first-length, text-length}
 use Rattle.answer_listing.specs.AnswerText.{answerText}
 use Rattle.adv7194_bus.specs.Kind.{registerCount}
-use Rattle.adv7194_bus.specs.Address.{boardAddress}
+use Rattle.adv7194_bus.specs.Kind.{boardAddress}
 use Rattle.adv7194_bus.specs.Limit.{noLimit}
 use Rattle.field_table.specs.Coding.{encode}
 use Rattle.field_table.specs.Blocks.{numbersFrom}

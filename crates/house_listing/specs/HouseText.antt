@@ -3,7 +3,7 @@
 use mathlib.Core.List.{List}
 use Prim.Native.Nat.{ℕ}
 use Rattle.answer_listing.specs.AnswerText.{answerText}
-use Rattle.adv7194_bus.specs.Address.{boardAddress}
+use Rattle.adv7194_bus.specs.Kind.{boardAddress}
 use Rattle.adv7194_bus.specs.Limit.{noLimit}
 use Rattle.adv7194_bus.specs.declared.board.Board.{Board}
 use Rattle.adv7194_bus.specs.Board.{boardOf, allKnown}

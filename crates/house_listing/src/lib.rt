@@ -3,7 +3,7 @@ ghost use mathlib.Core.Path.{_≡_};
 ghost use lib.ListN.{length};
 ghost use Rattle.planning.specs.Plan.{answerOf};
 ghost use Rattle.text.specs.Line.{placeAfter, appended};
-ghost use Rattle.adv7194_bus.specs.Address.{boardAddress};
+ghost use Rattle.adv7194_bus.specs.Kind.{boardAddress};
 ghost use Rattle.adv7194_bus.specs.Limit.{noLimit};
 ghost use Rattle.adv7194_settings.specs.House.{house as houseSetting};
 ghost use Rattle.adv7194_planning.specs.Planning.{planningOf, planLeft};

@@ -21,7 +21,7 @@ abbrev pub Leads : List Transaction → List Transaction → Type 0
 Leads ts us = Before ts us ⊎ SameSpans ts us
 
 -- one more transaction in front of each: the same start, and the first no longer
-leads-more : (t u : Transaction) (ts us : List Transaction) → t .subaddress ≡ u .subaddress → size t ≤ size u → (size t ≡ size u → Leads ts us)
+pub leads-more : (t u : Transaction) (ts us : List Transaction) → t .subaddress ≡ u .subaddress → size t ≤ size u → (size t ≡ size u → Leads ts us)
     → Leads (t ∷ ts) (u ∷ us)
 leads-more t u ts us e h f = split (ltb (size t) (size u)) refl
   where

@@ -15,3 +15,6 @@ pub mod Near
 pub mod Segments
 pub mod Within
 pub mod Ends
+pub mod Pulled
+pub mod Held
+pub mod Nothing

@@ -8,7 +8,7 @@ use lib.ListN.{length}
 use Rattle.bus.specs.Transactions.{Transaction, end, Every}
 use Rattle.least_cost.specs.Task.{Task, Sound}
 use Rattle.least_cost.specs.Plan.{Open, scan, extend, best, plan}
-use Rattle.least_cost.proofs.Attained.{later}
+use Rattle.bus.proofs.After.{later}
 use Rattle.least_cost.proofs.Gaps.{Later, gap-3-ends}
 
 -- x is needed, or one of the two registers after it

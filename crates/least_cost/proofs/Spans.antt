@@ -1,4 +1,4 @@
--- Lists with the same starts and lengths: both ascend, and are one where both hold the wanted bytes. Assumes nothing.
+-- Lists with the same starts and lengths: both ascend, touch the same registers, and are one where both hold the wanted bytes. Assumes nothing.
 use mathlib.Core.Path.{_≡_, refl, sym, ap₂, _∙_}
 use mathlib.Core.Logic.{inl, inr}
 use mathlib.Core.List.{List, [], _∷_}
@@ -40,3 +40,11 @@ spans-ascending (t ∷ ts) (u ∷ us) i e a =
 pub ascending-past : (i r : ℕ) (ts : List Transaction) → Ascending i ts → r < i → Touched ts r → ⊥
 ascending-past i r (t ∷ ts) a h (inl u) = omega arith
 ascending-past i r (t ∷ ts) a h (inr u) = ascending-past (end t) r ts (a .1) (omega arith) u
+
+-- what one of two such lists touches the other touches
+pub spans-touched : (ts us : List Transaction) (r : ℕ) → SameSpans ts us → Touched us r → Touched ts r
+spans-touched [] [] r e a = absurd a
+spans-touched [] (u ∷ us) r e a = absurd e
+spans-touched (t ∷ ts) [] r e a = absurd e
+spans-touched (t ∷ ts) (u ∷ us) r e (inl a) = inl (omega (arith, e .0, e .1 .0))
+spans-touched (t ∷ ts) (u ∷ us) r e (inr a) = inr (spans-touched ts us r (e .1 .1) a)

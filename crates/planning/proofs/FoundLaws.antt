@@ -19,8 +19,8 @@ use Rattle.cutting.specs.Task.{mapTask, Bounded, Plannable, planBy, planFrom}
 use Rattle.cutting.proofs.SpanLaws.{sofar-more}
 use Rattle.planning.proofs.ShiftLaws.{has-past, none-past}
 use Rattle.cutting.proofs.CutLaws.{map-sound, map-limited, run-inside}
-use Rattle.planning.specs.Registers.{covers}
-use Rattle.planning.proofs.RunLaws.{before, before-is, uncovered, covered-ok, run-of}
+use Rattle.planning.specs.Registers.{covers, before}
+use Rattle.planning.proofs.RunLaws.{before-is, uncovered, covered-ok, run-of}
 use Rattle.planning.proofs.OnesLaws.{Next, none-left}
 
 -- the maps of the transactions found so far: f registers were passed, and `rest` is the map of the covered ones that are left

@@ -16,8 +16,8 @@ use Rattle.least_cost.proofs.Spans.{same-transaction}
 use Rattle.least_cost.proofs.Rounds.{scan-skips, scan-run}
 use Rattle.cutting.specs.Spans.{touched, begun}
 use Rattle.cutting.specs.Task.{mapTask}
+use Rattle.planning.specs.Registers.{before}
 use Rattle.planning.specs.Plan.{listFrom}
-use Rattle.planning.proofs.RunLaws.{before}
 
 -- a transaction with data, which are the wanted bytes
 pub record Good (w : List ℕ) (t : Transaction) : Type 0 where

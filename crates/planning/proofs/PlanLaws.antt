@@ -3,7 +3,6 @@ use mathlib.Core.Path.{_≡_, refl, sym, ap, ap₂, _∙_, subst}
 use mathlib.Core.Bool.{Bool, true, false, not, _&&_, _||_, and-false, false≢true}
 use mathlib.Core.List.{List, [], _∷_, _++_}
 use Prim.Native.Nat.{ℕ, zero, suc, _-_, _^_, _≤_, _<_}
-use native.Mathlib.Nat.{le-trans}
 use native.Mathlib.Omega.{arith}
 use lib.Bits.{bitAnd}
 use lib.Count.{ones}
@@ -28,9 +27,9 @@ use Rattle.least_cost.proofs.Cheapest.{map-every}
 use Rattle.cutting.specs.Spans.{touched, begun}
 use Rattle.cutting.specs.Task.{largestCount, mapTask, Plannable, planBy}
 use Rattle.cutting.proofs.CutLaws.{map-sound}
+use Rattle.planning.specs.Registers.{before}
 use Rattle.planning.specs.Plan.{Counts, listOf, packingOf, planAfter, done}
 use Rattle.planning.proofs.ShiftLaws.{has-past, has-not}
-use Rattle.planning.proofs.RunLaws.{before}
 use Rattle.planning.proofs.ListLaws.{Good, list-is, begun-touched, touched-begun}
 use Rattle.planning.proofs.CountLaws.{Maps, list-counted, count-le, no-start}
 
@@ -55,15 +54,39 @@ before-same : (f g : ℕ → Bool) → ((x : ℕ) → f x ≡ g x) → (x : ℕ)
 before-same f g e zero = refl
 before-same f g e (suc x) = e x
 
--- what a planner knows of the maps that it found
-pub record Mapped (needed allowed held limit : ℕ) (wanted : List ℕ) (taken starts goes : ℕ) : Type 0 where
-  pub list : listOf taken goes wanted ≡ planBy needed allowed held limit wanted
+-- what a planner knows of the maps that it found for a list
+pub record Mapped (ts : List Transaction) (wanted : List ℕ) (taken starts goes : ℕ) : Type 0 where
+  pub list : listOf taken goes wanted ≡ ts
   pub inside : (i : ℕ) → has taken i ≡ true → i < length wanted
   pub over : (i : ℕ) → has goes i ≡ true → has taken i ≡ true
   pub transactions : length (listOf taken goes wanted) ≡ ones starts
   pub bytes : dataCount (listOf taken goes wanted) ≡ ones taken
-  pub few : ones starts ≤ largestCount
-  pub short : ones taken ≤ largestCount
+  pub few : ones starts ≤ length wanted
+  pub short : ones taken ≤ length wanted
+
+-- it knows that where the list of the maps is that list, and what it touches has a wanted byte
+pub mapped-list : (ts : List Transaction) (w : List ℕ) (taken starts goes : ℕ) → taken < 2 ^ 64 → starts < 2 ^ 64 → Maps taken starts goes
+    → ((i : ℕ) → has taken i ≡ true → i < length w) → listOf taken goes w ≡ ts → Mapped ts w taken starts goes
+mapped-list ts w taken starts goes ht hs μ inside same =
+    let off : (x : ℕ) → length w ≤ x → has taken x ≡ false = λ x h. none x h (has taken x) refl in
+    let c = list-counted taken starts goes w ht hs off μ in
+    record {
+      list = same;
+      inside = inside;
+      over = λ x e. taken-of (has taken x) (has starts x) (sym (μ .goes x) ∙ e);
+      transactions = c .0;
+      bytes = c .1;
+      few = count-le (length w) starts hs (λ x h. no-start (length w) taken starts goes (λ r. getD w r 0) μ x (off x h));
+      short = count-le (length w) taken ht off;
+    }
+  where
+    none : (x : ℕ) → length w ≤ x → (b : Bool) → has taken x ≡ b → has taken x ≡ false
+    none x h true e = absurd (omega (arith, inside x e))
+    none x h false e = e
+
+    taken-of : (a b : Bool) → (a && not b) ≡ true → a ≡ true
+    taken-of true b e = refl
+    taken-of false b e = e
 
 module _ (needed allowed held limit : ℕ) (w : List ℕ) (taken starts : ℕ) (π : Plannable needed allowed held limit w)
     (ht : taken < 2 ^ 64) (hs : starts < 2 ^ 64) (touches : (x : ℕ) → has taken x ≡ touched (planBy needed allowed held limit w) x)
@@ -113,28 +136,8 @@ module _ (needed allowed held limit : ℕ) (w : List ℕ) (taken starts : ℕ) (
       go false l u ih = ih (sym (rw (l, and-false (leb (t .subaddress) x))) ∙ u)
 
   -- it knows that of the plan's maps
-  pub mapped : Mapped needed allowed held limit w taken starts goes
-  mapped =
-      let inside : (x : ℕ) → has taken x ≡ true → x < length w = λ x e. touched-in ts good x (sym (touches x) ∙ e) in
-      let off : (x : ℕ) → length w ≤ x → has taken x ≡ false = λ x h. none x h (has taken x) refl inside in
-      let c = list-counted taken starts goes w ht hs off maps in
-      record {
-        list = same;
-        inside = inside;
-        over = λ x e. taken-of (has taken x) (has starts x) (sym (has-without taken starts x ht hs) ∙ e);
-        transactions = c .0;
-        bytes = c .1;
-        few = le-trans (count-le (length w) starts hs (λ x h. no-start (length w) taken starts goes (λ r. getD w r 0) maps x (off x h))) (π .small);
-        short = le-trans (count-le (length w) taken ht off) (π .small);
-      }
-    where
-      none : (x : ℕ) → length w ≤ x → (b : Bool) → has taken x ≡ b → ((x : ℕ) → has taken x ≡ true → x < length w) → has taken x ≡ false
-      none x h true e f = absurd (omega (arith, f x e))
-      none x h false e f = e
-
-      taken-of : (a b : Bool) → (a && not b) ≡ true → a ≡ true
-      taken-of true b e = refl
-      taken-of false b e = e
+  pub mapped : Mapped ts w taken starts goes
+  mapped = mapped-list ts w taken starts goes ht hs maps (λ x e. touched-in ts good x (sym (touches x) ∙ e)) same
 
 -- ---- answers
 
@@ -160,7 +163,7 @@ has-room us ts plan after l t b same h el et eb e =
 -- ---- after the transaction count
 
 -- the pending bits of a plan begun with its transaction count
-abbrev opening : ℕ → Pending
+abbrev pub opening : ℕ → Pending
 opening n = record { at = 0; count = 6; bits = n }
 
 module _ (ts : List Transaction) (plan : List ℕ) (first : Pending) (n : ℕ) (few : n ≤ largestCount) (told : n ≡ length ts) (is : first ≡ opening n) where

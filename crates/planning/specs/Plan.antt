@@ -13,7 +13,7 @@ use Rattle.bus.specs.Transactions.{Transaction, busBytes}
 use Rattle.packing.specs.declared.Pending.{Pending}
 use Rattle.packing.specs.Packing.{listBits, packed}
 use Rattle.packing.specs.Written.{Sound, Room}
-use Rattle.least_cost.specs.Plan.{scan}
+use Rattle.least_cost.specs.Plan.{scan, greedyPlan}
 use Rattle.cutting.specs.Task.{largestCount, mapTask}
 use Rattle.planning.specs.declared.plan.Planned.{Planned}
 use Rattle.planning.specs.declared.plan.Planned.the-variants.{Done, Refused}
@@ -36,6 +36,21 @@ pub record Packable (taken goes : ℕ) (wanted plan : List ℕ) (first : Pending
   pub small : length wanted ≤ largestCount
   pub sound : Sound first
   pub room : Room plan first (length (listBits (listOf taken goes wanted)))
+
+-- the plan of two maps where no limit is in force: it writes the needed registers, and joins gaps of one and two registers that may be written; with the
+-- wanted bytes
+abbrev pub joinedBy : ℕ → ℕ → List ℕ → List Transaction
+joinedBy needed allowed wanted =
+    greedyPlan (mapTask (length wanted) needed allowed 0 mapWidth) (has allowed) (λ r. getD wanted r 0)
+
+-- it can be packed after a transaction at a subaddress: the needed registers may be written, each that may be written has a wanted byte, and
+-- the numbers of both are no more than a packed plan can hold
+pub record Joinable (subaddress : ℕ) (bytes : List ℕ) (needed allowed : ℕ) (wanted : List ℕ) : Type 0 where
+  pub writable : (i : ℕ) → has needed i ≡ true → has allowed i ≡ true
+  pub inside : (i : ℕ) → has allowed i ≡ true → i < length wanted
+  pub small : length wanted < largestCount
+  pub start : subaddress ≤ largestCount
+  pub short : length bytes ≤ largestCount
 
 -- the numbers of a packed list: its bytes, its transactions, and its bus bytes
 pub record Counts : Type 0 where

@@ -1,10 +1,12 @@
 ghost use mathlib.Core.Path.{_≡_};
-ghost use mathlib.Core.List.{_++_};
+ghost use mathlib.Core.List.{_∷_, _++_};
 ghost use lib.ListN.{length};
+ghost use Rattle.refusals.specs.Verdict.{refusedAt};
 ghost use Rattle.packing.specs.Packing.{packedLength, listBits};
 ghost use Rattle.packing.specs.Written.{written, finishedWith};
 ghost use Rattle.cutting.specs.Task.{Plannable, planBy};
-ghost use Rattle.planning.specs.Plan.{Packable, listOf, answerOf, packingOf, planAfter};
+ghost use Rattle.planning.specs.Plan.{Packable, Joinable, listOf, joinedBy, answerOf, packingOf, planAfter};
+use crate::maps;
 use crate::spans::plan_spans;
 use packing::BYTE_BITS;
 use packing::FIELD_BITS;
@@ -31,6 +33,16 @@ pub enum Planned {
         refusal: Refusal,
         field: u8,
     },
+}
+
+// The answer where the lent plan is shorter than the packed one.
+fn too_short() -> Planned
+    ensures answer { λ r. ⌜ answerOf r ≡ refusedAt 10 0 ⌝ }
+{
+    Planned::Refused {
+        refusal: Refusal::PlanRoom,
+        field: NO_FIELD,
+    }
 }
 
 // The bytes of a packed plan with that many transactions and that many data bytes in all.
@@ -81,10 +93,7 @@ pub fn pack(
     let data_bytes = bits::maps::count(taken);
     let length = packed_length(transactions, data_bytes);
     if (plan.len() as u64) < length {
-        return Planned::Refused {
-            refusal: Refusal::PlanRoom,
-            field: NO_FIELD,
-        };
+        return too_short();
     }
     pack_spans(
         plan,
@@ -97,5 +106,35 @@ pub fn pack(
         length: length as u32,
         transactions: transactions,
         bus_bytes: bus::cost::bus_bytes(transactions, data_bytes) as u32,
+    }
+}
+
+// Packs a transaction for the registers from one on, and after it the plan that writes the needed registers, where both fit the lent plan.
+pub fn pack_after(
+    plan: &mut [u8],
+    start: u8,
+    bytes: &[u8],
+    needed: u64,
+    allowed: u64,
+    wanted: &[u8],
+) -> Planned
+    requires { ⌜ Joinable start (now bytes) needed allowed (now wanted) ⌝ }
+    ensures answer { λ r. ⌜ answerOf r ≡ packingOf (record { subaddress = start; bytes = now (bytes .entry) } ∷ joinedBy needed allowed (now (wanted .entry))) (length (now (plan .entry))) ⌝ }
+    ensures memory { λ r. ⌜ now (plan .exit) ≡ planAfter (record { subaddress = start; bytes = now (bytes .entry) } ∷ joinedBy needed allowed (now (wanted .entry))) (now (plan .entry)) ⌝ }
+{
+    let taken = maps::covered(needed, allowed);
+    let starts = maps::starts(taken);
+    let all = bits::maps::count(starts) + 1;
+    let data = bits::maps::count(taken) + bytes.len() as u32;
+    let size = packed_length(all, data);
+    if (plan.len() as u64) < size {
+        return too_short();
+    }
+    let first = packing::pack_transaction(plan, packing::begin(all as u8), start, bytes);
+    pack_spans(plan, first, taken, taken & !starts, wanted);
+    Planned::Done {
+        length: size as u32,
+        transactions: all,
+        bus_bytes: bus::cost::bus_bytes(all, data) as u32,
     }
 }

@@ -1,7 +1,8 @@
 // A transaction of a packed plan by its index, for whoever sends a plan one transaction after the other.
 ghost use mathlib.Core.Path.{_≡_};
 ghost use lib.ListN.{length};
-ghost use Rattle.unpacking.specs.Unpacking.{unpack};
+ghost use Rattle.unpacking.specs.Unpacking.{unpackBy};
+ghost use Rattle.unpacking.specs.Steps.{startAfter};
 ghost use Rattle.unpacking.specs.Indexed.{transactionIn, foundAs, FoundPlaced, transactionOf, headerOf, dataAfter, answerOf};
 use crate::places::Place;
 use crate::places::copy_data;
@@ -28,12 +29,12 @@ pub enum Answer {
     Refused(Refusal),
 }
 
-// The transaction with an index, counted from 0, of a plan whose bytes keep the packing.
-fn find(plan: &[u8], index: u32) -> Found
-    ensures answer { λ r. ⌜ foundAs (now (plan .entry)) r ≡ transactionIn (unpack (now (plan .entry))) index ⌝ }
+// The transaction with an index, counted from 0, of a plan whose bytes keep the packing in an order.
+fn find(plan: &[u8], order: Order, index: u32) -> Found
+    ensures answer { λ r. ⌜ foundAs (now (plan .entry)) r ≡ transactionIn (unpackBy (startAfter order) (now (plan .entry))) index ⌝ }
     ensures placed { λ r. ⌜ FoundPlaced (now (plan .entry)) r ⌝ }
 {
-    let mut cursor = begin(plan, Order::Ascending);
+    let mut cursor = begin(plan, order);
     let mut found = Found::PastLast;
     let mut i: u32 = 0;
     loop {
@@ -60,12 +61,13 @@ fn find(plan: &[u8], index: u32) -> Found
     }
 }
 
-// The transaction with an index, counted from 0: its subaddress and data count, with its data at the front of the memory lent.
-pub fn transaction(plan: &[u8], index: u32, memory: &mut [u8]) -> Answer
-    ensures answer { λ r. ⌜ answerOf r ≡ headerOf (transactionOf (unpack (now (plan .entry))) index (length (now (memory .entry)))) ⌝ }
-    ensures memory { λ r. ⌜ now (memory .exit) ≡ dataAfter (transactionOf (unpack (now (plan .entry))) index (length (now (memory .entry)))) (now (memory .entry)) ⌝ }
+// The transaction with an index, counted from 0, of a plan whose bytes keep the packing in an order: its subaddress and data count, with its data at the
+// front of the memory lent.
+pub fn transaction(plan: &[u8], order: Order, index: u32, memory: &mut [u8]) -> Answer
+    ensures answer { λ r. ⌜ answerOf r ≡ headerOf (transactionOf (unpackBy (startAfter order) (now (plan .entry))) index (length (now (memory .entry)))) ⌝ }
+    ensures memory { λ r. ⌜ now (memory .exit) ≡ dataAfter (transactionOf (unpackBy (startAfter order) (now (plan .entry))) index (length (now (memory .entry)))) (now (memory .entry)) ⌝ }
 {
-    match find(plan, index) {
+    match find(plan, order, index) {
         Found::Fault => Answer::Refused(Refusal::PlanBytes),
         Found::PastLast => Answer::Refused(Refusal::OutOfRange),
         Found::At {

@@ -6,7 +6,7 @@ use lib.ListN.{length}
 use borrow.Author.Tests.{eq-eqb}
 use Rattle.refusals.specs.Verdict.{Verdict, good, after}
 use Rattle.adv7194_bus.specs.Kind.{registerCount}
-use Rattle.adv7194_bus.specs.Address.{boardAddress}
+use Rattle.adv7194_bus.specs.Kind.{boardAddress}
 use Rattle.adv7194_bus.specs.Limit.{noLimit}
 use Rattle.adv7194_table.specs.Table.{table, orderOf}
 use Rattle.adv7194_settings.specs.House.{house}

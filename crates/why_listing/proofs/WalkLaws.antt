@@ -15,8 +15,8 @@ use Rattle.unpacking.specs.Listed.{Accepted}
 use Rattle.unpacking.proofs.StepLaws.{Went}
 use Rattle.unpacking.proofs.Walking.{Walked, walk-begins, walk-goes}
 use Rattle.plan_listing.proofs.WalkLaws.{passed-first}
-use Rattle.adv7194_names.specs.Put.{Put}
-use Rattle.adv7194_names.proofs.Putting.{more, wider, same-text, unwritten}
+use Rattle.writing.specs.Put.{Put}
+use Rattle.writing.proofs.Putting.{more, wider, same-text, unwritten}
 use Rattle.adv7194_reasons.specs.Reasons.{Reason}
 use Rattle.why_listing.specs.WhyText.{whyLines}
 use Rattle.why_listing.specs.Parts.{transactionText, transactionWidth, byteWidth}

@@ -9,9 +9,9 @@ use Rattle.planning.specs.Plan.{Counts}
 use Rattle.text.specs.Text.{space, lineEnd, hexByte}
 use Rattle.listing.specs.Lines.{planLine, refusedLine}
 use Rattle.plan_listing.specs.PlanText.{transactionLine}
-use Rattle.adv7194_bus.specs.Address.{boardAddress}
+use Rattle.adv7194_bus.specs.Kind.{boardAddress}
 use Rattle.adv7194_bus.specs.Limit.{noLimit}
-use Rattle.adv7194_names.specs.Ascii.{ascii}
+use Rattle.writing.specs.Ascii.{ascii}
 use Rattle.adv7194_names.specs.Names.{named}
 use Rattle.adv7194_settings.specs.House.{house}
 use Rattle.adv7194_least.specs.Demands.{wideBytes}

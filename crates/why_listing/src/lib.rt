@@ -6,7 +6,7 @@ ghost use Rattle.text.specs.Line.{placeAfter, appended};
 ghost use Rattle.listing.specs.Written.{lineWidth};
 ghost use Rattle.planning.specs.Plan.{answerOf};
 ghost use Rattle.answer_listing.specs.AnswerText.{firstLine, listIn};
-ghost use Rattle.adv7194_names.specs.Put.{Put};
+ghost use Rattle.writing.specs.Put.{Put};
 ghost use Rattle.why_listing.specs.WhyText.{houseReason, whyTextOf, houseWhyText};
 ghost use Rattle.why_listing.specs.Parts.{Ready, textWidth};
 use answer_listing::first_line;

@@ -6,14 +6,13 @@ ghost use Rattle.refusals.specs.Verdict.{good};
 ghost use Rattle.unpacking.specs.Unpacking.{unpack};
 ghost use Rattle.unpacking.specs.Listed.{listed, Accepted};
 ghost use Rattle.adv7194_bus.specs.Kind.{registerCount};
-ghost use Rattle.adv7194_names.specs.Put.{Put};
+ghost use Rattle.writing.specs.Put.{Put};
 ghost use Rattle.adv7194_reasons.specs.Why.{whyAs};
 ghost use Rattle.why_listing.specs.WhyText.{houseReason, registerLine, registerLines, whyLines};
 ghost use Rattle.why_listing.specs.Parts.{transactionText, registerWidth, transactionWidth, byteWidth};
 use crate::words::put_reason;
 use adv7194_bus::NO_LIMIT;
 use adv7194_bus::board::ALL_KNOWN;
-use adv7194_names::values::put_hex;
 use adv7194_reasons::Explained;
 use adv7194_reasons::why;
 use adv7194_settings::house;
@@ -24,6 +23,7 @@ use unpacking::steps::Order;
 use unpacking::steps::Step;
 use unpacking::steps::begin;
 use unpacking::steps::next;
+use writing::put_hex;
 
 // The most data bytes of a transaction.
 const MOST_DATA: usize = 63;

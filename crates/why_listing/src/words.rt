@@ -1,16 +1,16 @@
 // A reason in plain words. Each function answers the place after what it wrote.
 ghost use Prim.Native.Nat.{_+_, _≤_};
 ghost use lib.ListN.{length};
-ghost use Rattle.adv7194_names.specs.Put.{Put};
+ghost use Rattle.writing.specs.Put.{Put};
 ghost use Rattle.adv7194_reasons.specs.Reasons.{Reason};
 ghost use Rattle.adv7194_reasons.specs.Why.{whyAs};
 ghost use Rattle.why_listing.specs.WhyText.{reasonText};
 ghost use Rattle.why_listing.specs.Parts.{answerWords, reasonWidth};
 use adv7194_names::columns::NAME;
 use adv7194_names::columns::put_column;
-use adv7194_names::values::put_hex;
 use adv7194_reasons::Explained;
 use text::put;
+use writing::put_hex;
 
 // Writes which field changed.
 fn put_changed(line: &mut [u8], at: usize, field: u8) -> usize

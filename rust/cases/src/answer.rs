@@ -1,6 +1,7 @@
 //! The answers to records.
 
 use crate::codings;
+use crate::progressive;
 use crate::record::Record;
 use crate::{decimal, hex};
 use plain::chip::{Acknowledge, Chip, Phase};
@@ -75,6 +76,11 @@ fn answer_record(record: &Record, given: &mut Given) -> Option<String> {
         ("playcap", [used, own], _) => play(record, plain::play_captions, *given, *used, *own),
         ("readcap", [pair], (_, false)) => readcap(record, *given, *pair),
         ("read", [], (_, false)) => read(record, *given),
+        ("plan7195", [address, settings @ ..], _) => {
+            progressive::plan(record, unsigned(*address), &all_signed(settings))
+        }
+        ("play7195", [used, own], _) => progressive::play(record, unsigned(*used), unsigned(*own)),
+        ("read7195", [], (_, false)) => progressive::read(record),
         ("house", [count], (false, false)) => house(*count),
         ("events", [own], _) => events(record, *given, *own),
         ("code", [field, setting], (false, false)) => codings::code(*field, signed(*setting)),
@@ -113,7 +119,7 @@ pub(crate) fn judged(answered: Result<String, Refusal>) -> String {
 }
 
 /// Words with a space between them, empty ones left out.
-fn joined(words: &[String]) -> String {
+pub(crate) fn joined(words: &[String]) -> String {
     let words: Vec<&str> = words
         .iter()
         .map(String::as_str)
@@ -159,7 +165,7 @@ fn why(record: &Record, given: Given, register: i64, settings: &[i64]) -> Option
 }
 
 /// What planning answers, and the lent plan after it.
-fn planned(answer: PlanAnswer, lent: &[u8]) -> String {
+pub(crate) fn planned(answer: PlanAnswer, lent: &[u8]) -> String {
     joined(&[
         verdict(answer.refusal, answer.field),
         answer.length.to_string(),

@@ -181,7 +181,7 @@ fn read(random: &mut Random) -> Event {
 }
 
 /// An event such as the chip waits for.
-fn awaited(random: &mut Random, chip: &Chip, own: u8) -> Event {
+fn awaited(random: &mut Random, chip: &Chip<REGISTERS>, own: u8) -> Event {
     match chip.phase {
         Phase::Idle => Event::Start,
         Phase::Address => Event::FromMaster(own + random.once_in(3) as u8),

@@ -1,6 +1,6 @@
 //! Records of the program `adv7194_run`, pairs of images for `board_compare` and
-//! inputs of `caption_plan` and `house_why`, and what they and the inputs of
-//! `house_plan` must give, by the plain implementation.
+//! inputs of `caption_plan`, `house_why` and `progressive_settings`, and what they
+//! and the inputs of `house_plan` must give, by the plain implementation.
 //!
 //! A record is a line of text; crates/adv7194_run/src/main.rt says what each
 //! kind asks and how it is answered. Nothing here is a program's or the library's.
@@ -12,6 +12,7 @@ pub mod house_images;
 pub mod inputs;
 pub mod make;
 pub mod pairs;
+pub mod progressive;
 
 mod captions;
 mod codings;

@@ -1,4 +1,5 @@
-//! Writes the stored cases of `adv7194_run`, `board_compare`, `caption_plan`, `house_plan` and `house_why`.
+//! Writes the stored cases of `adv7194_run`, `board_compare`, `caption_plan`, `house_plan`, `house_why` and
+//! `progressive_settings`.
 //!
 //! `cases DIRECTORY` writes into its folders of these names what is made, and what it must give; a
 //! file that stands there beside them is left as it is, but for the text of an image of the house setting's
@@ -19,7 +20,12 @@ fn main() -> io::Result<()> {
         for (name, image) in cases::house_images::images() {
             put(&directory.join("house_why"), name, &image)?;
         }
+        for (name, image) in cases::progressive::images::images() {
+            put(&directory.join("progressive_settings"), &name, &image)?;
+        }
         texts(&directory.join("caption_plan"), plain::caption_listing)?;
+        let settings = plain::progressive::progressive_settings;
+        texts(&directory.join("progressive_settings"), settings)?;
         texts(&directory.join("house_why"), plain::house_why)?;
         return texts(&directory.join("house_plan"), plain::house_plan);
     }

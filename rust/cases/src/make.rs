@@ -2,8 +2,8 @@
 
 use crate::codings::PLACES;
 use crate::{
-    captions, events, hex, house, known, known_plays, known_reads, limits, plans, plays, reasons,
-    signalling, together,
+    captions, events, hex, house, known, known_plays, known_reads, limits, plans, plays,
+    progressive, reasons, signalling, together,
 };
 use plain::registers::REGISTERS;
 
@@ -57,6 +57,10 @@ pub fn files() -> Vec<(&'static str, String)> {
         ("limits", text(limits::limits())),
         ("plans", text(plans::plans())),
         ("plays", text(plays::plays())),
+        ("progressive_plans", text(progressive::plans::plans())),
+        ("progressive_plays", text(progressive::plays::plays())),
+        ("progressive_ranges", text(progressive::ranges::ranges())),
+        ("progressive_reads", text(progressive::reads::reads())),
         ("reasons", text(reasons::reasons())),
         ("refused_together", text(together::refused_together())),
         ("signalling", text(signalling::signalling())),

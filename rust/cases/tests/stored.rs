@@ -9,10 +9,15 @@ const RECORDS: &str = "adv7194_run";
 /// The program that compares pairs of images.
 const PAIRS: &str = "board_compare";
 /// The programs that answer one input by a text: the text, and whether every input is made.
-const TEXTS: [(&str, Text, bool); 3] = [
+const TEXTS: [(&str, Text, bool); 4] = [
     ("caption_plan", plain::caption_listing, true),
     ("house_plan", plain::house_plan, false),
     ("house_why", plain::house_why, true),
+    (
+        "progressive_settings",
+        plain::progressive::progressive_settings,
+        true,
+    ),
 ];
 
 /// What an input must give.
@@ -91,11 +96,16 @@ fn inputs_are_as_made() {
     for (name, image) in cases::house_images::images() {
         held("house_why", name, &image);
     }
+    for (name, image) in cases::progressive::images::images() {
+        held("progressive_settings", &name, &image);
+    }
 }
 
 #[test]
 fn texts_are_the_plain_implementations() {
-    let made = cases::inputs::INPUTS.len() + cases::house_images::images().len();
+    let made = cases::inputs::INPUTS.len()
+        + cases::house_images::images().len()
+        + cases::progressive::images::images().len();
     let mut files = 0;
     for (program, text, all_made) in TEXTS {
         let inputs = stored(&directory(program)).expect("the stored cases");

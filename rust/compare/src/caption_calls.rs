@@ -1,6 +1,7 @@
 //! The calls of captions, made on both sides and compared.
 
-use crate::comparer::{Comparer, Player, GUARD_BYTE, GUARD_NUMBER};
+use crate::both::{self, plan_answer};
+use crate::comparer::{Comparer, GUARD_BYTE, GUARD_NUMBER};
 use crate::lent::Lent;
 use crate::tally::Entry;
 use adv7194::ffi;
@@ -23,6 +24,7 @@ impl Comparer {
         let (mut one, mut other, mut lent) = (before, before, given);
         let answer = plain::plan_captions(extended, ordinary, address, one.lend());
         let proved = ffi::plan_captions(lent.0.lend(), lent.1.lend(), address, other.lend());
+        let proved = plan_answer(proved);
         let show = |what: &str| {
             let given = format!("{extended:?} {ordinary:?} {address} room {}", plan.len());
             format!("plan_captions, {what}: {answer:?} {proved:?} for {given}")
@@ -42,12 +44,7 @@ impl Comparer {
         own: u32,
         plan: &[u8],
     ) -> (PlayAnswer, Lent<u8>) {
-        let player = Player {
-            entry: Entry::PlayCaptions,
-            plain: plain::play_captions,
-            proved: ffi::play_captions,
-        };
-        self.play_by(player, image, known, used, own, plan)
+        self.play_by(both::PLAY_CAPTIONS, image, known, used, own, plan)
     }
 
     /// Plays by both players: no plan is taken by both. Gives the answer of the one for captions.

@@ -1,5 +1,6 @@
 //! Captions: every character, number, count, room, address, length, byte and disturbed bit.
 
+use crate::both::TRANSACTION;
 use crate::cases::{self, Image, ADDRESS, BEFORE};
 use crate::comparer::Comparer;
 use crate::damage::packed;
@@ -199,7 +200,7 @@ fn disturbed(comparer: &mut Comparer, random: &mut Random) {
                 comparer.play_both(&image, random.bits(), ADDRESS, ADDRESS, &flipped);
             }
         }
-        sending::every(comparer, &plan);
+        sending::every(comparer, TRANSACTION, &plan);
     }
 }
 

@@ -1,11 +1,11 @@
 //! One call, made on both sides and compared.
 
+use crate::both::{self, Both};
 use crate::lent::Lent;
 use crate::reason_tally::ReasonTally;
 use crate::tally::{Entry, Tally};
 use adv7194::ffi;
-use plain::registers::READ_ONLY;
-use plain::{CompareAnswer, PlanAnswer, PlayAnswer, ReadAnswer, TransactionAnswer, ALL_KNOWN};
+use plain::{PlanAnswer, PlayAnswer, ReadAnswer, TransactionAnswer, ALL_KNOWN};
 
 /// Guard bytes.
 pub(crate) const GUARD_BYTE: u8 = 0xC3;
@@ -13,17 +13,6 @@ pub(crate) const GUARD_BYTE: u8 = 0xC3;
 pub(crate) const GUARD_NUMBER: i32 = -0x3C5A_1234;
 /// The most differences that are shown.
 const MOST_SHOWN: u64 = 20;
-
-/// A player of plans on both sides.
-#[derive(Clone, Copy)]
-pub(crate) struct Player {
-    /// Which it is.
-    pub(crate) entry: Entry,
-    /// The plain one.
-    pub(crate) plain: fn(&mut [u8], u64, u32, u32, &[u8]) -> PlayAnswer,
-    /// The archive's.
-    pub(crate) proved: fn(&mut [u8], u64, u32, u32, &[u8]) -> ffi::PlayAnswer,
-}
 
 /// Makes calls on both sides, and counts answers and differences.
 #[derive(Default)]
@@ -69,15 +58,27 @@ impl Comparer {
         limit: u32,
         plan: &[u8],
     ) -> (PlanAnswer, Lent<u8>) {
+        self.plan_by(both::PLAN, (image, known), settings, (address, limit), plan)
+    }
+
+    /// Plans on a chip.
+    pub(crate) fn plan_by(
+        &mut self,
+        planner: Both<both::Plan>,
+        (image, known): (&[u8], u64),
+        settings: &[i32],
+        (address, limit): (u32, u32),
+        plan: &[u8],
+    ) -> (PlanAnswer, Lent<u8>) {
         let given = (
             Lent::new(image, GUARD_BYTE),
             Lent::new(settings, GUARD_NUMBER),
         );
         let before = Lent::new(plan, GUARD_BYTE);
         let (mut one, mut other, mut lent) = (before, before, given);
-        let answer = plain::plan(image, known, settings, address, limit, one.lend());
+        let answer = (planner.plain)(image, known, settings, address, limit, one.lend());
         let (image_lent, settings_lent) = (lent.0.lend(), lent.1.lend());
-        let proved = ffi::plan(
+        let proved = (planner.proved)(
             image_lent,
             known,
             settings_lent,
@@ -88,10 +89,12 @@ impl Comparer {
         let show = |what: &str| {
             let board = format!("{image:02X?} known {known:X}");
             let given = format!("{settings:?} {address} limit {limit} room {}", plan.len());
-            format!("plan, {what}: {answer:?} {proved:?} for {board} {given}")
+            let name = planner.entry.name();
+            format!("{name}, {what}: {answer:?} {proved:?} for {board} {given}")
         };
         self.expect(lent == given, || show("given memory"));
-        self.planned(Entry::Plan, (answer, proved), (&before, &one, &other), show);
+        let plans = (&before, &one, &other);
+        self.planned(planner.entry, (answer, proved), plans, show);
         (answer, other)
     }
 
@@ -99,12 +102,12 @@ impl Comparer {
     pub(crate) fn planned(
         &mut self,
         entry: Entry,
-        (answer, proved): (PlanAnswer, ffi::PlanAnswer),
+        (answer, proved): (PlanAnswer, PlanAnswer),
         (before, one, other): (&Lent<u8>, &Lent<u8>, &Lent<u8>),
         show: impl Fn(&str) -> String,
     ) {
         self.count(entry, answer.refusal, answer.field);
-        self.expect(same_plan(answer, proved), || show("answers"));
+        self.expect(answer == proved, || show("answers"));
         self.expect(one == other, || show("lent plan"));
         if proved.refusal != 0 {
             let zero = [proved.length, proved.transactions, proved.bus_bytes] == [0; 3];
@@ -126,18 +129,13 @@ impl Comparer {
         own: u32,
         plan: &[u8],
     ) -> (PlayAnswer, Lent<u8>) {
-        let player = Player {
-            entry: Entry::Play,
-            plain: plain::play,
-            proved: ffi::play,
-        };
-        self.play_by(player, image, known, used, own, plan)
+        self.play_by(both::PLAY, image, known, used, own, plan)
     }
 
     /// Plays by a player.
     pub(crate) fn play_by(
         &mut self,
-        player: Player,
+        player: Both<both::Play>,
         image: &[u8],
         known: u64,
         used: u32,
@@ -179,34 +177,34 @@ impl Comparer {
         index: u32,
         data: &[u8],
     ) -> (TransactionAnswer, Lent<u8>) {
+        self.transaction_by(both::TRANSACTION, plan, index, data)
+    }
+
+    /// Asks for a transaction of a chip's plan.
+    pub(crate) fn transaction_by(
+        &mut self,
+        walker: Both<both::Transaction>,
+        plan: &[u8],
+        index: u32,
+        data: &[u8],
+    ) -> (TransactionAnswer, Lent<u8>) {
         let given = Lent::new(plan, GUARD_BYTE);
         let before = Lent::new(data, GUARD_BYTE);
         let (mut one, mut other, mut lent) = (before, before, given);
-        let answer = plain::transaction(plan, index, one.lend());
-        let proved = ffi::transaction(lent.lend(), index, other.lend());
-        let a = [
-            answer.refusal,
-            answer.field,
-            answer.subaddress,
-            answer.count,
-        ];
-        let b = [
-            proved.refusal,
-            proved.field,
-            proved.subaddress,
-            proved.count,
-        ];
+        let answer = (walker.plain)(plan, index, one.lend());
+        let proved = (walker.proved)(lent.lend(), index, other.lend());
         let show = |what: &str| {
-            let room = data.len();
-            format!("transaction, {what}: {a:?} {b:?} for {plan:02X?} {index} room {room}")
+            let (name, room) = (walker.entry.name(), data.len());
+            format!("{name}, {what}: {answer:?} {proved:?} for {plan:02X?} {index} room {room}")
         };
-        self.count(Entry::Transaction, answer.refusal, answer.field);
-        self.expect(a == b, || show("answers"));
+        self.count(walker.entry, answer.refusal, answer.field);
+        self.expect(answer == proved, || show("answers"));
         self.expect(one == other, || show("lent data"));
         self.expect(lent == given, || show("given memory"));
-        if b[0] != 0 {
+        if proved.refusal != 0 {
             self.expect(other == before, || show("data after a refusal"));
-            self.expect(b[2..] == [0; 2], || show("numbers after a refusal"));
+            let zero = [proved.subaddress, proved.count] == [0; 2];
+            self.expect(zero, || show("numbers after a refusal"));
         } else {
             let past = proved.count as usize..;
             let kept = other.get().get(past.clone()) == data.get(past);
@@ -217,22 +215,32 @@ impl Comparer {
 
     /// Reads. `settings` is what the lent settings hold before.
     pub fn read(&mut self, image: &[u8], known: u64, settings: &[i32]) -> (ReadAnswer, Lent<i32>) {
+        self.read_by(both::READ, image, known, settings)
+    }
+
+    /// Reads a chip.
+    pub(crate) fn read_by(
+        &mut self,
+        reader: Both<both::Read>,
+        image: &[u8],
+        known: u64,
+        settings: &[i32],
+    ) -> (ReadAnswer, Lent<i32>) {
         let given = Lent::new(image, GUARD_BYTE);
         let before = Lent::new(settings, GUARD_NUMBER);
         let (mut one, mut other, mut lent) = (before, before, given);
-        let answer = plain::read(image, known, one.lend());
-        let proved = ffi::read(lent.lend(), known, other.lend());
-        let a = [answer.refusal, answer.field];
-        let b = [proved.refusal, proved.field];
+        let answer = (reader.plain)(image, known, one.lend());
+        let proved = (reader.proved)(lent.lend(), known, other.lend());
         let show = |what: &str| {
             let given = format!("{image:02X?} known {known:X} length {}", settings.len());
-            format!("read, {what}: {a:?} {b:?} for {given}")
+            let name = reader.entry.name();
+            format!("{name}, {what}: {answer:?} {proved:?} for {given}")
         };
-        self.count(Entry::Read, answer.refusal, answer.field);
-        self.expect(a == b, || show("answers"));
+        self.count(reader.entry, answer.refusal, answer.field);
+        self.expect(answer == proved, || show("answers"));
         self.expect(one == other, || show("lent settings"));
         self.expect(lent == given, || show("given memory"));
-        if b[0] != 0 {
+        if proved.refusal != 0 {
             self.expect(other == before, || show("settings after a refusal"));
         }
         (answer, other)
@@ -254,46 +262,4 @@ impl Comparer {
             self.expect(other == before, || show("settings after a refusal"));
         }
     }
-
-    /// Compares two images. Nothing may differ exactly where the bytes are the
-    /// same but for register 34's.
-    pub fn compare(&mut self, a: &[u8], b: &[u8]) -> CompareAnswer {
-        let given = (Lent::new(a, GUARD_BYTE), Lent::new(b, GUARD_BYTE));
-        let mut lent = given;
-        let answer = plain::compare(a, b);
-        let proved = ffi::compare(lent.0.lend(), lent.1.lend());
-        let show =
-            |what: &str| format!("compare, {what}: {answer:?} {proved:?} for {a:02X?} {b:02X?}");
-        self.count(Entry::Compare, answer.refusal, answer.field);
-        self.expect(same_comparison(answer, proved), || show("answers"));
-        self.expect(lent == given, || show("given memory"));
-        let nothing = proved.fields == 0 && proved.registers == 0;
-        if proved.refusal != 0 {
-            let zero = nothing && proved.readable == 0;
-            self.expect(zero, || show("numbers after a refusal"));
-        } else {
-            let mut places = a.iter().zip(b).enumerate();
-            let equal = places.all(|(register, (a, b))| a == b || register == READ_ONLY);
-            self.expect(nothing == equal, || show("equal images"));
-        }
-        answer
-    }
-}
-
-/// Whether two answers of comparing are the same.
-fn same_comparison(plain: CompareAnswer, proved: ffi::CompareAnswer) -> bool {
-    plain.refusal == proved.refusal
-        && plain.field == proved.field
-        && plain.readable == proved.readable
-        && plain.fields == proved.fields
-        && plain.registers == proved.registers
-}
-
-/// Whether two answers of planning are the same.
-fn same_plan(plain: PlanAnswer, proved: ffi::PlanAnswer) -> bool {
-    plain.refusal == proved.refusal
-        && plain.field == proved.field
-        && plain.length == proved.length
-        && plain.transactions == proved.transactions
-        && plain.bus_bytes == proved.bus_bytes
 }

@@ -1,10 +1,11 @@
-//! Compares the proved archive with the plain implementation.
+//! Compares the proved archives with the plain implementation.
 //!
 //! `compare --cases N --seed S`. The last line is `N cases, 0 differences`; the
 //! status is 1 where there is a difference.
 #![forbid(unsafe_code)]
 
 use compare::comparer::Comparer;
+use compare::progressive;
 use compare::seeded::Seeded;
 use compare::{systematic, windows};
 use std::process::ExitCode;
@@ -50,6 +51,8 @@ fn compare(cases: u64, seed: u64) -> u64 {
         "captions: {cases} cases, {} accepted; {} calls in all",
         captions.accepted, comparer.calls
     );
+    let half = progressive(&mut comparer, cases, seed);
+    comparer.expect(half, || "less than half accepted or flipping".to_string());
     let missing = comparer.tally.print();
     comparer.expect(missing == 0, || format!("{missing} refusals never came"));
     let missing = comparer.reasons.print();
@@ -57,6 +60,24 @@ fn compare(cases: u64, seed: u64) -> u64 {
     let half = 2 * accepted >= cases;
     comparer.expect(half, || "less than half accepted".to_string());
     comparer.differences
+}
+
+/// Compares the ADV7195. Whether at least half of the seeded cases are accepted, and an eighth of them are plans that
+/// change interpolation.
+fn progressive(comparer: &mut Comparer, cases: u64, seed: u64) -> bool {
+    progressive::systematic::all(comparer, seed);
+    let searched = progressive::windows::all(comparer);
+    let mut seeded = Seeded::new(seed);
+    for _ in 0..cases {
+        seeded.progressive(comparer);
+    }
+    let (accepted, flips) = (seeded.accepted, seeded.flips);
+    println!("ADV7195: exact search: {searched} cases");
+    println!(
+        "ADV7195: {cases} cases, {accepted} accepted, {flips} of them plans that change interpolation; {} calls in all",
+        comparer.calls
+    );
+    2 * accepted >= cases && 8 * flips >= cases
 }
 
 fn main() -> ExitCode {

@@ -1,5 +1,6 @@
 //! From a plan round to the settings again.
 
+use crate::both::TRANSACTION;
 use crate::cases::{Image, Numbers, ADDRESS, BEFORE, ROOM};
 use crate::comparer::Comparer;
 use crate::flags::FIELDS;
@@ -58,7 +59,7 @@ fn played(comparer: &mut Comparer, made: &Made) -> After {
         format!("a plan isn't played: {image:02X?} {plan:02X?}")
     });
     let after: Image = lent.get().try_into().expect("an image's length");
-    let sent = sending::sent(comparer, image, plan);
+    let sent = sending::sent(comparer, TRANSACTION, image, plan);
     comparer.expect(sent == (after, made.cost.0, made.cost.1), || {
         format!("sent otherwise than played: {image:02X?} {plan:02X?}")
     });

@@ -1,5 +1,6 @@
 //! Seeded cases.
 
+use crate::both::TRANSACTION;
 use crate::cases::{self, Numbers, BEFORE, ROOM};
 use crate::comparer::Comparer;
 use crate::damage;
@@ -31,6 +32,8 @@ pub struct Seeded {
     pub(crate) random: Random,
     /// Cases that were accepted.
     pub accepted: u64,
+    /// Plans of the ADV7195 among them that change interpolation.
+    pub flips: u64,
 }
 
 impl Seeded {
@@ -39,6 +42,7 @@ impl Seeded {
         Seeded {
             random: Random::new(seed),
             accepted: 0,
+            flips: 0,
         }
     }
 
@@ -139,7 +143,7 @@ impl Seeded {
             used
         };
         let given = resized(&image, self.length(REGISTERS), 0);
-        sending::asked(comparer, &mut self.random, &plan);
+        sending::asked(comparer, TRANSACTION, &mut self.random, &plan);
         let known = flags::flags(&mut self.random, 0);
         comparer.play(&given, known, used, own, &plan).0.refusal == 0
     }

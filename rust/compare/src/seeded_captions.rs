@@ -1,5 +1,6 @@
 //! Seeded cases of captions.
 
+use crate::both::TRANSACTION;
 use crate::captions::{three, with_captions};
 use crate::captions::{
     EXTENDED, FIRSTS, LAST, MOST_CHARACTERS, MOST_ROOM, NO_PAIRS, ORDINARY, WIDE,
@@ -94,7 +95,7 @@ impl Seeded {
         comparer.expect(taken, || format!("captions aren't played: {plan:02X?}"));
         let after: Image = after.get().try_into().expect("an image's length");
         let cost = (after, answer.bus_bytes, answer.transactions);
-        let sent = sending::sent(comparer, &image, plan);
+        let sent = sending::sent(comparer, TRANSACTION, &image, plan);
         comparer.expect(sent == cost, || {
             format!("sent otherwise than played: {plan:02X?}")
         });

@@ -1,6 +1,7 @@
 //! Systematic cases: every length, address, bit, byte and number near a limit.
 
 use crate::boards;
+use crate::both::TRANSACTION;
 use crate::captions;
 use crate::cases::{self, Image, Numbers, ADDRESS, BEFORE, ROOM};
 use crate::comparer::Comparer;
@@ -145,14 +146,14 @@ fn plans(comparer: &mut Comparer, random: &mut Random) {
         for more in [0x00, 0x01, 0xFF] {
             let resized = resized(plan, length, more);
             comparer.play(&image, known, ADDRESS, ADDRESS, &resized);
-            sending::every(comparer, &resized);
+            sending::every(comparer, TRANSACTION, &resized);
         }
     }
     for place in 0..8 * plan.len() {
         let mut flipped = plan.to_vec();
         flipped[place / 8] ^= 0x80 >> (place % 8);
         comparer.play(&image, known, ADDRESS, ADDRESS, &flipped);
-        sending::every(comparer, &flipped);
+        sending::every(comparer, TRANSACTION, &flipped);
     }
 }
 
@@ -167,7 +168,7 @@ fn short_plans(comparer: &mut Comparer, random: &mut Random) {
         let known = random.bits();
         comparer.play(&image, known, ADDRESS, ADDRESS, &[byte]);
         comparer.play(&image, known, ADDRESS, ADDRESS + 2, &[byte]);
-        sending::every(comparer, &[byte]);
+        sending::every(comparer, TRANSACTION, &[byte]);
         // One transaction of one byte, or of four, at each subaddress.
         let second = (byte & 0x0F) << 4;
         comparer.play(

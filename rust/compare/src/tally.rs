@@ -1,5 +1,7 @@
 //! Which refusals came, and which can.
 
+use plain::progressive::fields as progressive;
+
 /// The entry points.
 #[derive(Clone, Copy, PartialEq, Eq)]
 pub enum Entry {
@@ -23,6 +25,14 @@ pub enum Entry {
     PlayCaptions,
     /// Reading captions.
     ReadCaptions,
+    /// Planning for the ADV7195.
+    ProgressivePlan,
+    /// Playing on it.
+    ProgressivePlay,
+    /// Reading it.
+    ProgressiveRead,
+    /// A transaction of one of its plans.
+    ProgressiveTransaction,
 }
 
 impl Entry {
@@ -33,7 +43,7 @@ impl Entry {
 }
 
 /// How many there are.
-const ENTRIES: usize = 10;
+const ENTRIES: usize = 14;
 /// All of them.
 const ALL: [Entry; ENTRIES] = [
     Entry::Plan,
@@ -46,6 +56,10 @@ const ALL: [Entry; ENTRIES] = [
     Entry::PlanCaptions,
     Entry::PlayCaptions,
     Entry::ReadCaptions,
+    Entry::ProgressivePlan,
+    Entry::ProgressivePlay,
+    Entry::ProgressiveRead,
+    Entry::ProgressiveTransaction,
 ];
 /// Their names, in that order.
 const NAMES: [&str; ENTRIES] = [
@@ -59,11 +73,15 @@ const NAMES: [&str; ENTRIES] = [
     "plan_captions",
     "play_captions",
     "read_captions",
+    "7195_plan",
+    "7195_play",
+    "7195_read",
+    "7195_transaction",
 ];
 /// Numbers of refusals, none among them.
 const REFUSALS: usize = 12;
 /// Numbers of fields, none among them.
-const FIELDS: usize = 30;
+const FIELDS: usize = progressive::FIELDS + 1;
 /// The refusal of a number outside its range.
 const RANGE: u32 = 3;
 /// The refusal of an unknown register.
@@ -131,6 +149,24 @@ const PLAN_CAPTIONS: [(u32, u32); 3] = [(2, 0), (3, 29), (10, 0)];
 /// Reading captions.
 const READ_CAPTIONS: [(u32, u32); 4] = [(1, 0), (3, 29), (UNKNOWN, 29), (4, 29)];
 
+/// Planning for the ADV7195, but for refusal 3 at a field.
+const PROGRESSIVE_PLAN: [(u32, u32); 6] = [(1, 0), (2, 0), (RANGE, 0), (4, 1), (4, 2), (10, 0)];
+/// Reading it.
+const PROGRESSIVE_READ: [(u32, u32); 12] = [
+    (1, 0),
+    (RANGE, 0),
+    (4, 1),
+    (4, 2),
+    (4, 4),
+    (4, 6),
+    (RANGE, 14),
+    (RANGE, 15),
+    (4, 19),
+    (4, 20),
+    (4, 25),
+    (4, 27),
+];
+
 /// Counts by entry, refusal and field.
 pub struct Tally([[[u64; FIELDS]; REFUSALS]; ENTRIES]);
 
@@ -151,7 +187,7 @@ impl Tally {
 
     /// Prints the table, and gives how many that can occur never came.
     pub fn print(&self) -> u64 {
-        println!("entry         refusal field      count");
+        println!("entry            refusal field      count");
         let mut missing = 0;
         for entry in ALL {
             for refusal in 0..REFUSALS as u32 {
@@ -161,7 +197,7 @@ impl Tally {
                     if count > 0 || can {
                         let name = entry.name();
                         let note = if count == 0 { "  NEVER CAME" } else { "" };
-                        println!("{name:13} {refusal:7} {field:5} {count:10}{note}");
+                        println!("{name:16} {refusal:7} {field:5} {count:10}{note}");
                     }
                     missing += (count == 0 && can) as u64;
                 }
@@ -183,21 +219,31 @@ fn planning((refusal, field): (u32, u32)) -> bool {
     PLAN.contains(&(refusal, field)) || refusal == RANGE && field <= LAST_SET
 }
 
+/// Whether planning for the ADV7195 can answer this. Refusal 3 can occur at every number that has
+/// a setting.
+fn progressive_planning((refusal, field): (u32, u32)) -> bool {
+    let number = progressive::TABLE.get((field as usize).wrapping_sub(1));
+    let set = number.is_some_and(|number| number.settings() > 0);
+    PROGRESSIVE_PLAN.contains(&(refusal, field)) || refusal == RANGE && set
+}
+
 /// Whether an entry can answer this. 0 with 0 is an accepted call.
 fn can_be(entry: Entry, refusal: u32, field: u32) -> bool {
     let pair = (refusal, field);
     let listed = match entry {
         Entry::Plan => planning(pair) || PLAN_ONLY.contains(&pair),
         Entry::Why => planning(pair),
-        Entry::Play | Entry::PlayCaptions => PLAY.contains(&pair),
+        Entry::Play | Entry::PlayCaptions | Entry::ProgressivePlay => PLAY.contains(&pair),
         Entry::Read => {
             READ.contains(&pair) || refusal == UNKNOWN && FIRST_OF_REGISTER.contains(&field)
         }
         Entry::House => HOUSE.contains(&pair),
-        Entry::Transaction => TRANSACTION.contains(&pair),
+        Entry::Transaction | Entry::ProgressiveTransaction => TRANSACTION.contains(&pair),
         Entry::Compare => COMPARE.contains(&pair),
         Entry::PlanCaptions => PLAN_CAPTIONS.contains(&pair),
         Entry::ReadCaptions => READ_CAPTIONS.contains(&pair),
+        Entry::ProgressivePlan => progressive_planning(pair),
+        Entry::ProgressiveRead => PROGRESSIVE_READ.contains(&pair),
     };
     listed || pair == (0, 0)
 }

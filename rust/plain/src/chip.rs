@@ -1,6 +1,6 @@
 //! The chip at its events on the bus.
 
-use crate::registers::{span, READ_ONLY, REGISTERS};
+use crate::registers::{self, span, READ_ONLY};
 
 /// What happens on the bus.
 #[derive(Clone, Copy, Debug, PartialEq, Eq)]
@@ -46,12 +46,10 @@ pub enum Acknowledge {
 
 /// What the master reads where the chip doesn't send.
 pub const RELEASED: u8 = 0xFF;
-/// The last register.
-const LAST: usize = REGISTERS - 1;
 
 /// A chip on the bus.
 #[derive(Clone, Debug)]
-pub struct Chip {
+pub struct Chip<const REGISTERS: usize> {
     /// Its registers.
     pub registers: [u8; REGISTERS],
     /// Flags: bit r is set where register r is known. A stored byte makes it so.
@@ -62,17 +60,35 @@ pub struct Chip {
     pub phase: Phase,
     // Its own even address.
     own: u8,
+    // Bit r is set where data for register r are acknowledged and dropped.
+    dropped: u64,
 }
 
-impl Chip {
-    /// A fresh chip: idle, pointer 00.
-    pub fn fresh(own: u8, registers: [u8; REGISTERS], known: u64) -> Chip {
+impl Chip<{ registers::REGISTERS }> {
+    /// A fresh ADV7194: idle, pointer 00.
+    pub fn fresh(own: u8, registers: [u8; registers::REGISTERS], known: u64) -> Self {
+        Chip::dropping(span(READ_ONLY, 1), own, registers, known)
+    }
+}
+
+impl<const REGISTERS: usize> Chip<REGISTERS> {
+    // The last register.
+    const LAST: usize = REGISTERS - 1;
+
+    /// A fresh chip that drops data for some registers.
+    pub(crate) fn dropping(
+        dropped: u64,
+        own: u8,
+        registers: [u8; REGISTERS],
+        known: u64,
+    ) -> Chip<REGISTERS> {
         Chip {
             registers,
             known,
             pointer: 0,
             phase: Phase::Idle,
             own,
+            dropped,
         }
     }
 
@@ -115,12 +131,12 @@ impl Chip {
         match self.phase {
             Phase::Address if byte == self.own => Some(Phase::Subaddress),
             Phase::Address if Some(byte) == self.own.checked_add(1) => Some(Phase::Sending),
-            Phase::Subaddress if usize::from(byte) <= LAST => {
+            Phase::Subaddress if usize::from(byte) <= Self::LAST => {
                 self.pointer = byte.into();
                 Some(Phase::Data)
             }
-            Phase::Data if self.pointer <= LAST => {
-                if self.pointer != READ_ONLY {
+            Phase::Data if self.pointer <= Self::LAST => {
+                if self.dropped >> self.pointer & 1 == 0 {
                     self.registers[self.pointer] = byte;
                     self.known |= span(self.pointer, 1);
                 }
@@ -133,8 +149,8 @@ impl Chip {
 
     /// The pointer's register, and the pointer one further, both at most the last.
     fn send(&mut self) -> u8 {
-        let at = self.pointer.min(LAST);
-        self.pointer = (at + 1).min(LAST);
+        let at = self.pointer.min(Self::LAST);
+        self.pointer = (at + 1).min(Self::LAST);
         self.registers[at]
     }
 }

@@ -1,6 +1,6 @@
 //! Planning, playing, reading back and comparing settings of one ADV7194, why a
 //! register is sent, and its captions, in plain Rust. All but comparing take a board of which only
-//! some registers may be known.
+//! some registers may be known. The module [`progressive`] has the ADV7195.
 //!
 //! Written from the papers alone. It shares no code and no table with the
 //! proved library: it is what that library is compared with, and timed against.
@@ -13,6 +13,7 @@ pub mod fields;
 pub mod gamma;
 pub mod least;
 pub mod order;
+pub mod progressive;
 pub mod refusal;
 pub mod registers;
 pub mod search;

@@ -1,8 +1,5 @@
 //! Packing: fields most significant bit first, no gaps.
 
-use crate::least::List;
-use crate::registers::REGISTERS;
-
 /// Bits of the transaction count, of a subaddress and of a data count.
 pub(crate) const HEAD_BITS: u32 = 6;
 /// Bits of a byte.
@@ -75,19 +72,24 @@ pub(crate) fn shift(to: &mut [u8], from: &[u8], pending: &mut u64, held: u32) {
     }
 }
 
-/// Packs a list with the bytes of `image` into the whole of `plan`.
+/// Packs so many transactions into the whole of `plan`: the first register of
+/// each, and its data.
 #[inline]
-pub(crate) fn pack(plan: &mut [u8], list: List, image: &[u8; REGISTERS]) {
+pub(crate) fn pack<'a>(
+    plan: &mut [u8],
+    transactions: u32,
+    list: impl Iterator<Item = (u32, &'a [u8])>,
+) {
     let mut packer = Packer {
         plan,
         full: 0,
         pending: 0,
         held: 0,
     };
-    packer.put(list.transactions(), HEAD_BITS);
-    for (start, count) in list.spans() {
-        packer.put(start << HEAD_BITS | count, 2 * HEAD_BITS);
-        packer.put_data(&image[start as usize..][..count as usize]);
+    packer.put(transactions, HEAD_BITS);
+    for (start, data) in list {
+        packer.put(start << HEAD_BITS | data.len() as u32, 2 * HEAD_BITS);
+        packer.put_data(data);
     }
     packer.finish();
 }

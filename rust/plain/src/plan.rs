@@ -60,17 +60,18 @@ fn planned(
     let board = Board::of(image, known)?;
     check_address(address)?;
     let Needs { wanted, list, .. } = Needs::of(board, settings, limit)?;
-    let (transactions, data) = (list.transactions(), list.data());
-    let length = pack::length(transactions, data);
+    let (transactions, bytes) = (list.transactions(), list.data());
+    let length = pack::length(transactions, bytes);
     let room = plan
         .get_mut(..length)
         .ok_or(Refusal::bare(refusal::PLAN_ROOM))?;
-    pack::pack(room, list, &wanted);
+    let data = |(start, count)| (start, &wanted[start as usize..][..count as usize]);
+    pack::pack(room, transactions, list.spans().map(data));
     Ok(PlanAnswer {
         refusal: 0,
         field: 0,
         length: length as u32,
         transactions,
-        bus_bytes: least::bus_bytes(transactions, data),
+        bus_bytes: least::bus_bytes(transactions, bytes),
     })
 }

@@ -4,7 +4,7 @@ use crate::cut::LEAST_LIMIT;
 use crate::fields::number;
 use crate::registers::REGISTERS;
 
-/// An image isn't 54 bytes.
+/// An image isn't a byte for each register: 54, or 40 on the ADV7195.
 pub const IMAGE_LENGTH: u32 = 1;
 /// A bus address is odd or above 254.
 pub const ADDRESS: u32 = 2;

@@ -21,6 +21,15 @@ pub struct TransactionAnswer {
     pub count: u32,
 }
 
+/// In which order a plan's transactions may stand.
+#[derive(Clone, Copy, PartialEq, Eq)]
+pub(crate) enum Order {
+    /// Each starts past the one before.
+    Ascending,
+    /// Any order, and registers may be written again.
+    Any,
+}
+
 /// A transaction with its data, at the front of the array.
 struct Found {
     subaddress: usize,
@@ -31,7 +40,17 @@ struct Found {
 /// Writes the data of transaction `index` to the front of `data`. Checks 9 (the
 /// packing alone), 3 for an index past the last transaction, then 10.
 pub fn transaction(plan: &[u8], index: u32, data: &mut [u8]) -> TransactionAnswer {
-    found(plan, index, data).unwrap_or_else(|refused| TransactionAnswer {
+    transaction_in(Order::Ascending, plan, index, data)
+}
+
+/// The same for plans whose transactions stand in an order.
+pub(crate) fn transaction_in(
+    order: Order,
+    plan: &[u8],
+    index: u32,
+    data: &mut [u8],
+) -> TransactionAnswer {
+    found(order, plan, index, data).unwrap_or_else(|refused| TransactionAnswer {
         refusal: refused.refusal,
         field: refused.field,
         ..TransactionAnswer::default()
@@ -39,8 +58,13 @@ pub fn transaction(plan: &[u8], index: u32, data: &mut [u8]) -> TransactionAnswe
 }
 
 /// The transaction, with its refusal as an error.
-fn found(plan: &[u8], index: u32, data: &mut [u8]) -> Result<TransactionAnswer, Refusal> {
-    let found = search(plan, index).ok_or(Refusal::bare(refusal::PLAN_BYTES))?;
+fn found(
+    order: Order,
+    plan: &[u8],
+    index: u32,
+    data: &mut [u8],
+) -> Result<TransactionAnswer, Refusal> {
+    let found = search(order, plan, index).ok_or(Refusal::bare(refusal::PLAN_BYTES))?;
     let found = found.ok_or(Refusal::bare(refusal::RANGE))?;
     let room = data
         .get_mut(..found.count)
@@ -55,7 +79,7 @@ fn found(plan: &[u8], index: u32, data: &mut [u8]) -> Result<TransactionAnswer, 
 }
 
 /// Goes through the whole plan; nothing where its bytes break the packing.
-fn search(plan: &[u8], index: u32) -> Option<Option<Found>> {
+fn search(order: Order, plan: &[u8], index: u32) -> Option<Option<Found>> {
     let mut unpacker = Unpacker::new(plan);
     let transactions = unpacker.head()?;
     let mut found = None;
@@ -63,7 +87,8 @@ fn search(plan: &[u8], index: u32) -> Option<Option<Found>> {
     for place in 0..transactions {
         let subaddress = unpacker.head()? as usize;
         let count = unpacker.head()? as usize;
-        if count == 0 || subaddress < last_end {
+        let ascends = order == Order::Any || subaddress >= last_end;
+        if count == 0 || !ascends {
             return None;
         }
         let mut data = [0; MOST_DATA];

@@ -131,7 +131,7 @@ fn unknown_in_a_gap() {
 }
 
 /// A chip after a packed plan, transaction by transaction.
-fn sent(start: [u8; REGISTERS], known: u64, plan: &[u8]) -> Chip {
+fn sent(start: [u8; REGISTERS], known: u64, plan: &[u8]) -> Chip<REGISTERS> {
     let mut chip = Chip::fresh(OWN as u8, start, known);
     let mut data = [0; MOST_DATA];
     for index in 0.. {

@@ -1,7 +1,7 @@
 -- `adv7194_read` meets its contract: it is the library's reading, answered in numbers. Assumes nothing.
 use mathlib.Core.Path.{ap, _∙_}
 use borrow.Author.Needs.{needs}
-use Rattle.adv7194_answers.specs.Answers.{readAnswer}
+use Rattle.answers.specs.Answers.{readAnswer}
 use Rattle.adv7194_c.proofs.adv7194_read.Statement.{statement}
 use Rattle.adv7194_c.proofs.adv7194_read.Tie as tie
 

@@ -1,7 +1,7 @@
 -- `adv7194_transaction` meets its contract: it is the library's, answered in numbers. Assumes nothing.
 use mathlib.Core.Path.{ap, _∙_}
 use borrow.Author.Needs.{needs}
-use Rattle.adv7194_answers.specs.Answers.{transactionAnswer}
+use Rattle.answers.specs.Answers.{transactionAnswer}
 use Rattle.adv7194_c.proofs.adv7194_transaction.Statement.{statement}
 use Rattle.adv7194_c.proofs.adv7194_transaction.Tie as tie
 

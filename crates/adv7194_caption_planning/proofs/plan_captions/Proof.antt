@@ -7,7 +7,7 @@ use denote.Ref.{now}
 use borrow.Author.Needs.{needs}
 use borrow.Author.Tests.{not-true, not-false}
 use Rattle.refusals.specs.Verdict.{refusedAt}
-use Rattle.adv7194_bus.specs.Address.{addressRight}
+use Rattle.bus.specs.Address.{addressRight}
 use Rattle.adv7194_captions.specs.Pairs.{captionField, pairsRight}
 use Rattle.adv7194_captions.specs.Planning.{captionPlanning}
 use Rattle.adv7194_captions.proofs.RowLaws.{wrong-address, wrong-pairs, right-pairs, refused-left, packed-left}

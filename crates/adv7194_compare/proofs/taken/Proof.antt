@@ -2,8 +2,8 @@
 use mathlib.Core.Path.{sym, ap, _∙_}
 use lib.ListN.{length}
 use borrow.Author.Needs.{needs}
-use Rattle.adv7194_reading.specs.declared.answers.Read.{Read}
-use Rattle.adv7194_reading.specs.Answers.{readAs}
+use Rattle.field_table.specs.declared.Checked.{Checked}
+use Rattle.field_table.specs.Answers.{checkedAs}
 use Rattle.adv7194_compare.specs.Compare.{isGood}
 use Rattle.adv7194_compare.proofs.ReadableLaws.{taken-good, taken-left}
 use Rattle.adv7194_compare.proofs.taken.Statement.{statement}
@@ -13,7 +13,8 @@ returns : tie.Need-returns
 returns c =
     let r = c .before .before .before .read in
     let a = c .before .before .before .before .before .before .args in (
-      sym (ap (λ (x : Read). isGood (readAs x)) (c .enum-told2 .given .1)) ∙ ap isGood (r .ensures .0) ∙ taken-good (a .image .now) (length (a .numbers .now)),
+      sym (ap (λ (x : Checked). isGood (checkedAs x)) (c .enum-told2 .given .1)) ∙ ap isGood (r .ensures .0)
+          ∙ taken-good (a .image .now) (length (a .numbers .now)),
       r .ensures .1 .0 ∙ taken-left (a .image .now) (a .numbers .now),
     )
 
@@ -21,7 +22,8 @@ returns-2 : tie.Need-returns-2
 returns-2 c =
     let r = c .before .before .before .read in
     let a = c .before .before .before .before .before .before .args in (
-      sym (ap (λ (x : Read). isGood (readAs x)) (c .enum-told .given .1)) ∙ ap isGood (r .ensures .0) ∙ taken-good (a .image .now) (length (a .numbers .now)),
+      sym (ap (λ (x : Checked). isGood (checkedAs x)) (c .enum-told .given .1)) ∙ ap isGood (r .ensures .0)
+          ∙ taken-good (a .image .now) (length (a .numbers .now)),
       r .ensures .1 .0 ∙ taken-left (a .image .now) (a .numbers .now),
     )
 

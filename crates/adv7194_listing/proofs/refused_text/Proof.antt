@@ -8,9 +8,9 @@ use Rattle.listing.specs.Lines.{refusedLine}
 use Rattle.listing.specs.Written.{lineOf}
 use Rattle.listing.proofs.LineLaws.{line-long, line-part}
 use Rattle.refusals.specs.Refusal.{numberOf}
-use Rattle.adv7194_names.specs.Put.{textWidth}
+use Rattle.adv7194_names.specs.Widths.{textWidth}
 use Rattle.adv7194_listing.proofs.FaultLaws.{number-small, refused-most}
-use Rattle.adv7194_names.proofs.Putting.{put, more, wider, same-text, kept}
+use Rattle.writing.proofs.Putting.{put, more, wider, same-text, kept}
 use borrow.Author.Needs.{needs}
 use Rattle.adv7194_listing.proofs.refused_text.Statement.{statement}
 use Rattle.adv7194_listing.proofs.refused_text.Tie as tie

@@ -2,7 +2,7 @@
 use mathlib.Core.Path.{ap, _∙_, refl}
 use native.Mathlib.Omega.{arith}
 use Rattle.text.specs.Line.{placeAfter, appended}
-use Rattle.adv7194_names.proofs.Putting.{part}
+use Rattle.writing.proofs.Putting.{part}
 use borrow.Author.Needs.{needs}
 use Rattle.adv7194_listing.proofs.settings_text.Statement.{statement}
 use Rattle.adv7194_listing.proofs.settings_text.Tie as tie

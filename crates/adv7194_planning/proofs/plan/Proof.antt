@@ -15,7 +15,7 @@ use Rattle.bus.specs.Transactions.{Transaction}
 use Rattle.planning.specs.Plan.{packingOf, leftBy, planAfter}
 use Rattle.field_table.specs.Answers.{checkedAs}
 use Rattle.adv7194_bus.specs.Kind.{registerCount}
-use Rattle.adv7194_bus.specs.Address.{addressRight}
+use Rattle.bus.specs.Address.{addressRight}
 use Rattle.adv7194_bus.specs.declared.board.Board.{Board}
 use Rattle.adv7194_bus.specs.Board.{boardOf}
 use Rattle.adv7194_settings.specs.Wanted.{wantedBy}

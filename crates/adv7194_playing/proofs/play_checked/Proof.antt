@@ -6,6 +6,7 @@ use Prim.Native.Nat.{ℕ}
 use lib.ListN.{length}
 use borrow.Author.Needs.{needs}
 use denote.Ref.{now}
+use Rattle.bits.proofs.ByteLaws.{all-copied}
 use Rattle.refusals.specs.Refusal.{Judged, numberOf}
 use Rattle.bus.specs.Transactions.{Transaction}
 use Rattle.unpacking.specs.Unpacking.{unpack, counted}
@@ -17,7 +18,7 @@ use Rattle.adv7194_playing.specs.Playing.{judgedAs}
 use Rattle.adv7194_playing.specs.Written.{Written, countOf, mapOf}
 use Rattle.adv7194_playing.proofs.JudgedLaws.{refuse}
 use Rattle.adv7194_playing.proofs.Elsewhere.{nothing-stored, not-acknowledged}
-use Rattle.adv7194_playing.proofs.WrittenLaws.{left-as-many, copied-whole}
+use Rattle.adv7194_playing.proofs.WrittenLaws.{left-as-many}
 use Rattle.adv7194_playing.proofs.WrittenRun.{own-played}
 use Rattle.adv7194_playing.proofs.play_checked.Statement.{statement}
 use Rattle.adv7194_playing.proofs.play_checked.Tie as tie
@@ -78,7 +79,7 @@ still w = left-as-many (judgement w) (board w) (left w (w .write-plan .result)) 
 became : (k : tie.After-copy) → k .copy .last .1 .0 ≡ written-at k .write-plan .last .1 .1 .0
 became k =
     let w = written-at k in
-    k .copy .ensures .1 ∙ copied-whole (w .write-plan .last .1 .1 .0) (now (start w .args .image)) (sym (still w))
+    k .copy .ensures .1 ∙ all-copied (w .write-plan .last .1 .1 .0) (now (start w .args .image)) (search (needs, still w))
 
 returns-3 : tie.Need-returns-3
 returns-3 c =

@@ -8,18 +8,19 @@ use lib.Dec.{eqb}
 use borrow.Author.Needs.{needs}
 use borrow.Author.Tests.{not-true, not-false}
 use Rattle.unpacking.specs.declared.steps.Step.{Step}
+use Rattle.unpacking.specs.declared.steps.Order.the-variants.{Ascending}
 use Rattle.unpacking.proofs.StepLaws.{Went, Stepped, stepped}
-use Rattle.adv7194_bus.specs.Board.{boardOf}
+use Rattle.unpacking.proofs.Writing.{writing-begins, as-many}
 use Rattle.adv7194_playing.specs.Kinds.{takesHeader}
-use Rattle.adv7194_playing.proofs.KindLaws.{enough}
-use Rattle.adv7194_playing.proofs.WrittenLaws.{Writing, as-many, fault-answered, empty-answered, end-answered, header-answered, writing-begins}
+use Rattle.adv7194_playing.proofs.KindLaws.{turns, enough}
+use Rattle.adv7194_playing.proofs.WrittenLaws.{Passed, fault-answered, empty-answered, end-answered, header-answered}
 use Rattle.adv7194_playing.proofs.WrittenLaws.{fits, data-there, still-as-many, data-answered, written-on}
 use Rattle.adv7194_playing.proofs.write_plan.Statement.{statement}
 use Rattle.adv7194_playing.proofs.write_plan.Tie as tie
 
 abbrev Inv-loop : tie.InvT-loop
 Inv-loop kind plan registers₀ known cursor₀ transactions₀ map₀ registers cursor transactions map =
-    Writing kind plan (boardOf registers₀ known) (boardOf registers map) cursor transactions
+    Passed kind plan known registers₀ map registers cursor transactions
 
 abbrev μ-loop : tie.MeasureT-loop
 μ-loop kind plan registers₀ known cursor₀ transactions₀ map₀ registers cursor transactions map = cursor .left
@@ -35,7 +36,7 @@ loop-holds : tie.Need-loop-holds Inv-loop μ-loop
 loop-holds c =
     let k = c .before .before in
     let a = k .before .args in
-    writing-begins (a .kind) (a .plan .now) (boardOf (a .registers .now) (a .known)) (c .begin .result) (c .begin .ensures)
+    writing-begins (turns (a .kind)) (a .plan .now) Ascending (a .known) (a .registers .now) (c .begin .result) (c .begin .ensures)
     (λ i. k .shared-slice-known .given i .fits)
 
 -- what the step says
@@ -44,7 +45,10 @@ said c r e = subst (Stepped (plan-at (c .before)) (c .before .loop .cursor)) (sy
     (stepped (plan-at (c .before)) (c .before .loop .cursor))
 
 returns : tie.Need-returns Inv-loop μ-loop
-returns c = let n = c .before .before in fault-answered (n .before .loop .inv) (start (n .before) .args .known) (said n _ (c .enum-told .given .1))
+returns c =
+    let n = c .before .before in
+    let a = start (n .before) .args in
+    fault-answered (a .kind) (n .before .loop .inv) (a .known) (said n _ (c .enum-told .given .1))
 
 -- whether there are enough transactions, as the end tests it
 tested : (c : tie.After-needs-transaction Inv-loop μ-loop) (b : Bool)
@@ -57,13 +61,14 @@ returns-2 : tie.Need-returns-2 Inv-loop μ-loop
 returns-2 c =
     let e = c .before .before in
     let n = e .before .before in
-    empty-answered (n .before .loop .inv) (start (n .before) .args .known) (said n _ (e .enum-told2 .given .1)) (tested (c .before) true (c .if1 .taken))
+    let a = start (n .before) .args in
+    empty-answered (a .kind) (n .before .loop .inv) (a .known) (said n _ (e .enum-told2 .given .1)) (tested (c .before) true (c .if1 .taken))
 
 returns-3 : tie.Need-returns-3 Inv-loop μ-loop
 returns-3 c =
     let e = c .before .before in
     let n = e .before .before in
-    end-answered (n .before .loop .inv) (said n _ (e .enum-told2 .given .1)) (tested (c .before) false (c .if1 .left))
+    end-answered (start (n .before) .args .kind) (n .before .loop .inv) (said n _ (e .enum-told2 .given .1)) (tested (c .before) false (c .if1 .left))
 
 -- the transaction that was found
 went : (c : tie.After-subaddress Inv-loop μ-loop)
@@ -76,7 +81,7 @@ returns-4 c =
     let k = c .before in
     let s = k .before .before in
     let l = s .before .before .before in
-    header-answered (l .loop .inv) (went s) (start l .args .known) (sym (k .takes-header .ensures) ∙ not-true _ (c .if2 .taken))
+    header-answered (start l .args .kind) (l .loop .inv) (went s) (start l .args .known) (sym (k .takes-header .ensures) ∙ not-true _ (c .if2 .taken))
 
 -- its header was taken, and its data were written
 abbrev found : tie.After-takes-data-arg Inv-loop μ-loop → tie.After-subaddress Inv-loop μ-loop
@@ -90,8 +95,8 @@ returns-5 : tie.Need-returns-5 Inv-loop μ-loop
 returns-5 c =
     let a = c .before .before in
     let l = found a .before .before .before in
-    data-answered (l .loop .inv) (went (found a)) (start l .pre) (header a) (a .before .before .before .copy-data .ensures) (start l .args .known)
-    (sym (c .before .takes-data .ensures) ∙ not-true _ (c .if3 .taken))
+    data-answered (start l .args .kind) (l .loop .inv) (went (found a)) (start l .pre) (header a) (a .before .before .before .copy-data .ensures)
+    (start l .args .known) (sym (c .before .takes-data .ensures) ∙ not-true _ (c .if3 .taken))
 
 add-transactions : tie.Need-add-transactions Inv-loop μ-loop
 add-transactions c = let v = found (c .before .before .before) .before .before .before .loop .inv in record { fits = omega (arith, v .counts, v .walked .few) }
@@ -101,25 +106,25 @@ loop-again c =
     let e = c .before in
     let a = e .before .before in
     let l = found a .before .before .before in
-    written-on (l .loop .inv) (went (found a)) (start l .pre) (header a) (a .before .before .before .copy-data .ensures)
+    written-on (start l .args .kind) (l .loop .inv) (went (found a)) (start l .pre) (header a) (a .before .before .before .copy-data .ensures)
     (sym (e .before .takes-data .ensures) ∙ not-false _ (e .if3 .left)) (c .marked .ensures)
 
 same-length-5 : tie.Need-same-length-5 Inv-loop μ-loop
 same-length-5 c =
     let a = c .before .before in
     let l = found a .before .before .before in
-    still-as-many (l .loop .inv) (went (found a)) (start l .pre) (header a) (a .before .before .before .copy-data .ensures)
+    still-as-many (start l .args .kind) (l .loop .inv) (went (found a)) (start l .pre) (header a) (a .before .before .before .copy-data .ensures)
 
 takes-data-requires : tie.Need-takes-data-requires Inv-loop μ-loop
 takes-data-requires c κs =
     let l = found c .before .before .before in
-    data-there (l .loop .inv) (went (found c)) (start l .pre) (header c) (c .before .before .before .copy-data .ensures)
+    data-there (start l .args .kind) (l .loop .inv) (went (found c)) (start l .pre) (header c) (c .before .before .before .copy-data .ensures)
 
 marked-requires : tie.Need-marked-requires Inv-loop μ-loop
 marked-requires c κs =
     let a = c .before .before in
     let l = found a .before .before .before in
-    fits (l .loop .inv) (went (found a)) (start l .pre) (header a)
+    fits (start l .args .kind) (l .loop .inv) (went (found a)) (start l .pre) (header a)
 
 pub write-plan-spec : {M : Type 1} → statement M
 write-plan-spec =

@@ -54,12 +54,11 @@ returns-2 c =
 
 returns-3 : tie.Need-returns-3
 returns-3 c =
-    let t = c .before in
-    let w = t .before .before in
+    let w = c .before .before in
     let s = start (w .before .before .before) in
     let a = s .args in
-    answered (board s) (a .numbers .now) (c .answer .ensures ∙ judged w)
-    (sym (ap (leftBy (a .image .now) (a .numbers .now)) (c .answer .ensures ∙ ap checkedAs (t .enum-told2 .given .1))))
+    answered (board s) (a .numbers .now) (judged w)
+    (sym (ap (λ r. leftBy (a .image .now) (a .numbers .now) (checkedAs r)) (c .enum-told2 .given .1)))
 
 returns-4 : tie.Need-returns-4
 returns-4 c =
@@ -84,7 +83,6 @@ read-spec =
     (λ c κs. tt)
     (λ c. search needs)
     (λ c. search needs)
-    (λ c κs. search needs)
     returns-3
     (λ c. search needs)
     (λ c κs. search needs)

@@ -2,7 +2,7 @@
 use mathlib.Core.Path.{ap, _∙_}
 use borrow.Author.Needs.{needs}
 use Rattle.text.specs.Line.{placeAfter, appended}
-use Rattle.adv7194_names.proofs.Putting.{part}
+use Rattle.writing.proofs.Putting.{part}
 use Rattle.compare_listing.proofs.list_sides.Statement.{statement}
 use Rattle.compare_listing.proofs.list_sides.Tie as tie
 

@@ -2,7 +2,7 @@
 use mathlib.Core.Path.{ap}
 use native.Mathlib.Omega.{arith}
 use borrow.Author.Needs.{needs}
-use Rattle.adv7194_names.proofs.Putting.{more, wider, same-text}
+use Rattle.writing.proofs.Putting.{more, wider, same-text}
 use Rattle.compare_listing.specs.Widths.{textWidth}
 use Rattle.compare_listing.specs.CompareText.{countLine, sideText}
 use Rattle.compare_listing.proofs.write_sides.Statement.{statement}

@@ -10,7 +10,7 @@ use Rattle.listing.specs.Written.{lineWidth}
 use Rattle.listing.proofs.LineLaws.{line-long, line-part}
 use Rattle.planning.specs.Plan.{answerOf}
 use Rattle.answer_listing.specs.AnswerText.{firstLine}
-use Rattle.adv7194_names.proofs.Putting.{put, wider, same-text}
+use Rattle.writing.proofs.Putting.{put, wider, same-text}
 use Rattle.why_listing.proofs.put_first.Statement.{statement}
 use Rattle.why_listing.proofs.put_first.Tie as tie
 

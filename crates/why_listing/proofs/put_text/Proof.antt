@@ -13,7 +13,7 @@ use Rattle.planning.specs.Plan.{Counts, answerOf}
 use Rattle.unpacking.specs.Unpacking.{unpack}
 use Rattle.unpacking.specs.Listed.{listed, Accepted}
 use Rattle.answer_listing.specs.AnswerText.{firstLine, listIn}
-use Rattle.adv7194_names.proofs.Putting.{kept, more, wider, same-text}
+use Rattle.writing.proofs.Putting.{kept, more, wider, same-text}
 use Rattle.why_listing.specs.WhyText.{houseReason, whyLines, whyTextOf}
 use Rattle.why_listing.specs.Parts.{Ready, textWidth}
 use Rattle.why_listing.proofs.TextLaws.{planned-text}

@@ -15,7 +15,7 @@ use Rattle.answer_listing.proofs.AnswerLaws.{Plans, holds}
 use Rattle.adv7194_bus.specs.Limit.{noLimit}
 use Rattle.adv7194_settings.specs.House.{house}
 use Rattle.adv7194_least.specs.Demands.{wideBytes}
-use Rattle.adv7194_names.proofs.Putting.{part}
+use Rattle.writing.proofs.Putting.{part}
 use Rattle.adv7194_planning.specs.Rows.{listOf}
 use Rattle.house_listing.specs.HouseText.{boardIn}
 use Rattle.house_listing.proofs.AnswerLaws.{image-whole, plans}

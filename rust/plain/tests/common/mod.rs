@@ -3,7 +3,7 @@
 use plain::chip::{Acknowledge, Chip, Event};
 
 /// One write transaction: whether the chip acknowledges every byte.
-pub fn write(chip: &mut Chip, address: u32, start: usize, data: &[u8]) -> bool {
+pub fn write<const N: usize>(chip: &mut Chip<N>, address: u32, start: usize, data: &[u8]) -> bool {
     chip.step(Event::Start);
     let mut all = true;
     for byte in [&[address as u8, start as u8], data].concat() {

@@ -1,7 +1,7 @@
 -- `image::copied` meets its contract: the bytes take up the whole copy. Assumes nothing.
 use mathlib.Core.Path.{_∙_}
 use borrow.Author.Needs.{needs}
-use Rattle.adv7194_bus.proofs.CopyLaws.{all-copied}
+use Rattle.bits.proofs.ByteLaws.{all-copied}
 use Rattle.adv7194_bus.proofs.image.copied.Statement.{statement}
 use Rattle.adv7194_bus.proofs.image.copied.Tie as tie
 

@@ -2,7 +2,7 @@
 use native.Mathlib.Omega.{arith}
 use Rattle.adv7194_names.specs.Values.{number, flag}
 use Rattle.adv7194_lines.specs.Kinds.{cgmsText}
-use Rattle.adv7194_names.proofs.Putting.{more, looked}
+use Rattle.writing.proofs.Putting.{more, looked}
 use borrow.Author.Needs.{needs}
 use Rattle.adv7194_lines.proofs.kinds.put_cgms.Statement.{statement}
 use Rattle.adv7194_lines.proofs.kinds.put_cgms.Tie as tie

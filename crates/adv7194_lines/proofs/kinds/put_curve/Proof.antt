@@ -3,10 +3,10 @@ use mathlib.Core.Path.{refl, sym, ap, _∙_}
 use native.Mathlib.Omega.{arith}
 use Rattle.text.specs.Text.{signed}
 use Rattle.field_table.specs.Blocks.{is}
-use Rattle.adv7194_names.specs.Put.{curveWidth}
+use Rattle.adv7194_names.specs.Widths.{curveWidth}
 use Rattle.adv7194_names.proofs.Choosing.{is-not, number-is}
 use Rattle.adv7194_lines.proofs.KindLaws.{ratio-is, seven-is, no-curve-is}
-use Rattle.adv7194_names.proofs.Putting.{wider, same-text, looked}
+use Rattle.writing.proofs.Putting.{wider, same-text, looked}
 use borrow.Author.Needs.{needs}
 use Rattle.adv7194_lines.proofs.kinds.put_curve.Statement.{statement}
 use Rattle.adv7194_lines.proofs.kinds.put_curve.Tie as tie

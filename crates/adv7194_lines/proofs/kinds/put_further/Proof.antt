@@ -5,11 +5,12 @@ use Prim.Native.Nat.{ℕ, _+_, _-_, _*_, _≤_}
 use native.Mathlib.Omega.{arith}
 use lib.IntN.{ℤ}
 use Rattle.text.specs.Text.{space}
-use Rattle.adv7194_names.specs.Put.{Put, nextWidth}
-use Rattle.adv7194_names.specs.Values.{code}
+use Rattle.writing.specs.Put.{Put}
+use Rattle.adv7194_names.specs.Widths.{nextWidth}
+use Rattle.writing.specs.Codes.{code}
 use Rattle.adv7194_lines.specs.Kinds.{bytesText}
 use Rattle.adv7194_lines.proofs.KindLaws.{bytes-more}
-use Rattle.adv7194_names.proofs.Putting.{kept, more, wider, same-text, looked, unwritten}
+use Rattle.writing.proofs.Putting.{kept, more, wider, same-text, looked, unwritten}
 use borrow.Author.Needs.{needs}
 use Rattle.adv7194_lines.proofs.kinds.put_further.Statement.{statement}
 use Rattle.adv7194_lines.proofs.kinds.put_further.Tie as tie

@@ -1,6 +1,6 @@
 -- `kinds::put_next` meets its contract: the space and the byte in a row. Assumes nothing.
-use Rattle.adv7194_names.specs.Values.{code}
-use Rattle.adv7194_names.proofs.Putting.{put, more, passed}
+use Rattle.writing.specs.Codes.{code}
+use Rattle.writing.proofs.Putting.{put, more, passed}
 use borrow.Author.Needs.{needs}
 use Rattle.adv7194_lines.proofs.kinds.put_next.Statement.{statement}
 use Rattle.adv7194_lines.proofs.kinds.put_next.Tie as tie

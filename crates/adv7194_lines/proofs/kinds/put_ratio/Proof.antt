@@ -1,9 +1,9 @@
 -- `kinds::put_ratio` meets its contract: the two numbers in a row. Assumes nothing.
 use native.Mathlib.Omega.{arith}
-use Rattle.adv7194_names.specs.Put.{curveWidth}
+use Rattle.adv7194_names.specs.Widths.{curveWidth}
 use Rattle.adv7194_names.specs.Values.{number}
 use Rattle.adv7194_lines.specs.Kinds.{ratioText}
-use Rattle.adv7194_names.proofs.Putting.{wider, more, looked}
+use Rattle.writing.proofs.Putting.{wider, more, looked}
 use borrow.Author.Needs.{needs}
 use Rattle.adv7194_lines.proofs.kinds.put_ratio.Statement.{statement}
 use Rattle.adv7194_lines.proofs.kinds.put_ratio.Tie as tie

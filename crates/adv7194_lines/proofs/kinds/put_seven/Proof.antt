@@ -4,8 +4,8 @@ use mathlib.Core.List.{_++_}
 use Prim.Native.Nat.{ℕ, _+_}
 use native.Mathlib.Omega.{arith}
 use Rattle.adv7194_lines.specs.Kinds.{numberAt, bytesText, sevenText}
-use Rattle.adv7194_names.specs.Values.{code}
-use Rattle.adv7194_names.proofs.Putting.{same-text, more, looked}
+use Rattle.writing.specs.Codes.{code}
+use Rattle.writing.proofs.Putting.{same-text, more, looked}
 use borrow.Author.Needs.{needs}
 use Rattle.adv7194_lines.proofs.kinds.put_seven.Statement.{statement}
 use Rattle.adv7194_lines.proofs.kinds.put_seven.Tie as tie

@@ -3,11 +3,11 @@ use mathlib.Core.Path.{refl, sym, ap, _∙_}
 use native.Mathlib.Omega.{arith}
 use Rattle.text.specs.Text.{signed}
 use Rattle.field_table.specs.Blocks.{is}
-use Rattle.adv7194_names.specs.Put.{signallingWidth}
+use Rattle.adv7194_names.specs.Widths.{signallingWidth}
 use Rattle.adv7194_names.specs.Values.{number}
 use Rattle.adv7194_names.proofs.Choosing.{is-not, number-is}
 use Rattle.adv7194_lines.proofs.KindLaws.{off-is, cgms-is, wss-is, no-signalling-is}
-use Rattle.adv7194_names.proofs.Putting.{put, wider, same-text, looked}
+use Rattle.writing.proofs.Putting.{put, wider, same-text, looked}
 use borrow.Author.Needs.{needs}
 use Rattle.adv7194_lines.proofs.kinds.put_signalling.Statement.{statement}
 use Rattle.adv7194_lines.proofs.kinds.put_signalling.Tie as tie

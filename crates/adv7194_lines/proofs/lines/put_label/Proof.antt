@@ -7,7 +7,7 @@ use Rattle.text.specs.Text.{space, decimal}
 use Rattle.adv7194_names.specs.Names.{named}
 use Rattle.adv7194_lines.specs.Lines.{labelText}
 use Rattle.adv7194_names.proofs.Choosing.{name-is}
-use Rattle.adv7194_names.proofs.Putting.{put, same-text, more}
+use Rattle.writing.proofs.Putting.{put, same-text, more}
 use borrow.Author.Needs.{needs}
 use Rattle.adv7194_lines.proofs.lines.put_label.Statement.{statement}
 use Rattle.adv7194_lines.proofs.lines.put_label.Tie as tie

@@ -4,7 +4,8 @@ use Rattle.field_table.specs.Rows.{rowOf}
 use Rattle.adv7194_names.specs.Names.{named}
 use Rattle.adv7194_names.specs.Values.{numberText}
 use Rattle.adv7194_lines.proofs.LineLaws.{unlisted, listed-row}
-use Rattle.adv7194_names.proofs.Putting.{put, same-text, looked, unwritten, composed}
+use Rattle.writing.proofs.Putting.{put, same-text, looked, unwritten}
+use Rattle.adv7194_lines.proofs.LineLaws.{composed}
 use borrow.Author.Needs.{needs}
 use Rattle.adv7194_lines.proofs.lines.row_line.Statement.{statement}
 use Rattle.adv7194_lines.proofs.lines.row_line.Tie as tie

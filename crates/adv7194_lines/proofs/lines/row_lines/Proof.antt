@@ -8,10 +8,11 @@ use lib.ListN.{length, take}
 use lib.Seq.{take-all}
 use Rattle.field_table.specs.Coding.{plainFields}
 use Rattle.adv7194_table.specs.Table.{singles}
-use Rattle.adv7194_names.specs.Put.{Put, lineWidth}
+use Rattle.writing.specs.Put.{Put}
+use Rattle.adv7194_names.specs.Widths.{lineWidth}
 use Rattle.adv7194_lines.specs.Lines.{linesOf}
 use Rattle.adv7194_lines.proofs.LineLaws.{rows-more}
-use Rattle.adv7194_names.proofs.Putting.{kept, more, wider, same-text, unwritten}
+use Rattle.writing.proofs.Putting.{kept, more, wider, same-text, unwritten}
 use borrow.Author.Needs.{needs}
 use Rattle.adv7194_lines.proofs.lines.row_lines.Statement.{statement}
 use Rattle.adv7194_lines.proofs.lines.row_lines.Tie as tie

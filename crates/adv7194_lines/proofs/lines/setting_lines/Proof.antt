@@ -2,9 +2,9 @@
 use Prim.Native.Nat.{_*_}
 use native.Mathlib.Omega.{arith}
 use lib.ListN.{take, drop}
-use Rattle.adv7194_names.specs.Put.{lineWidth, textWidth}
+use Rattle.adv7194_names.specs.Widths.{lineWidth, textWidth}
 use Rattle.adv7194_lines.proofs.LineLaws.{table-lines, take-most}
-use Rattle.adv7194_names.proofs.Putting.{wider, same-text, more}
+use Rattle.writing.proofs.Putting.{wider, same-text, more}
 use borrow.Author.Needs.{needs}
 use Rattle.adv7194_lines.proofs.lines.setting_lines.Statement.{statement}
 use Rattle.adv7194_lines.proofs.lines.setting_lines.Tie as tie

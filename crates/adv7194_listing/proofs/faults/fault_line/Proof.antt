@@ -1,9 +1,9 @@
 -- `faults::fault_line` meets its contract: place, words and line end in a row. Assumes nothing.
 use mathlib.Core.Path.{refl}
 use native.Mathlib.Omega.{arith}
-use Rattle.adv7194_names.specs.Put.{lineWidth}
+use Rattle.adv7194_names.specs.Widths.{lineWidth}
 use Rattle.adv7194_listing.specs.Faults.{faultText}
-use Rattle.adv7194_names.proofs.Putting.{put, more, wider}
+use Rattle.writing.proofs.Putting.{put, more, wider}
 use borrow.Author.Needs.{needs}
 use Rattle.adv7194_listing.proofs.faults.fault_line.Statement.{statement}
 use Rattle.adv7194_listing.proofs.faults.fault_line.Tie as tie

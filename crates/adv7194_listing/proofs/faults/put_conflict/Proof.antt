@@ -2,9 +2,9 @@
 use mathlib.Core.Path.{sym, ap, _∙_, refl}
 use native.Mathlib.Omega.{arith}
 use Rattle.adv7194_signalling.specs.Kind.{kindAs}
-use Rattle.adv7194_names.specs.Put.{wordsWidth}
+use Rattle.adv7194_names.specs.Widths.{wordsWidth}
 use Rattle.adv7194_listing.specs.Faults.{conflictText}
-use Rattle.adv7194_names.proofs.Putting.{put, wider, same-text, unwritten}
+use Rattle.writing.proofs.Putting.{put, wider, same-text, unwritten}
 use borrow.Author.Needs.{needs}
 use Rattle.adv7194_listing.proofs.faults.put_conflict.Statement.{statement}
 use Rattle.adv7194_listing.proofs.faults.put_conflict.Tie as tie

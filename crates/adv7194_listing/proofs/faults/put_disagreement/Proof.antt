@@ -2,10 +2,10 @@
 use mathlib.Core.Path.{_≡_, refl}
 use native.Mathlib.Omega.{arith}
 use borrow.Author.Tests.{eq-eqb, ne-eqb}
-use Rattle.adv7194_names.specs.Ascii.{ascii}
-use Rattle.adv7194_names.specs.Put.{wordsWidth}
+use Rattle.writing.specs.Ascii.{ascii}
+use Rattle.adv7194_names.specs.Widths.{wordsWidth}
 use Rattle.adv7194_listing.specs.Faults.{disagreementText}
-use Rattle.adv7194_names.proofs.Putting.{put, wider, same-text}
+use Rattle.writing.proofs.Putting.{put, wider, same-text}
 use borrow.Author.Needs.{needs}
 use Rattle.adv7194_listing.proofs.faults.put_disagreement.Statement.{statement}
 use Rattle.adv7194_listing.proofs.faults.put_disagreement.Tie as tie

@@ -3,10 +3,10 @@ use mathlib.Core.Path.{ap, _∙_, refl}
 use Prim.Native.Nat.{ℕ}
 use native.Mathlib.Omega.{arith}
 use Rattle.field_table.specs.Walk.{held}
-use Rattle.adv7194_names.specs.Put.{wordsWidth}
+use Rattle.adv7194_names.specs.Widths.{wordsWidth}
 use Rattle.adv7194_listing.specs.Faults.{counted}
 use Rattle.adv7194_listing.proofs.FaultLaws.{field-bits}
-use Rattle.adv7194_names.proofs.Putting.{wider, same-text}
+use Rattle.writing.proofs.Putting.{wider, same-text}
 use borrow.Author.Needs.{needs}
 use Rattle.adv7194_listing.proofs.faults.put_out_of_range.Statement.{statement}
 use Rattle.adv7194_listing.proofs.faults.put_out_of_range.Tie as tie

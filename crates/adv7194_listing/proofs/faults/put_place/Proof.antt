@@ -4,12 +4,12 @@ use mathlib.Core.Bool.{cond}
 use native.Mathlib.Omega.{arith}
 use lib.Dec.{eqb}
 use borrow.Author.Tests.{eq-eqb, ne-eqb}
-use Rattle.adv7194_names.specs.Ascii.{ascii}
+use Rattle.writing.specs.Ascii.{ascii}
 use Rattle.adv7194_names.specs.Names.{named}
-use Rattle.adv7194_names.specs.Put.{labelWidth}
+use Rattle.adv7194_names.specs.Widths.{labelWidth}
 use Rattle.adv7194_lines.specs.Lines.{labelText}
 use Rattle.adv7194_names.proofs.Choosing.{name-is}
-use Rattle.adv7194_names.proofs.Putting.{wider, same-text}
+use Rattle.writing.proofs.Putting.{wider, same-text}
 use borrow.Author.Needs.{needs}
 use Rattle.adv7194_listing.proofs.faults.put_place.Statement.{statement}
 use Rattle.adv7194_listing.proofs.faults.put_place.Tie as tie

@@ -4,10 +4,10 @@ use Prim.Native.Nat.{ℕ}
 use native.Mathlib.Omega.{arith}
 use Rattle.field_table.specs.declared.row.Row.{Row}
 use Rattle.field_table.specs.Walk.{held}
-use Rattle.adv7194_names.specs.Put.{wordsWidth}
+use Rattle.adv7194_names.specs.Widths.{wordsWidth}
 use Rattle.adv7194_listing.specs.Faults.{counted}
 use Rattle.adv7194_listing.proofs.FaultLaws.{field-bits, reserved-signalling, reserved-zero, reserved-code}
-use Rattle.adv7194_names.proofs.Putting.{put, more, wider, same-text}
+use Rattle.writing.proofs.Putting.{put, more, wider, same-text}
 use borrow.Author.Needs.{needs}
 use Rattle.adv7194_listing.proofs.faults.put_reserved.Statement.{statement}
 use Rattle.adv7194_listing.proofs.faults.put_reserved.Tie as tie

@@ -5,7 +5,7 @@ use Prim.Native.Nat.{ℕ}
 use native.Mathlib.Omega.{arith}
 use Rattle.text.specs.Text.{space, hexByte}
 use Rattle.adv7194_listing.proofs.FaultLaws.{three-bytes}
-use Rattle.adv7194_names.proofs.Putting.{same-text, more}
+use Rattle.writing.proofs.Putting.{same-text, more}
 use borrow.Author.Needs.{needs}
 use Rattle.adv7194_listing.proofs.faults.put_signalling_bytes.Statement.{statement}
 use Rattle.adv7194_listing.proofs.faults.put_signalling_bytes.Tie as tie

@@ -6,9 +6,10 @@ use native.Mathlib.Omega.{arith}
 use Rattle.refusals.specs.declared.Refusal.{Refusal}
 use Rattle.refusals.specs.Refusal.{numberOf}
 use Rattle.adv7194_signalling.specs.Kind.{kindOf}
-use Rattle.adv7194_names.specs.Put.{Put, wordsWidth}
+use Rattle.writing.specs.Put.{Put}
+use Rattle.adv7194_names.specs.Widths.{wordsWidth}
 use Rattle.adv7194_listing.specs.Faults.{conflictText, faultWords}
-use Rattle.adv7194_names.proofs.Putting.{put, wider, same-text, unwritten}
+use Rattle.writing.proofs.Putting.{put, wider, same-text, unwritten}
 use borrow.Author.Needs.{needs}
 use Rattle.adv7194_listing.proofs.faults.put_words.Statement.{statement}
 use Rattle.adv7194_listing.proofs.faults.put_words.Tie as tie

@@ -7,9 +7,9 @@ use lib.ListN.{length, take, drop}
 use borrow.Author.Needs.{needs}
 use Rattle.adv7194_names.specs.Names.{names, named}
 use Rattle.adv7194_names.specs.Columns.{columnIn, columnsText, columnOf}
-use Rattle.adv7194_names.specs.Put.{columnWidth}
+use Rattle.adv7194_names.specs.Widths.{columnWidth}
 use Rattle.adv7194_names.proofs.TableLaws.{field-column, field-width}
-use Rattle.adv7194_names.proofs.Putting.{put, wider, same-text}
+use Rattle.writing.proofs.Putting.{put, wider, same-text}
 use Rattle.adv7194_names.proofs.columns.put_column.Statement.{statement}
 use Rattle.adv7194_names.proofs.columns.put_column.Tie as tie
 

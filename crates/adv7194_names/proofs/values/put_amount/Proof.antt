@@ -5,7 +5,7 @@ use Prim.Native.Nat.{ℕ}
 use Rattle.text.specs.Text.{signed}
 use Rattle.adv7194_names.specs.Names.{named}
 use Rattle.adv7194_names.proofs.Choosing.{unit-is}
-use Rattle.adv7194_names.proofs.Putting.{same-text, more, passed}
+use Rattle.writing.proofs.Putting.{same-text, more, passed}
 use borrow.Author.Needs.{needs}
 use Rattle.adv7194_names.proofs.values.put_amount.Statement.{statement}
 use Rattle.adv7194_names.proofs.values.put_amount.Tie as tie

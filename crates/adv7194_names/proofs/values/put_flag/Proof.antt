@@ -1,6 +1,6 @@
 -- `values::put_flag` meets its contract: the word and the yes/no in a row. Assumes nothing.
 use Rattle.adv7194_names.specs.Values.{yesNo}
-use Rattle.adv7194_names.proofs.Putting.{put, more, passed}
+use Rattle.writing.proofs.Putting.{put, more, passed}
 use borrow.Author.Needs.{needs}
 use Rattle.adv7194_names.proofs.values.put_flag.Statement.{statement}
 use Rattle.adv7194_names.proofs.values.put_flag.Tie as tie

@@ -5,12 +5,12 @@ use native.Mathlib.Omega.{arith}
 use lib.IntN.{ℤ}
 use lib.ListN.{length}
 use Rattle.text.specs.Text.{signed}
-use Rattle.adv7194_names.specs.Ascii.{ascii}
+use Rattle.writing.specs.Ascii.{ascii}
 use Rattle.adv7194_names.specs.Names.{named}
-use Rattle.adv7194_names.specs.Put.{settingWidth}
+use Rattle.adv7194_names.specs.Widths.{settingWidth}
 use Rattle.adv7194_names.specs.Values.{wordOf}
 use Rattle.adv7194_names.proofs.Choosing.{setting-word, setting-amount}
-use Rattle.adv7194_names.proofs.Putting.{same-text, wider, passed, instead}
+use Rattle.writing.proofs.Putting.{same-text, wider, passed, instead}
 use borrow.Author.Needs.{needs}
 use Rattle.adv7194_names.proofs.values.put_setting.Statement.{statement}
 use Rattle.adv7194_names.proofs.values.put_setting.Tie as tie

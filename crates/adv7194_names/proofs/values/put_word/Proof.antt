@@ -3,7 +3,7 @@ use mathlib.Core.Path.{refl}
 use native.Mathlib.Omega.{arith}
 use Rattle.adv7194_names.specs.Names.{named}
 use Rattle.adv7194_names.proofs.Choosing.{is-it, is-not, word-zero, word-one, word-none}
-use Rattle.adv7194_names.proofs.Putting.{same-text, unwritten}
+use Rattle.writing.proofs.Putting.{same-text, unwritten}
 use borrow.Author.Needs.{needs}
 use Rattle.adv7194_names.proofs.values.put_word.Statement.{statement}
 use Rattle.adv7194_names.proofs.values.put_word.Tie as tie

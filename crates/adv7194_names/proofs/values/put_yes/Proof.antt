@@ -2,9 +2,9 @@
 use mathlib.Core.Path.{refl}
 use native.Mathlib.Omega.{arith}
 use Rattle.text.specs.Text.{signed}
-use Rattle.adv7194_names.specs.Put.{numberWidth}
+use Rattle.writing.specs.Put.{numberWidth}
 use Rattle.adv7194_names.proofs.Choosing.{is-it, is-not, yes-zero, yes-one, yes-other}
-use Rattle.adv7194_names.proofs.Putting.{put, wider, same-text, passed}
+use Rattle.writing.proofs.Putting.{put, wider, same-text, passed}
 use borrow.Author.Needs.{needs}
 use Rattle.adv7194_names.proofs.values.put_yes.Statement.{statement}
 use Rattle.adv7194_names.proofs.values.put_yes.Tie as tie

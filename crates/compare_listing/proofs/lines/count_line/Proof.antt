@@ -1,7 +1,7 @@
 -- `lines::count_line` meets its contract: the word, the count and the line end in a row. Assumes nothing.
 use native.Mathlib.Omega.{arith}
 use borrow.Author.Needs.{needs}
-use Rattle.adv7194_names.proofs.Putting.{put, more, wider}
+use Rattle.writing.proofs.Putting.{put, more, wider}
 use Rattle.compare_listing.specs.Widths.{countLineWidth}
 use Rattle.compare_listing.specs.CompareText.{countLine}
 use Rattle.compare_listing.proofs.lines.count_line.Statement.{statement}

@@ -1,7 +1,7 @@
 -- `lines::field_line` meets its contract: the field's line where it differs, else nothing. Assumes nothing.
 use native.Mathlib.Omega.{arith}
 use borrow.Author.Needs.{needs}
-use Rattle.adv7194_names.proofs.Putting.{same-text, unwritten}
+use Rattle.writing.proofs.Putting.{same-text, unwritten}
 use Rattle.compare_listing.proofs.LineLaws.{line-shown, line-left-out}
 use Rattle.compare_listing.proofs.lines.field_line.Statement.{statement}
 use Rattle.compare_listing.proofs.lines.field_line.Tie as tie

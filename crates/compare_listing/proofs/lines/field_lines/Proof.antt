@@ -5,8 +5,8 @@ use mathlib.Core.Bool.{cond}
 use Prim.Native.Nat.{ℕ, _+_, _-_, _*_, _≤_}
 use native.Mathlib.Omega.{arith}
 use borrow.Author.Needs.{needs}
-use Rattle.adv7194_names.specs.Put.{Put}
-use Rattle.adv7194_names.proofs.Putting.{kept, more, wider, same-text, unwritten}
+use Rattle.writing.specs.Put.{Put}
+use Rattle.writing.proofs.Putting.{kept, more, wider, same-text, unwritten}
 use Rattle.adv7194_compare.specs.Differences.{fieldDiffers}
 use Rattle.compare_listing.specs.Widths.{fieldWidth}
 use Rattle.compare_listing.specs.CompareText.{fieldLine}

@@ -1,7 +1,7 @@
 -- `lines::field_text` meets its contract: number and name, the two sides and what stands between them in a row. Assumes nothing.
 use native.Mathlib.Omega.{arith}
 use borrow.Author.Needs.{needs}
-use Rattle.adv7194_names.proofs.Putting.{put, more, wider}
+use Rattle.writing.proofs.Putting.{put, more, wider}
 use Rattle.compare_listing.specs.Widths.{fieldWidth}
 use Rattle.compare_listing.specs.CompareText.{fieldLine}
 use Rattle.compare_listing.proofs.lines.field_text.Statement.{statement}

@@ -1,7 +1,7 @@
 -- `lines::register_line` meets its contract: the register's line where it differs, else nothing. Assumes nothing.
 use native.Mathlib.Omega.{arith}
 use borrow.Author.Needs.{needs}
-use Rattle.adv7194_names.proofs.Putting.{same-text, unwritten}
+use Rattle.writing.proofs.Putting.{same-text, unwritten}
 use Rattle.compare_listing.proofs.LineLaws.{line-shown, line-left-out}
 use Rattle.compare_listing.proofs.lines.register_line.Statement.{statement}
 use Rattle.compare_listing.proofs.lines.register_line.Tie as tie

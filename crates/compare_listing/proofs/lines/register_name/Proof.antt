@@ -1,7 +1,7 @@
 -- `lines::register_name` meets its contract: the word, the register and a space in a row. Assumes nothing.
 use native.Mathlib.Omega.{arith}
 use borrow.Author.Needs.{needs}
-use Rattle.adv7194_names.proofs.Putting.{put, more}
+use Rattle.writing.proofs.Putting.{put, more}
 use Rattle.compare_listing.proofs.lines.register_name.Statement.{statement}
 use Rattle.compare_listing.proofs.lines.register_name.Tie as tie
 

@@ -1,7 +1,7 @@
 -- `lines::register_text` meets its contract: the register and both bytes in a row. Assumes nothing.
 use native.Mathlib.Omega.{arith}
 use borrow.Author.Needs.{needs}
-use Rattle.adv7194_names.proofs.Putting.{put, more, wider}
+use Rattle.writing.proofs.Putting.{put, more, wider}
 use Rattle.compare_listing.specs.Widths.{registerWidth}
 use Rattle.compare_listing.specs.CompareText.{registerLine}
 use Rattle.compare_listing.proofs.lines.register_text.Statement.{statement}

@@ -2,7 +2,7 @@
 use mathlib.Core.Path.{sym, ap}
 use native.Mathlib.Omega.{arith}
 use borrow.Author.Needs.{needs}
-use Rattle.adv7194_names.proofs.Putting.{put, same-text, unwritten}
+use Rattle.writing.proofs.Putting.{put, same-text, unwritten}
 use Rattle.compare_listing.specs.Values.{markOf}
 use Rattle.compare_listing.proofs.parts.put_mark.Statement.{statement}
 use Rattle.compare_listing.proofs.parts.put_mark.Tie as tie

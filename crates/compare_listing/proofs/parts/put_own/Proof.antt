@@ -1,7 +1,7 @@
 -- `parts::put_own` meets its contract: nothing for a register of which the field has no bits, else a space and its byte. Assumes nothing.
 use native.Mathlib.Omega.{arith}
 use borrow.Author.Needs.{needs}
-use Rattle.adv7194_names.proofs.Putting.{put, more, same-text, unwritten}
+use Rattle.writing.proofs.Putting.{put, more, same-text, unwritten}
 use Rattle.compare_listing.proofs.PartLaws.{own-none, own-some}
 use Rattle.compare_listing.proofs.parts.put_own.Statement.{statement}
 use Rattle.compare_listing.proofs.parts.put_own.Tie as tie

@@ -5,8 +5,8 @@ use Prim.Native.Nat.{ℕ, _+_, _-_, _*_, _≤_}
 use native.Mathlib.Omega.{arith}
 use borrow.Author.Needs.{needs}
 use Rattle.adv7194_bus.specs.Kind.{registerCount}
-use Rattle.adv7194_names.specs.Put.{Put}
-use Rattle.adv7194_names.proofs.Putting.{kept, more, wider, same-text, unwritten}
+use Rattle.writing.specs.Put.{Put}
+use Rattle.writing.proofs.Putting.{kept, more, wider, same-text, unwritten}
 use Rattle.compare_listing.specs.Widths.{rawWidth}
 use Rattle.compare_listing.specs.Values.{ownText}
 use Rattle.compare_listing.proofs.PartLaws.{rawText, raw-turn, raw-end}

@@ -3,7 +3,7 @@ use mathlib.Core.Path.{sym, ap}
 use mathlib.Core.Bool.{Bool}
 use native.Mathlib.Omega.{arith}
 use borrow.Author.Needs.{needs}
-use Rattle.adv7194_names.proofs.Putting.{put, more, wider, same-text}
+use Rattle.writing.proofs.Putting.{put, more, wider, same-text}
 use Rattle.compare_listing.specs.Widths.{sideWidth}
 use Rattle.compare_listing.specs.Values.{sideOf}
 use Rattle.compare_listing.proofs.parts.put_side.Statement.{statement}

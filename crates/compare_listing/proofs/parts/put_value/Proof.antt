@@ -3,11 +3,11 @@ use mathlib.Core.Path.{sym, ap, _∙_}
 use native.Mathlib.Omega.{arith}
 use borrow.Author.Needs.{needs}
 use Rattle.adv7194_table.specs.declared.blocks.Block.{Block}
-use Rattle.adv7194_names.specs.Put.{curveWidth}
+use Rattle.adv7194_names.specs.Widths.{curveWidth}
 use Rattle.adv7194_names.specs.Names.{named}
 use Rattle.adv7194_names.specs.Values.{numberText}
 use Rattle.adv7194_lines.specs.Kinds.{signallingText, curveText}
-use Rattle.adv7194_names.proofs.Putting.{wider, same-text, looked}
+use Rattle.writing.proofs.Putting.{wider, same-text, looked}
 use Rattle.compare_listing.specs.Values.{fieldValue}
 use Rattle.compare_listing.proofs.PartLaws.{one-number, signalling-value, curve-a-value, curve-b-value, word-value}
 use Rattle.compare_listing.proofs.parts.put_value.Statement.{statement}

@@ -4,7 +4,7 @@ use native.Mathlib.Omega.{arith}
 use borrow.Author.Needs.{needs}
 use Rattle.adv7194_table.specs.declared.blocks.Block.{Block}
 use Rattle.adv7194_table.specs.Blocks.{word}
-use Rattle.adv7194_names.proofs.Putting.{more, same-text}
+use Rattle.writing.proofs.Putting.{more, same-text}
 use Rattle.compare_listing.proofs.PartLaws.{word-bytes}
 use Rattle.compare_listing.proofs.parts.put_word.Statement.{statement}
 use Rattle.compare_listing.proofs.parts.put_word.Tie as tie

@@ -38,8 +38,8 @@ plan-of c = planBy (start c .args .needed) (start c .args .allowed) (start c .ar
 
 -- what is known of them
 known : (c : tie.After-packed-length)
-    → Mapped (start c .args .needed) (start c .args .allowed) (start c .args .held) (start c .args .limit) (start c .args .wanted .now)
-    (taken c) (starts c) (goes c)
+    → Mapped (planBy (start c .args .needed) (start c .args .allowed) (start c .args .held) (start c .args .limit) (start c .args .wanted .now))
+    (start c .args .wanted .now) (taken c) (starts c) (goes c)
 known c =
     let s = start c in
     let a = s .args in
@@ -59,7 +59,9 @@ bytes c = known c .bytes ∙ sym (c .before .count2 .ensures)
 
 -- which are few
 few : (c : tie.After-packed-length) → (c .before .before .count .result ≤ 63) × (c .before .count2 .result ≤ 63)
-few c = (omega (arith, known c .few, c .before .before .count .ensures), omega (arith, known c .short, c .before .count2 .ensures))
+few c =
+    let n = start c .pre .small in
+    (omega (arith, known c .few, c .before .before .count .ensures), omega (arith, known c .short, c .before .count2 .ensures))
 
 -- the bytes of its packing
 long : (c : tie.After-packed-length) → c .packed-length .result ≡ length (packed (list c))
@@ -76,8 +78,9 @@ plan-spans-requires c κs =
 
 returns : tie.Need-returns
 returns c =
-    let p = c .before in
-    too-short (list p) (plan-of p) (start p .args .plan .now) (known p .list) (omega (arith, c .if1 .taken, long p))
+    let p = c .before .before in
+    let t = too-short (list p) (plan-of p) (start p .args .plan .now) (known p .list) (omega (arith, c .before .if1 .taken, long p)) in
+    (c .too-short .ensures ∙ t .0, t .1)
 
 -- where the plan was begun with the count
 abbrev counted-at : tie.After-begin → tie.After-packed-length
@@ -113,6 +116,7 @@ pack-spec =
     tie.close
     (tie.spec
     plan-spans-requires
+    (λ c κs. tt)
     (λ c κs. tt)
     (λ c κs. tt)
     (λ c κs. tt)

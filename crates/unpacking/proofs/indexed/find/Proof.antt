@@ -8,11 +8,12 @@ use lib.ListN.{length}
 use borrow.Author.Needs.{needs}
 use Rattle.bus.specs.Transactions.{Transaction}
 use Rattle.refusals.specs.Refusal.{Judged}
-use Rattle.unpacking.specs.declared.steps.Order.the-variants.{Ascending}
+use Rattle.unpacking.specs.declared.steps.Order.{Order}
 use Rattle.unpacking.specs.declared.steps.Cursor.{Cursor}
 use Rattle.unpacking.specs.declared.steps.Step.{Step}
 use Rattle.unpacking.specs.declared.indexed.Found.{Found}
-use Rattle.unpacking.specs.Steps.{transactionAt}
+use Rattle.unpacking.specs.Unpacking.{unpackBy}
+use Rattle.unpacking.specs.Steps.{startAfter, transactionAt}
 use Rattle.unpacking.specs.Indexed.{atIndex, transactionIn, foundAs, FoundPlaced}
 use Rattle.unpacking.proofs.StepLaws.{Went, Stepped, stepped}
 use Rattle.unpacking.proofs.Walking.{one-more, Walked, walk-begins, walk-goes, walk-ends, walk-fails}
@@ -21,15 +22,15 @@ use Rattle.unpacking.proofs.indexed.find.Statement.{statement}
 use Rattle.unpacking.proofs.indexed.find.Tie as tie
 
 -- the transactions passed, of which the one with the index was remembered
-record Inv (plan : List ℕ) (index : ℕ) (cursor : Cursor) (found : Found) (i : ℕ) : Type 0 where
+record Inv (plan : List ℕ) (order : Order) (index : ℕ) (cursor : Cursor) (found : Found) (i : ℕ) : Type 0 where
   done : List Transaction
-  walked : Walked plan Ascending done cursor
+  walked : Walked plan order done cursor
   counts : i ≡ length done
   is : foundAs plan found ≡ atIndex done index
   placed : FoundPlaced plan found
 
 abbrev Inv-loop : tie.InvT-loop
-Inv-loop plan index cursor₀ found₀ i₀ cursor found i = Inv plan index cursor found i
+Inv-loop plan index cursor₀ found₀ i₀ cursor found i = Inv plan (cursor₀ .order) index cursor found i
 
 abbrev μ-loop : tie.MeasureT-loop
 μ-loop plan index cursor₀ found₀ i₀ cursor found i = cursor .left
@@ -40,12 +41,20 @@ start c = c .before .before .before
 abbrev plan-at : tie.At-loop Inv-loop μ-loop → List ℕ
 plan-at c = start c .args .plan .now
 
+-- the walk keeps its order
+in-order : (l : tie.At-loop Inv-loop μ-loop) → l .before .begin .result .order ≡ start l .args .order
+in-order l = ap (λ (k : Cursor). k .order) (l .before .begin .ensures)
+
+-- so what it answers is of that order
+abbrev answer-by : tie.At-loop Inv-loop μ-loop → Order → Judged Transaction
+answer-by l o = transactionIn (unpackBy (startAfter o) (plan-at l)) (start l .args .index)
+
 loop-holds : tie.Need-loop-holds Inv-loop μ-loop
 loop-holds c =
     let k = c .before in
     record {
       done = [];
-      walked = rw (c .begin .ensures) (walk-begins (k .before .args .plan .now) Ascending (λ i. k .shared-slice-known .given i .fits));
+      walked = rw (c .begin .ensures) (walk-begins (k .before .args .plan .now) (k .before .args .order) (λ i. k .shared-slice-known .given i .fits));
       counts = refl;
       is = refl;
       placed = tt;
@@ -61,7 +70,8 @@ returns c =
     let n = c .before .before in
     let l = n .before in (
       sym (ap (λ (j : Judged (List Transaction)). transactionIn j (start l .args .index))
-          (walk-fails (l .loop .inv .walked) (said n _ (c .enum-told .given .1)))),
+          (walk-fails (l .loop .inv .walked) (said n _ (c .enum-told .given .1))))
+          ∙ ap (answer-by l) (in-order l),
       tt,
     )
 
@@ -71,7 +81,8 @@ returns-2 c =
     let l = n .before in
     let v = l .loop .inv in (
       v .is ∙ sym (ap (λ (j : Judged (List Transaction)). transactionIn j (start l .args .index))
-          (walk-ends (v .walked) (said n _ (c .enum-told2 .given .1)))),
+          (walk-ends (v .walked) (said n _ (c .enum-told2 .given .1))))
+          ∙ ap (answer-by l) (in-order l),
       v .placed,
     )
 

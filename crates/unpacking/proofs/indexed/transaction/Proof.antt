@@ -13,9 +13,9 @@ use Rattle.bits.proofs.ByteLaws.{firstBytes-length}
 use Rattle.bus.specs.Transactions.{Transaction, size}
 use Rattle.refusals.specs.Refusal.{Judged, accepted, refused}
 use Rattle.unpacking.specs.declared.indexed.Found.{Found}
-use Rattle.unpacking.specs.Unpacking.{unpack}
+use Rattle.unpacking.specs.Unpacking.{unpackBy}
 use Rattle.unpacking.specs.Places.{leftAt}
-use Rattle.unpacking.specs.Steps.{transactionAt}
+use Rattle.unpacking.specs.Steps.{startAfter, transactionAt}
 use Rattle.unpacking.specs.Indexed.{foundAs, FoundPlaced, withRoom, transactionOf, headerOf, dataAfter}
 use Rattle.unpacking.proofs.PlaceLaws.{data-copied}
 use Rattle.unpacking.proofs.IndexLaws.{sets-front}
@@ -30,7 +30,9 @@ abbrev memory-at : tie.After-find → List ℕ
 memory-at f = f .before .before .before .args .memory .now
 
 abbrev answer-at : tie.After-find → Judged Transaction
-answer-at f = transactionOf (unpack (plan-at f)) (f .before .before .before .args .index) (length (memory-at f))
+answer-at f =
+    let a = f .before .before .before .args in
+    transactionOf (unpackBy (startAfter (a .order)) (plan-at f)) (a .index) (length (memory-at f))
 
 -- by what was found
 answered : (f : tie.After-find) (r : Found) → f .find .result ≡ r → answer-at f ≡ withRoom (length (memory-at f)) (foundAs (plan-at f) r)

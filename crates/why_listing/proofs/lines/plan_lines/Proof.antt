@@ -11,7 +11,7 @@ use Rattle.unpacking.specs.declared.steps.Step.{Step}
 use Rattle.unpacking.specs.Places.{leftAt}
 use Rattle.unpacking.proofs.StepLaws.{Went, Stepped, stepped}
 use Rattle.plan_listing.proofs.WalkLaws.{data-in-front, all-passed}
-use Rattle.adv7194_names.proofs.Putting.{kept, wider, same-text}
+use Rattle.writing.proofs.Putting.{kept, wider, same-text}
 use Rattle.adv7194_reasons.specs.Reasons.{Reason}
 use Rattle.why_listing.specs.WhyText.{houseReason, whyLines}
 use Rattle.why_listing.specs.Parts.{transactionText, transactionWidth, byteWidth}

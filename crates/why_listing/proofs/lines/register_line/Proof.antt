@@ -2,7 +2,7 @@
 use mathlib.Core.Path.{ap}
 use native.Mathlib.Omega.{arith}
 use borrow.Author.Needs.{needs}
-use Rattle.adv7194_names.proofs.Putting.{put, more, wider, same-text}
+use Rattle.writing.proofs.Putting.{put, more, wider, same-text}
 use Rattle.why_listing.specs.WhyText.{registerLine}
 use Rattle.why_listing.specs.Parts.{answerWords, registerWidth}
 use Rattle.why_listing.proofs.lines.register_line.Statement.{statement}

@@ -3,8 +3,8 @@ use mathlib.Core.Path.{_≡_, sym, ap, _∙_}
 use mathlib.Core.List.{List, [], _++_, append-assoc, append-nil}
 use Prim.Native.Nat.{ℕ, _+_, _-_, _*_, _≤_}
 use native.Mathlib.Omega.{arith}
-use Rattle.adv7194_names.specs.Put.{Put}
-use Rattle.adv7194_names.proofs.Putting.{kept, more, wider, same-text, unwritten}
+use Rattle.writing.specs.Put.{Put}
+use Rattle.writing.proofs.Putting.{kept, more, wider, same-text, unwritten}
 use Rattle.adv7194_reasons.specs.Reasons.{Reason}
 use Rattle.why_listing.specs.WhyText.{houseReason, registerLine, registerLines}
 use Rattle.why_listing.specs.Parts.{registerWidth}

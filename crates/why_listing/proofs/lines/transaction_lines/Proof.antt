@@ -5,8 +5,8 @@ use borrow.Author.Needs.{needs}
 use Rattle.bus.specs.Transactions.{Transaction, size}
 use Rattle.plan_listing.specs.PlanText.{transactionLine}
 use Rattle.plan_listing.proofs.TextLaws.{line-length}
-use Rattle.adv7194_names.specs.Put.{Put}
-use Rattle.adv7194_names.proofs.Putting.{more}
+use Rattle.writing.specs.Put.{Put}
+use Rattle.writing.proofs.Putting.{more}
 use Rattle.why_listing.proofs.lines.transaction_lines.Statement.{statement}
 use Rattle.why_listing.proofs.lines.transaction_lines.Tie as tie
 

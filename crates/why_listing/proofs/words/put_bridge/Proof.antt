@@ -1,7 +1,7 @@
 -- `words::put_bridge` meets its contract: words and registers in a row. Assumes nothing.
 use native.Mathlib.Omega.{arith}
 use borrow.Author.Needs.{needs}
-use Rattle.adv7194_names.proofs.Putting.{put, more, wider}
+use Rattle.writing.proofs.Putting.{put, more, wider}
 use Rattle.why_listing.specs.WhyText.{reasonText}
 use Rattle.why_listing.specs.Parts.{reasonWidth}
 use Rattle.why_listing.proofs.words.put_bridge.Statement.{statement}

@@ -4,10 +4,10 @@ use mathlib.Core.List.{List, _++_}
 use Prim.Native.Nat.{ℕ}
 use native.Mathlib.Omega.{arith}
 use borrow.Author.Needs.{needs}
-use Rattle.adv7194_names.specs.Ascii.{ascii}
+use Rattle.writing.specs.Ascii.{ascii}
 use Rattle.adv7194_names.specs.Names.{named}
 use Rattle.adv7194_names.proofs.Choosing.{name-is}
-use Rattle.adv7194_names.proofs.Putting.{put, more, wider, same-text}
+use Rattle.writing.proofs.Putting.{put, more, wider, same-text}
 use Rattle.why_listing.specs.WhyText.{reasonText}
 use Rattle.why_listing.specs.Parts.{reasonWidth}
 use Rattle.why_listing.proofs.words.put_changed.Statement.{statement}

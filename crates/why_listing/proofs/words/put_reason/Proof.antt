@@ -4,8 +4,8 @@ use mathlib.Core.List.{List}
 use Prim.Native.Nat.{ℕ}
 use native.Mathlib.Omega.{arith}
 use borrow.Author.Needs.{needs}
-use Rattle.adv7194_names.specs.Put.{Put}
-use Rattle.adv7194_names.proofs.Putting.{put, wider, same-text, unwritten}
+use Rattle.writing.specs.Put.{Put}
+use Rattle.writing.proofs.Putting.{put, wider, same-text, unwritten}
 use Rattle.adv7194_reasons.specs.declared.Explained.{Explained}
 use Rattle.adv7194_reasons.specs.Why.{whyAs}
 use Rattle.why_listing.specs.WhyText.{reasonText}

@@ -1,0 +1,12 @@
+pub mod TaskLaws
+pub mod Differing
+pub mod Orders
+pub mod Candidates
+pub mod Reached
+pub mod Ties
+pub mod Data
+pub mod Costs
+pub mod Packed
+pub mod PlayedPlan
+pub mod Nothing
+pub mod PlanCases

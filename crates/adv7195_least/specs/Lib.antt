@@ -1,0 +1,4 @@
+pub mod Plan
+pub mod Reaching
+pub mod Demands
+pub mod Played

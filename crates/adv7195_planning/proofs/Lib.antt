@@ -1,0 +1,4 @@
+pub mod RegisterMaps
+pub mod MapPlan
+pub mod CaseLaws
+pub mod Clauses

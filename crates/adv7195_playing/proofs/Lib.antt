@@ -1,0 +1,5 @@
+pub mod TurnLaws
+pub mod JudgedLaws
+pub mod WrittenLaws
+pub mod PlayedLaws
+pub mod Rows

@@ -1,0 +1,3 @@
+pub mod ReadMeans
+pub mod WantedReads
+pub mod ReadPlan

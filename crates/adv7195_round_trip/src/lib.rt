@@ -1,0 +1,1 @@
+// Reading and planning undo each other: the definitions are in specs/, the theorems in proofs/.
