@@ -4,7 +4,6 @@ use mathlib.Core.Path.{_≡_}
 use mathlib.Core.Bool.{Bool}
 use mathlib.Core.List.{List}
 use Prim.Native.Nat.{ℕ}
-use Rattle.refusals.specs.Refusal.{Judged, accepted, refused}
 use Rattle.refusals.specs.Verdict.{Verdict, good, refusedAt}
 use Rattle.bus.specs.Transactions.{Transaction}
 use Rattle.answers.specs.Answers.{yesNo}
@@ -18,10 +17,10 @@ use Rattle.adv7194_answers.specs.declared.compare_numbers.CompareAnswer.
 use Rattle.adv7194_answers.specs.declared.play_numbers.PlayAnswer.{PlayAnswer}
 use Rattle.adv7194_answers.specs.declared.why_numbers.WhyAnswer.{WhyAnswer}
 
--- what playing answers, with the map of the registers known after it; its refusals belong to no field
-abbrev pub playAnswer : Judged Bool → ℕ → PlayAnswer
-playAnswer (accepted b) known = record { refusal = 0; field = 0; acknowledged = yesNo b; known = known }
-playAnswer (refused n) known = record { refusal = n; field = 0; acknowledged = 0; known = known }
+-- what playing answers, with the map of the registers known after it
+abbrev pub playAnswer : Verdict Bool → ℕ → PlayAnswer
+playAnswer (good b) known = record { refusal = 0; field = 0; acknowledged = yesNo b; known = known }
+playAnswer (refusedAt n f) known = record { refusal = n; field = f; acknowledged = 0; known = known }
 
 -- what reading a pair of captions answers
 abbrev pub captionsAnswer : Verdict Characters → CaptionsAnswer

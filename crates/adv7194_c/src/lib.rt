@@ -6,10 +6,12 @@ ghost use lib.ListN.{length, take};
 ghost use Rattle.unpacking.specs.Unpacking.{unpack, Counted};
 ghost use Rattle.unpacking.specs.Indexed.{transactionOf, headerOf, dataAfter};
 ghost use Rattle.adv7194_bus.specs.Board.{boardOf};
+ghost use Rattle.adv7194_bus.specs.Rules.{allKeepRules};
 ghost use Rattle.adv7194_settings.specs.Wanted.{wantedBy};
 ghost use Rattle.adv7194_settings.specs.Demand.{Demanded};
 ghost use Rattle.adv7194_settings.specs.House.{houseOf, houseLeft};
 ghost use Rattle.adv7194_settings.specs.Reading.{readOf, readLeft};
+ghost use Rattle.adv7194_captions.specs.Plans.{areCaptions};
 ghost use Rattle.adv7194_captions.specs.Planning.{captionPlanning, captionPlanLeft};
 ghost use Rattle.adv7194_captions.specs.Reading.{captionReading};
 ghost use Rattle.adv7194_least.specs.Aim.{aimOf};
@@ -18,8 +20,8 @@ ghost use Rattle.adv7194_least.specs.Demands.{Least, First, Only, mostBytes, wi
 ghost use Rattle.adv7194_planning.specs.Rows.{listOf};
 ghost use Rattle.adv7194_planning.specs.Planning.{planningOf, planLeft};
 ghost use Rattle.adv7194_reasons.specs.Why.{whyOf};
-ghost use Rattle.adv7194_playing.specs.declared.PlanKind.the-variants.{Settings, Captions};
-ghost use Rattle.adv7194_playing.specs.Playing.{playOf, playedBoard};
+ghost use Rattle.playing.specs.Playing.{playOf};
+ghost use Rattle.adv7194_playing.specs.Playing.{callOf, playedBoard};
 ghost use Rattle.adv7194_compare.specs.Differences.{Equal};
 ghost use Rattle.adv7194_compare.specs.Compare.{compareOf};
 ghost use Rattle.adv7194_caption_planning.specs.Demands.{CaptionsPlayed, captionBytes};
@@ -93,9 +95,9 @@ pub extern "C" fn adv7194_play(
     plan: &[u8],
 ) -> PlayAnswer
     ensures answer { λ r. ⌜
-        r ≡ playAnswer (playOf Settings (boardOf (now (image .entry)) known) used own (now (plan .entry)))
-        (playedBoard Settings (boardOf (now (image .entry)) known) used own (now (plan .entry)) .known) ⌝ }
-    ensures memory { λ r. ⌜ boardOf (now (image .exit)) (r .known) ≡ playedBoard Settings (boardOf (now (image .entry)) known) used own (now (plan .entry)) ⌝ }
+        r ≡ playAnswer (playOf (callOf allKeepRules (boardOf (now (image .entry)) known) used own (now (plan .entry))))
+        (playedBoard allKeepRules (boardOf (now (image .entry)) known) used own (now (plan .entry)) .known) ⌝ }
+    ensures memory { λ r. ⌜ boardOf (now (image .exit)) (r .known) ≡ playedBoard allKeepRules (boardOf (now (image .entry)) known) used own (now (plan .entry)) ⌝ }
 {
     play_answer(
         play(PlanKind::Settings, image, known, used, own, plan),
@@ -167,9 +169,9 @@ pub extern "C" fn adv7194_play_captions(
     plan: &[u8],
 ) -> PlayAnswer
     ensures answer { λ r. ⌜
-        r ≡ playAnswer (playOf Captions (boardOf (now (image .entry)) known) used own (now (plan .entry)))
-        (playedBoard Captions (boardOf (now (image .entry)) known) used own (now (plan .entry)) .known) ⌝ }
-    ensures memory { λ r. ⌜ boardOf (now (image .exit)) (r .known) ≡ playedBoard Captions (boardOf (now (image .entry)) known) used own (now (plan .entry)) ⌝ }
+        r ≡ playAnswer (playOf (callOf areCaptions (boardOf (now (image .entry)) known) used own (now (plan .entry))))
+        (playedBoard areCaptions (boardOf (now (image .entry)) known) used own (now (plan .entry)) .known) ⌝ }
+    ensures memory { λ r. ⌜ boardOf (now (image .exit)) (r .known) ≡ playedBoard areCaptions (boardOf (now (image .entry)) known) used own (now (plan .entry)) ⌝ }
 {
     play_answer(
         play(PlanKind::Captions, image, known, used, own, plan),

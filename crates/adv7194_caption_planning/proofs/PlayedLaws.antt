@@ -37,15 +37,17 @@ use Rattle.bus.specs.Address.{addressRight}
 use Rattle.bus.proofs.AddressLaws.{not-read}
 use Rattle.adv7194_captions.specs.Characters.{characterBits, captionByte}
 use Rattle.adv7194_captions.specs.Pairs.{pairsRight, pairAt, captionList}
-use Rattle.adv7194_captions.specs.Plans.{pairSize}
+use Rattle.adv7194_captions.specs.Plans.{pairSize, areCaptions}
 use Rattle.adv7194_captions.specs.Reading.{pairCount, pairRegister, captionReading}
 use Rattle.adv7194_captions.proofs.PairLaws.{Character, Right, ordinary-alone, extended-alone, both-given, right}
 use Rattle.adv7194_captions.proofs.ListLaws.{captions-formed, captions-unpack, captions-some, captions-inside, captions-sized}
 use Rattle.adv7194_captions.proofs.JustThese.{just-these}
 use Rattle.adv7194_captions.proofs.RowLaws.{odd-ones}
-use Rattle.adv7194_playing.specs.declared.PlanKind.the-variants.{Captions}
-use Rattle.adv7194_playing.specs.Playing.{judged, acknowledgedBy, playOf}
-use Rattle.adv7194_playing.proofs.JudgedLaws.{by-list}
+use Rattle.unpacking.specs.Unpacking.{unpack}
+use Rattle.playing.specs.Playing.{judgedIf, playOf}
+use Rattle.playing.proofs.Judging.{by-test}
+use Rattle.playing.proofs.Faults.{plan-played}
+use Rattle.adv7194_playing.specs.Playing.{callOf}
 use Rattle.adv7194_caption_planning.specs.Demands.{Leaves, ReadsBack, MakesKnown, CaptionsPlayed}
 
 -- ---- the list
@@ -137,18 +139,17 @@ module _ (extended ordinary : List ℤ) (h : pairsRight extended ordinary ≡ tr
       some (t ∷ ts) n = unacknowledged-elsewhere (adv7194 own) used w (not-read used own e f) t ts c
 
   -- the call that plays captions takes the packed list
-  taken : (image : List ℕ) (used own : ℕ) → length image ≡ registerCount → addressRight used ≡ true → addressRight own ≡ true
-      → judged Captions image used own (packed list) ≡ accepted list
-  taken image used own n e f =
+  taken : judgedIf areCaptions (unpack (packed list)) ≡ accepted list
+  taken =
       let order = in-order behind list (captions-formed extended ordinary h) in
       let all = just-these list order .1 (record { extended = extended; ordinary = ordinary; right = h; list = refl }) in
-      by-list Captions image used own (packed list) n e f list true (captions-unpack extended ordinary h) all
+      by-test areCaptions (captions-unpack extended ordinary h) all
 
   -- and answers whether it was sent to the chip's own address
   answer : (b : Board) (used own : ℕ) → length (b .registers) ≡ registerCount → addressRight used ≡ true → addressRight own ≡ true
-      → playOf Captions b used own (packed list) ≡ accepted (eqb used own)
+      → playOf (callOf areCaptions b used own (packed list)) ≡ good (eqb used own)
   answer b used own n e f =
-      ap (acknowledgedBy (b .registers) used own) (taken (b .registers) used own n e f) ∙ ap accepted (by (eqb used own) refl)
+      sym (plan-played (callOf areCaptions b used own (packed list)) (b .known) n e f list taken .answer) ∙ ap good (by (eqb used own) refl)
     where
       by : (t : Bool) → eqb used own ≡ t → allAcknowledged (adv7194 own) (fresh (b .registers)) (listEvents used list) ≡ eqb used own
       by true p = rw (eqb-true used own p) (acknowledged own (fresh (b .registers)) ∙ sym (eq-eqb own own refl))

@@ -22,9 +22,10 @@ use Rattle.adv7194_bus.specs.declared.board.Board.{Board}
 use Rattle.adv7194_bus.specs.Board.{boardOf}
 use Rattle.bus.specs.Address.{addressRight}
 use Rattle.adv7194_captions.specs.Pairs.{captionList}
+use Rattle.adv7194_captions.specs.Plans.{areCaptions}
 use Rattle.adv7194_captions.specs.Reading.{captionReading}
-use Rattle.adv7194_playing.specs.declared.PlanKind.the-variants.{Captions}
-use Rattle.adv7194_playing.specs.Playing.{playOf}
+use Rattle.playing.specs.Playing.{playOf}
+use Rattle.adv7194_playing.specs.Playing.{callOf}
 
 -- the most bytes that a packed plan of captions has
 abbrev pub captionBytes : ℕ
@@ -53,7 +54,7 @@ pub record MakesKnown (ts : List Transaction) (before after : ℕ) : Type 0 wher
 pub record CaptionsPlayed (extended ordinary : List ℤ) (plan : List ℕ) : Type 0 where
   pub unpacks : unpack plan ≡ accepted (captionList extended ordinary)
   pub answer : (b : Board) (used own : ℕ) → length (b .registers) ≡ registerCount → addressRight used ≡ true → addressRight own ≡ true
-      → playOf Captions b used own plan ≡ accepted (eqb used own)
+      → playOf (callOf areCaptions b used own plan) ≡ good (eqb used own)
   pub acknowledged : (own : ℕ) (c : Chip) → allAcknowledged (adv7194 own) c (listEvents own (captionList extended ordinary)) ≡ true
   pub leaves : (own : ℕ) (c : Chip) → length (c .registers) ≡ registerCount
       → Leaves (captionList extended ordinary) (c .registers) (run (adv7194 own) c (listEvents own (captionList extended ordinary)) .registers)

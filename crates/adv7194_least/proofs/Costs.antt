@@ -30,7 +30,7 @@ use Rattle.adv7194_least.proofs.Registers.{writable-from}
 use Rattle.adv7194_least.proofs.TaskLaws.{rules-writable, allowed, covers-task}
 use Rattle.bus.proofs.RegisterLaws.{not-both}
 use Rattle.adv7194_least.proofs.Differing.{must-settable, must-compared}
-use Rattle.adv7194_least.proofs.Reached.{rules-kept, plan-cheapest}
+use Rattle.adv7194_least.proofs.Reached.{rules-kept, plan-cheapest, plan-reaches}
 
 -- ---- a byte that is not the wanted one
 
@@ -143,9 +143,13 @@ module _ (a : Aim) where
       same-plan s =
           same-list (byteOf a) (planOf a) us s (plan-cheapest a χ .does .holds) (reaches-holds (spans-ascending (planOf a) us 0 s plan-ascending))
 
-    -- every such list that costs no more comes after the plan or is the plan
+    -- it is the plan: every such list that costs no more comes after it or is it
     pub plan-first : First a (planOf a)
     unfolding First
-    plan-first own pointer us q h =
-        ⊎-elim inl (λ s. inr (same-plan own pointer us q s))
-        (plan-cheapest a χ .first us (reaches-allowed own pointer us q) (reaches-covers own pointer us q) h)
+    plan-first own pointer = record {
+      reaches = plan-reaches a χ own pointer;
+      least = λ us q. touching-no-dearer us (q .rules) (q .limited) (q .clear) (reaches-touches own pointer us q);
+      first = λ us q h.
+          ⊎-elim inl (λ s. inr (same-plan own pointer us q s))
+          (plan-cheapest a χ .first us (reaches-allowed own pointer us q) (reaches-covers own pointer us q) h);
+    }

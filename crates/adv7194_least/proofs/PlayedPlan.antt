@@ -2,6 +2,7 @@
 -- leaves exactly the registers known or needed known, each with its wanted byte. Assumes nothing.
 use mathlib.Core.Path.{_≡_, refl, sym, ap, _∙_}
 use mathlib.Core.Bool.{Bool, true, false, _||_, false≢true}
+use mathlib.Core.List.{List}
 use Prim.Native.Nat.{ℕ, _<_}
 use lib.ListN.{length, getD}
 use Rattle.bits.proofs.FlagLaws.{holds, fails}
@@ -14,9 +15,9 @@ use Rattle.adv7194_bus.specs.Rules.{allKeepRules}
 use Rattle.bus.specs.Address.{addressRight}
 use Rattle.adv7194_bus.proofs.RuleLaws.{agree-all}
 use Rattle.adv7194_playing.specs.declared.PlanKind.the-variants.{Settings}
-use Rattle.adv7194_playing.specs.Playing.{playedBoard, registersAfter}
+use Rattle.adv7194_playing.specs.Playing.{playedBoard}
 use Rattle.bus.proofs.WrittenRun.{written-length}
-use Rattle.adv7194_playing.proofs.PlayedLaws.{played-judged, played-answer, played-registers, played-untouched, played-knows, played-past}
+use Rattle.adv7194_playing.proofs.PlayedLaws.{played-answer, played-registers, played-run, played-untouched, played-knows, played-past}
 use Rattle.adv7194_least.specs.Aim.{Aim, must, compared}
 use Rattle.adv7194_least.specs.Change.{Change}
 use Rattle.adv7194_least.specs.Plan.{planOf}
@@ -49,7 +50,7 @@ module _ (a : Aim) (χ : Change a) where
 
   module _ (own : ℕ) (right : addressRight own ≡ true) where
     -- what playing the packed plan leaves
-    plan-leaves : Leaves a (playedBoard Settings (a .board) own own (packed (planOf a)))
+    plan-leaves : Leaves a (playedBoard allKeepRules (a .board) own own (packed (planOf a)))
     plan-leaves = record {
       size =
           ap length (played-registers Settings (a .board) own (packed (planOf a)) (planOf a) (χ .found .size) right (plan-unpacks a χ) plan-taken)
@@ -57,8 +58,8 @@ module _ (a : Aim) (χ : Change a) where
       known = λ r h.
           played-knows Settings (a .board) own (packed (planOf a)) (planOf a) (χ .found .size) right (plan-unpacks a χ) plan-taken r ∙ known-or-touched r h;
       wanted = λ r h c.
-          ap (λ j. getD (registersAfter (a .board .registers) own own j) r 0)
-          (played-judged Settings (a .board) own (packed (planOf a)) (planOf a) (χ .found .size) right (plan-unpacks a χ) plan-taken)
+          ap (λ (l : List ℕ). getD l r 0)
+          (played-run Settings (a .board) own (packed (planOf a)) (planOf a) (χ .found .size) right (plan-unpacks a χ) plan-taken)
           ∙ plan-reaches a χ own 0 .ends (a .board .registers) (board-held a χ) r h c;
       others = λ r h c.
           played-untouched Settings (a .board) own (packed (planOf a)) (planOf a) (χ .found .size) right (plan-unpacks a χ) plan-taken r (untouched r c);

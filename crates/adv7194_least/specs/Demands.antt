@@ -7,10 +7,10 @@ use mathlib.Core.List.{List}
 use Prim.Native.Nat.{ℕ, _≤_, _<_}
 use lib.ListN.{length}
 use Rattle.bus.specs.Transactions.{Transaction, Every, busBytes}
-use Rattle.least_cost.specs.Order.{NoDearer, Before, Ascending}
+use Rattle.least_cost.specs.Order.{NoDearer, Ascending, IsPlan}
 use Rattle.adv7194_bus.specs.Limit.{noLimit}
 use Rattle.adv7194_least.specs.Aim.{Aim}
-use Rattle.adv7194_least.specs.Plan.{joinedPlan}
+use Rattle.adv7194_least.specs.Plan.{planOf}
 use Rattle.adv7194_least.specs.Reaching.{Within, Reaches}
 
 -- demand 3: no list that keeps the rules and ends in the wanted image has fewer bus bytes, or as many and fewer transactions
@@ -19,17 +19,21 @@ Least a transactions bytes =
     (own pointer : ℕ) (us : List Transaction) → Reaches own pointer a us
     → (bytes < busBytes us) ⊎ ((bytes ≡ busBytes us) × (transactions ≤ length us))
 
--- every such list that costs no more, in any order, overlap and repetition, comes after the list or is the list
+-- the list is the plan: it keeps the rules and ends in the wanted image, no such list costs less, and every one that costs no more, in any order, overlap and
+-- repetition, comes after it or is it
 unfoldable pub First : Aim → List Transaction → Type 0
-First a ts = (own pointer : ℕ) (us : List Transaction) → Reaches own pointer a us → NoDearer us ts → Before ts us ⊎ (us ≡ ts)
+First a ts = (own pointer : ℕ) → IsPlan (Reaches own pointer a) ts
 
--- no run of registers is longer than the limit
+-- the same aim without a limit
+abbrev pub unlimited : Aim → Aim
+unlimited a = record { board = a .board; wanted = a .wanted; fixes = a .fixes; limit = noLimit }
+
+-- no run of registers is longer than the limit: the plan without a limit keeps it
 abbrev pub RunsWithin : Aim → Type 0
-RunsWithin a = Every (Within (a .limit)) (joinedPlan a)
+RunsWithin a = Every (Within (a .limit)) (planOf (unlimited a))
 
--- one that doesn't come after the list is the list; where no run is longer than the limit, and so with 54, every ascending one is
+-- where no run is longer than the limit, and so with 54, every ascending one that costs no more is the list
 pub record Only (a : Aim) (ts : List Transaction) : Type 0 where
-  pub earliest : (own pointer : ℕ) (us : List Transaction) → Reaches own pointer a us → NoDearer us ts → (Before ts us → ⊥) → us ≡ ts
   pub ascending : RunsWithin a → (own pointer : ℕ) (us : List Transaction) → Ascending 0 us → Reaches own pointer a us → NoDearer us ts → us ≡ ts
   pub unlimited : a .limit ≡ noLimit → RunsWithin a
 

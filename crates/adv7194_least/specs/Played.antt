@@ -6,15 +6,17 @@ use mathlib.Core.List.{List}
 use Prim.Native.Nat.{ℕ, _≤_, _<_}
 use lib.ListN.{length, getD}
 use Rattle.refusals.specs.Refusal.{accepted}
+use Rattle.refusals.specs.Verdict.{good}
 use Rattle.bus.specs.Transactions.{Transaction}
 use Rattle.bus.specs.Run.{allAcknowledged, listEvents, idleAt}
 use Rattle.unpacking.specs.Unpacking.{unpack}
 use Rattle.adv7194_bus.specs.Kind.{registerCount, adv7194}
 use Rattle.adv7194_bus.specs.declared.board.Board.{Board}
 use Rattle.adv7194_bus.specs.Board.{knows}
+use Rattle.adv7194_bus.specs.Rules.{allKeepRules}
 use Rattle.bus.specs.Address.{addressRight}
-use Rattle.adv7194_playing.specs.declared.PlanKind.the-variants.{Settings}
-use Rattle.adv7194_playing.specs.Playing.{playOf, playedBoard}
+use Rattle.playing.specs.Playing.{playOf}
+use Rattle.adv7194_playing.specs.Playing.{callOf, playedBoard}
 use Rattle.adv7194_least.specs.Aim.{Aim, compared}
 use Rattle.adv7194_least.specs.Reaching.{MayHold, AsWanted, Reaches}
 
@@ -33,5 +35,5 @@ pub record Played (a : Aim) (plan : List ℕ) : Type 0 where
   pub reaches : (own pointer : ℕ) → Reaches own pointer a list
   pub acknowledged : (own pointer : ℕ) (image : List ℕ) → MayHold (a .board) image
       → allAcknowledged (adv7194 own) (idleAt pointer image) (listEvents own list) ≡ true
-  pub answer : (own : ℕ) → addressRight own ≡ true → playOf Settings (a .board) own own plan ≡ accepted true
-  pub leaves : (own : ℕ) → addressRight own ≡ true → Leaves a (playedBoard Settings (a .board) own own plan)
+  pub answer : (own : ℕ) → addressRight own ≡ true → playOf (callOf allKeepRules (a .board) own own plan) ≡ good true
+  pub leaves : (own : ℕ) → addressRight own ≡ true → Leaves a (playedBoard allKeepRules (a .board) own own plan)

@@ -26,9 +26,10 @@ use Rattle.adv7194_bus.specs.declared.board.Board.{Board}
 use Rattle.adv7194_bus.specs.Board.{boardOf}
 use Rattle.adv7194_playing.specs.declared.PlanKind.{PlanKind}
 use Rattle.adv7194_playing.specs.Kinds.{takesHeader, takesData, pairFrom, PairThere}
-use Rattle.adv7194_playing.specs.Playing.{takes, judgedAs}
+use Rattle.playing.specs.Playing.{judgedIf}
+use Rattle.playing.proofs.Judging.{by-test}
+use Rattle.adv7194_playing.specs.Playing.{takes}
 use Rattle.adv7194_playing.specs.Written.{Written}
-use Rattle.adv7194_playing.proofs.JudgedLaws.{by-taken}
 use Rattle.adv7194_playing.proofs.KindLaws.{takesOne, turns, enough, takes-parts, marks-state, room, pair-there, pair-judged}
 
 -- the registers are as many, also where the plan was refused
@@ -38,10 +39,10 @@ left-as-many (refused n) before after w = w
 
 -- what is answered, and left of the board
 abbrev pub Answers : PlanKind → List ℕ → Board → Board → Judged ℕ → Type 0
-Answers kind plan before after answer = (answer ≡ counted (judgedAs kind (unpack plan))) × Written (judgedAs kind (unpack plan)) before after
+Answers kind plan before after answer = (answer ≡ counted (judgedIf (takes kind) (unpack plan))) × Written (judgedIf (takes kind) (unpack plan)) before after
 
 -- by the judgement
-answers : (kind : PlanKind) (plan : List ℕ) (before after : Board) {answer : Judged ℕ} {j : Judged (List Transaction)} → judgedAs kind (unpack plan) ≡ j
+answers : (kind : PlanKind) (plan : List ℕ) (before after : Board) {answer : Judged ℕ} {j : Judged (List Transaction)} → judgedIf (takes kind) (unpack plan) ≡ j
     → answer ≡ counted j → Written j before after → Answers kind plan before after answer
 answers kind plan before after e p w = (p ∙ sym (ap counted e), subst⁻¹ (λ (j : Judged (List Transaction)). Written j before after) e w)
 
@@ -52,13 +53,13 @@ Passed kind plan map₀ l₀ map l c transactions = Writing (turns kind) plan As
 module _ (kind : PlanKind) {plan : List ℕ} {map₀ : ℕ} {l₀ : List ℕ} {map : ℕ} {l : List ℕ} {c : Cursor} {transactions : ℕ}
     (w : Passed kind plan map₀ l₀ map l c transactions) where
   -- a refusal, whatever is answered as known
-  refuse : (left : List ℕ) (m : ℕ) → judgedAs kind (unpack plan) ≡ refused 9 → length left ≡ length l₀
+  refuse : (left : List ℕ) (m : ℕ) → judgedIf (takes kind) (unpack plan) ≡ refused 9 → length left ≡ length l₀
       → Answers kind plan (boardOf l₀ map₀) (boardOf left m) (refused 9)
   refuse left m e h = answers kind plan (boardOf l₀ map₀) (boardOf left m) e refl h
 
   -- the plan has a fault
   pub fault-answered : (m : ℕ) → restOf plan c ≡ refused 9 → Answers kind plan (boardOf l₀ map₀) (boardOf l m) (refused 9)
-  fault-answered m e = refuse l m (ap (judgedAs kind) (walk-fails (w .walked) e)) (as-many w)
+  fault-answered m e = refuse l m (ap (judgedIf (takes kind)) (walk-fails (w .walked) e)) (as-many w)
 
   -- at its end, its list is taken if there are enough
   at-end : (b : Bool) → enough kind transactions ≡ b → takes kind (w .done) ≡ b
@@ -69,13 +70,13 @@ module _ (kind : PlanKind) {plan : List ℕ} {map₀ : ℕ} {l₀ : List ℕ} {m
   -- it ends too early
   pub empty-answered : (m : ℕ) → restOf plan c ≡ accepted [] → enough kind transactions ≡ false
       → Answers kind plan (boardOf l₀ map₀) (boardOf l m) (refused 9)
-  empty-answered m e f = refuse l m (by-taken kind (walk-ends (w .walked) e) (at-end false f)) (as-many w)
+  empty-answered m e f = refuse l m (by-test (takes kind) (walk-ends (w .walked) e) (at-end false f)) (as-many w)
 
   -- it ends
   pub end-answered : restOf plan c ≡ accepted [] → enough kind transactions ≡ true
       → Answers kind plan (boardOf l₀ map₀) (boardOf l map) (accepted transactions)
   end-answered e f =
-      answers kind plan (boardOf l₀ map₀) (boardOf l map) (by-taken kind (walk-ends (w .walked) e) (at-end true f)) (ap accepted (w .counts))
+      answers kind plan (boardOf l₀ map₀) (boardOf l map) (by-test (takes kind) (walk-ends (w .walked) e) (at-end true f)) (ap accepted (w .counts))
       (ap₂ boardOf (w .written) (w .state ∙ marks-state kind (w .done) map₀ l₀))
 
   module _ {subaddress count : ℕ} {first : Place} {after : Cursor} (g : Went plan c subaddress count first after) where
@@ -91,7 +92,7 @@ module _ (kind : PlanKind) {plan : List ℕ} {map₀ : ℕ} {l₀ : List ℕ} {m
     not-taken : (left : List ℕ) (m : ℕ) → length left ≡ length l₀ → takesOne kind t ≡ false
         → Answers kind plan (boardOf l₀ map₀) (boardOf left m) (refused 9)
     not-taken left m h e =
-        refuse left m (⊎-elim (λ r. ap (judgedAs kind) r) (λ u. by-taken kind (u .1 .0) (breaks (u .0) (u .1 .1))) (writing-breaks w g e)) h
+        refuse left m (⊎-elim (λ r. ap (judgedIf (takes kind)) r) (λ u. by-test (takes kind) (u .1 .0) (breaks (u .0) (u .1 .1))) (writing-breaks w g e)) h
 
     -- for its header
     pub header-answered : (m : ℕ) → takesHeader kind subaddress count ≡ false → Answers kind plan (boardOf l₀ map₀) (boardOf l m) (refused 9)

@@ -2,12 +2,14 @@
 ghost use mathlib.Core.Path.{_≡_};
 ghost use mathlib.Core.Bool.{true};
 ghost use lib.ListN.{length};
+ghost use Rattle.refusals.specs.Order.{Exactly};
 ghost use Rattle.unpacking.specs.Unpacking.{unpack, counted};
 ghost use Rattle.adv7194_bus.specs.Kind.{registerCount};
 ghost use Rattle.adv7194_bus.specs.Board.{boardOf};
 ghost use Rattle.bus.specs.Address.{addressRight};
 ghost use Rattle.adv7194_playing.specs.Kinds.{needsTransaction, takesHeader, takesData, pairFrom, PairThere};
-ghost use Rattle.adv7194_playing.specs.Playing.{judgedAs, acknowledgedBy, boardAfter, playOf, playedBoard, answerOf, knownOf};
+ghost use Rattle.playing.specs.Playing.{judgedIf, rowPlayed, playOrder, acknowledged, playOf};
+ghost use Rattle.adv7194_playing.specs.Playing.{takes, callOf, playedBoard, answerOf, knownOf};
 ghost use Rattle.adv7194_playing.specs.Written.{Written, countOf, mapOf};
 use adv7194_bus::REGISTERS;
 use adv7194_bus::board::marked;
@@ -82,9 +84,10 @@ fn takes_data(kind: PlanKind, registers: &[u8], subaddress: u8) -> bool
 // transactions, and answers how many there are; the registers are no image of a chip's where the plan is refused.
 fn write_plan(kind: PlanKind, plan: &[u8], registers: &mut [u8], known: u64) -> Walk
     requires { ⌜ length (now registers) ≡ registerCount ⌝ }
-    ensures answer { λ r. ⌜ countOf r ≡ counted (judgedAs kind (unpack (now (plan .entry)))) ⌝ }
+    ensures answer { λ r. ⌜ countOf r ≡ counted (judgedIf (takes kind) (unpack (now (plan .entry)))) ⌝ }
     ensures memory { λ r. ⌜
-        Written (judgedAs kind (unpack (now (plan .entry)))) (boardOf (now (registers .entry)) known) (boardOf (now (registers .exit)) (mapOf known r)) ⌝ }
+        Written (judgedIf (takes kind) (unpack (now (plan .entry)))) (boardOf (now (registers .entry)) known)
+        (boardOf (now (registers .exit)) (mapOf known r)) ⌝ }
 {
     let mut cursor = begin(plan, Order::Ascending);
     let mut transactions: u8 = 0;
@@ -133,10 +136,9 @@ fn play_checked(
     plan: &[u8],
 ) -> Played
     requires { ⌜ (length (now image) ≡ registerCount) × (addressRight used ≡ true) × (addressRight own ≡ true) ⌝ }
-    ensures answer { λ r. ⌜ answerOf r ≡ acknowledgedBy (now (image .entry)) used own (judgedAs kind (unpack (now (plan .entry)))) ⌝ }
+    ensures answer { λ r. ⌜ answerOf r ≡ playOf (callOf (takes kind) (boardOf (now (image .entry)) known) used own (now (plan .entry))) ⌝ }
     ensures memory { λ r. ⌜
-        boardOf (now (image .exit)) (knownOf known r)
-        ≡ boardAfter (boardOf (now (image .entry)) known) used own (judgedAs kind (unpack (now (plan .entry)))) ⌝ }
+        boardOf (now (image .exit)) (knownOf known r) ≡ playedBoard (takes kind) (boardOf (now (image .entry)) known) used own (now (plan .entry)) ⌝ }
 {
     let mut registers = copied(image);
     match write_plan(kind, plan, &mut registers, known) {
@@ -170,9 +172,11 @@ pub fn play(
     own: u32,
     plan: &[u8],
 ) -> Played
-    ensures answer { λ r. ⌜ answerOf r ≡ playOf kind (boardOf (now (image .entry)) known) used own (now (plan .entry)) ⌝ }
+    ensures answer { λ r. ⌜ answerOf r ≡ playOf (callOf (takes kind) (boardOf (now (image .entry)) known) used own (now (plan .entry))) ⌝ }
     ensures memory { λ r. ⌜
-        boardOf (now (image .exit)) (knownOf known r) ≡ playedBoard kind (boardOf (now (image .entry)) known) used own (now (plan .entry)) ⌝ }
+        boardOf (now (image .exit)) (knownOf known r) ≡ playedBoard (takes kind) (boardOf (now (image .entry)) known) used own (now (plan .entry)) ⌝ }
+    ensures exactly { λ r. ⌜ Exactly (rowPlayed (callOf (takes kind) (boardOf (now (image .entry)) known) used own (now (plan .entry)))) playOrder
+        (acknowledged (callOf (takes kind) (boardOf (now (image .entry)) known) used own (now (plan .entry)))) (answerOf r) ⌝ }
 {
     if image.len() != REGISTERS as usize {
         return Played::Refused(Refusal::ImageLength);

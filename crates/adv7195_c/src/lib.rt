@@ -9,7 +9,8 @@ ghost use Rattle.unpacking.specs.Indexed.{transactionOf, headerOf, dataAfter};
 ghost use Rattle.answers.specs.Answers.{planAnswer, readAnswer, transactionAnswer};
 ghost use Rattle.adv7195_settings.specs.Wanted.{wantedBy, Demanded};
 ghost use Rattle.adv7195_settings.specs.Reading.{readOf, readLeft};
-ghost use Rattle.adv7195_playing.specs.Playing.{unpacked, playOf, playedImage};
+ghost use Rattle.playing.specs.Playing.{playOf, registersLeft};
+ghost use Rattle.adv7195_playing.specs.Playing.{unpacked, callOf};
 ghost use Rattle.adv7195_least.specs.Played.{Played};
 ghost use Rattle.adv7195_least.specs.Demands.{Least, First, mostBytes};
 ghost use Rattle.adv7195_planning.specs.Planning.{listOf, planningOf, planLeft};
@@ -58,8 +59,8 @@ pub extern "C" fn adv7195_plan(
 // Plays a packed plan, sent at the address used, against a fresh chip of its own address that holds the image.
 #[no_mangle]
 pub extern "C" fn adv7195_play(image: &mut [u8], used: u32, own: u32, plan: &[u8]) -> PlayAnswer
-    ensures answer { λ r. ⌜ r ≡ playAnswer (playOf (now (image .entry)) used own (now (plan .entry))) ⌝ }
-    ensures memory { λ r. ⌜ now (image .exit) ≡ playedImage (now (image .entry)) used own (now (plan .entry)) ⌝ }
+    ensures answer { λ r. ⌜ r ≡ playAnswer (playOf (callOf (now (image .entry)) used own (now (plan .entry)))) ⌝ }
+    ensures memory { λ r. ⌜ now (image .exit) ≡ registersLeft (callOf (now (image .entry)) used own (now (plan .entry))) ⌝ }
 {
     play_answer(play(image, used, own, plan))
 }

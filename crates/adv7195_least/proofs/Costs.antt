@@ -16,7 +16,7 @@ use Rattle.bus.specs.Run.{idleAt}
 use Rattle.bus.proofs.Play.{touched-or-same}
 use Rattle.bus.proofs.After.{next}
 use Rattle.bus.proofs.RegisterLaws.{not-both}
-use Rattle.least_cost.specs.Order.{NoDearer, Before}
+use Rattle.least_cost.specs.Order.{NoDearer, Before, IsPlan}
 use Rattle.least_cost.specs.Weight.{byteWeight, weights}
 use Rattle.least_cost.proofs.WeightLaws.{weights-is, no-dearer, no-heavier}
 use Rattle.least_cost.proofs.First.{leads-more}
@@ -199,11 +199,9 @@ module _ (image wanted : List ℕ) (χ : Change image wanted) (own pointer : ℕ
 
   -- ---- the plan
 
-  -- what is shown of it
-  record Best (ts : List Transaction) : Type 0 where
-    reaches : Reaches own pointer image wanted ts
-    least : (us : List Transaction) → Reaches own pointer image wanted us → NoDearer ts us
-    first : (us : List Transaction) → Reaches own pointer image wanted us → NoDearer us ts → Before ts us ⊎ (us ≡ ts)
+  -- a list is the plan among those that keep the rule and the order and end in the wanted image
+  abbrev Best : List Transaction → Type 0
+  Best ts = IsPlan (Reaches own pointer image wanted) ts
 
   -- where MR36 stays
   steady-best : flipped image wanted ≡ false → Best steady
@@ -249,7 +247,7 @@ module _ (image wanted : List ℕ) (χ : Change image wanted) where
   unfolding Least NoDearer
   plan-least own pointer us q = plan-best image wanted χ own pointer .least us q
 
-  -- every such list that costs no more comes after the plan or is the plan
+  -- it is the plan: every such list that costs no more comes after it or is it
   pub plan-first : First image wanted (planOf image wanted)
   unfolding First
-  plan-first own pointer us q h = plan-best image wanted χ own pointer .first us q h
+  plan-first own pointer = plan-best image wanted χ own pointer

@@ -1,22 +1,24 @@
 -- Demand 2: the packed plan unpacks to the plan, which keeps the rule and the order, is acknowledged throughout and ends in the wanted image; playing it at the
 -- chip's own address answers so and leaves the wanted image. Assumes nothing.
-use mathlib.Core.Path.{_≡_, ap, _∙_}
+use mathlib.Core.Path.{_≡_, sym, ap, _∙_}
 use mathlib.Core.Bool.{true}
 use mathlib.Core.List.{List}
 use Prim.Native.Nat.{ℕ}
-use lib.ListN.{length}
-use borrow.Author.Tests.{eq-eqb}
 use Rattle.refusals.specs.Refusal.{accepted}
+use Rattle.refusals.specs.Verdict.{good}
 use Rattle.bits.proofs.FlagLaws.{holds}
 use Rattle.bus.specs.Chip.{fresh}
 use Rattle.bus.specs.Address.{addressRight}
 use Rattle.packing.specs.Packing.{packed}
-use Rattle.adv7195_bus.specs.Kind.{registerCount}
 use Rattle.adv7195_bus.specs.Rules.{allKeepRules}
 use Rattle.adv7195_bus.specs.Order.{keepsOrder}
 use Rattle.adv7195_bus.proofs.RuleLaws.{agree-all}
 use Rattle.adv7195_bus.proofs.OrderLaws.{order-agrees}
-use Rattle.adv7195_playing.specs.Playing.{judged, judgedBy, acknowledgedBy, registersAfter, playOf, playedImage}
+use Rattle.playing.specs.Playing.{Call, judged, playOf, registersLeft}
+use Rattle.playing.proofs.Judging.{by-test}
+use Rattle.playing.proofs.Faults.{plan-played as plan-taken}
+use Rattle.adv7195_playing.specs.Playing.{takes, callOf}
+use Rattle.adv7195_playing.proofs.PlayedLaws.{noMap}
 use Rattle.adv7195_least.specs.Reaching.{Change}
 use Rattle.adv7195_least.specs.Plan.{planOf}
 use Rattle.adv7195_least.specs.Played.{Played}
@@ -34,20 +36,26 @@ module _ (image wanted : List ℕ) (χ : Change image wanted) where
       order-agrees 0 (planOf image wanted) (fresh image) (q .rules) (χ .found) .1 (q .ordered)
 
   module _ (own : ℕ) (right : addressRight own ≡ true) where
+    -- playing takes it
+    takes-plan : takes image (planOf image wanted) ≡ true
+    takes-plan = rw (plan-rules, plan-order)
+
+    -- the call
+    abbrev call : Call
+    call = callOf image own own (packed (planOf image wanted))
+
     -- so playing accepts it
-    plan-judged : judged image own own (packed (planOf image wanted)) ≡ accepted (planOf image wanted)
-    unfolding judged
-    plan-judged =
-        rw (eq-eqb (length image) registerCount (χ .found), right)
-        (ap (judgedBy image) (plan-unpacks image wanted χ) ∙ rw (plan-rules, plan-order))
+    plan-judged : judged call ≡ accepted (planOf image wanted)
+    plan-judged = by-test (takes image) (plan-unpacks image wanted χ) takes-plan
 
     -- every byte of it is acknowledged
-    plan-answer : playOf image own own (packed (planOf image wanted)) ≡ accepted true
-    plan-answer = ap (acknowledgedBy image own own) plan-judged ∙ ap accepted (plan-acknowledged image wanted χ own 0)
+    plan-answer : playOf call ≡ good true
+    plan-answer =
+        sym (plan-taken call noMap (χ .found) right right (planOf image wanted) plan-judged .answer) ∙ ap good (plan-acknowledged image wanted χ own 0)
 
     -- and it leaves the wanted image
-    plan-leaves : playedImage image own own (packed (planOf image wanted)) ≡ wanted
-    plan-leaves = ap (registersAfter image own own) plan-judged ∙ plan-reaches image wanted χ own 0 .ends
+    plan-leaves : registersLeft call ≡ wanted
+    plan-leaves = sym (plan-taken call noMap (χ .found) right right (planOf image wanted) plan-judged .stored) ∙ plan-reaches image wanted χ own 0 .ends
 
   -- demand 2 of the packed plan
   pub plan-played : Played image wanted (packed (planOf image wanted))

@@ -7,7 +7,7 @@ use mathlib.Core.List.{List}
 use Prim.Native.Nat.{ℕ, _≤_, _<_}
 use lib.ListN.{length}
 use Rattle.bus.specs.Transactions.{Transaction, busBytes}
-use Rattle.least_cost.specs.Order.{NoDearer, Before}
+use Rattle.least_cost.specs.Order.{IsPlan}
 use Rattle.adv7195_least.specs.Reaching.{Reaches}
 
 -- no list that keeps the rule and the order and ends in the wanted image has fewer bus bytes, or as many and fewer transactions
@@ -16,10 +16,10 @@ Least image wanted transactions bytes =
     (own pointer : ℕ) (us : List Transaction) → Reaches own pointer image wanted us
     → (bytes < busBytes us) ⊎ ((bytes ≡ busBytes us) × (transactions ≤ length us))
 
--- every such list that costs no more comes after the list by starts and lengths, or is the list: so lower data never decide
+-- the list is the plan: it keeps the rule and the order and ends in the wanted image, no such list costs less, and every one that costs no more comes after
+-- it by starts and lengths, or is it: so lower data never decide
 unfoldable pub First : List ℕ → List ℕ → List Transaction → Type 0
-First image wanted ts =
-    (own pointer : ℕ) (us : List Transaction) → Reaches own pointer image wanted us → NoDearer us ts → Before ts us ⊎ (us ≡ ts)
+First image wanted ts = (own pointer : ℕ) → IsPlan (Reaches own pointer image wanted) ts
 
 -- the most bytes that a packed plan has (theorem `plan-room` of proofs/Packed.antt), and no fewer are enough (theorem `room-least` of proofs/PlanCases.antt)
 abbrev pub mostBytes : ℕ

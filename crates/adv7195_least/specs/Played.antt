@@ -5,11 +5,13 @@ use mathlib.Core.Bool.{true}
 use mathlib.Core.List.{List}
 use Prim.Native.Nat.{ℕ}
 use Rattle.refusals.specs.Refusal.{accepted}
+use Rattle.refusals.specs.Verdict.{good}
 use Rattle.bus.specs.Transactions.{Transaction}
 use Rattle.bus.specs.Run.{idleAt, allAcknowledged, listEvents}
 use Rattle.bus.specs.Address.{addressRight}
 use Rattle.adv7195_bus.specs.Kind.{adv7195}
-use Rattle.adv7195_playing.specs.Playing.{unpacked, playOf, playedImage}
+use Rattle.playing.specs.Playing.{playOf, registersLeft}
+use Rattle.adv7195_playing.specs.Playing.{unpacked, callOf}
 use Rattle.adv7195_least.specs.Reaching.{Reaches}
 
 -- what a plan's bytes do to a chip that holds the starting image, at every address and pointer; and what playing them answers and leaves
@@ -18,5 +20,5 @@ pub record Played (image wanted plan : List ℕ) : Type 0 where
   pub unpacks : unpacked plan ≡ accepted list
   pub reaches : (own pointer : ℕ) → Reaches own pointer image wanted list
   pub acknowledged : (own pointer : ℕ) → allAcknowledged (adv7195 own) (idleAt pointer image) (listEvents own list) ≡ true
-  pub answer : (own : ℕ) → addressRight own ≡ true → playOf image own own plan ≡ accepted true
-  pub leaves : (own : ℕ) → addressRight own ≡ true → playedImage image own own plan ≡ wanted
+  pub answer : (own : ℕ) → addressRight own ≡ true → playOf (callOf image own own plan) ≡ good true
+  pub leaves : (own : ℕ) → addressRight own ≡ true → registersLeft (callOf image own own plan) ≡ wanted

@@ -25,10 +25,11 @@ use Rattle.adv7195_bus.specs.Kind.{registerCount}
 use Rattle.adv7195_bus.specs.Rules.{Rules, keepsRules}
 use Rattle.adv7195_bus.specs.Order.{modeRegister3, interpolationBit, interpolation, flipped}
 use Rattle.adv7195_bus.proofs.RuleLaws.{agree}
-use Rattle.adv7195_playing.specs.Playing.{unpacked, judgedBy}
+use Rattle.playing.specs.Playing.{judgedIf}
+use Rattle.playing.proofs.Judging.{by-test}
+use Rattle.adv7195_playing.specs.Playing.{unpacked, takes}
 use Rattle.adv7195_playing.specs.Written.{Written, preparedAfter}
 use Rattle.adv7195_playing.proofs.TurnLaws.{turns, overwritten, prepared-held, passes-both}
-use Rattle.adv7195_playing.proofs.JudgedLaws.{takes, by-taken}
 
 -- the registers are as many, also where the plan was refused
 pub left-as-many : (j : Judged (List Transaction)) (before after : List ℕ) → Written j before after → length after ≡ length before
@@ -38,14 +39,14 @@ left-as-many (refused n) before after w = w
 -- what is answered, and left of the registers
 abbrev pub Answers : List ℕ → List ℕ → List ℕ → Judged ℕ → Type 0
 Answers plan before after answer =
-    (answer ≡ counted (judgedBy before (unpacked plan))) × Written (judgedBy before (unpacked plan)) before after
+    (answer ≡ counted (judgedIf (takes before) (unpacked plan))) × Written (judgedIf (takes before) (unpacked plan)) before after
 
 -- some transactions of the plan were passed, taken and written; p says whether 3E was the last byte for 09
 abbrev pub Passed : List ℕ → List ℕ → Bool → List ℕ → Cursor → ℕ → Type 0
 Passed plan before p now c transactions = Writing turns plan Any false before p now c transactions
 
 -- by the judgement
-answers : (plan before after : List ℕ) {answer : Judged ℕ} {j : Judged (List Transaction)} → judgedBy before (unpacked plan) ≡ j → answer ≡ counted j
+answers : (plan before after : List ℕ) {answer : Judged ℕ} {j : Judged (List Transaction)} → judgedIf (takes before) (unpacked plan) ≡ j → answer ≡ counted j
     → Written j before after → Answers plan before after answer
 answers plan before after e p w = (p ∙ sym (ap counted e), subst⁻¹ (λ (j : Judged (List Transaction)). Written j before after) e w)
 
@@ -58,7 +59,7 @@ unprepared false p = refl
 module _ {plan before : List ℕ} {p : Bool} {now : List ℕ} {c : Cursor} {transactions : ℕ} (w : Passed plan before p now c transactions) where
   -- the plan has a fault
   pub fault-answered : restOf plan c ≡ refused 9 → Answers plan before now (refused 9)
-  fault-answered e = answers plan before now (ap (judgedBy before) (walk-fails (w .walked) e)) refl (as-many w)
+  fault-answered e = answers plan before now (ap (judgedIf (takes before)) (walk-fails (w .walked) e)) refl (as-many w)
 
   module _ (long : length before ≡ registerCount) where
     -- a list is taken as its transactions pass their turns
@@ -67,7 +68,8 @@ module _ {plan before : List ℕ} {p : Bool} {now : List ℕ} {c : Cursor} {tran
 
     -- it ends
     pub end-answered : restOf plan c ≡ accepted [] → Answers plan before now (accepted transactions)
-    end-answered e = answers plan before now (by-taken before (walk-ends (w .walked) e) (taken (w .done) (w .passed))) (ap accepted (w .counts)) (w .written)
+    end-answered e =
+        answers plan before now (by-test (takes before) (walk-ends (w .walked) e) (taken (w .done) (w .passed))) (ap accepted (w .counts)) (w .written)
 
     module _ {subaddress count : ℕ} {first : Place} {after : Cursor} (g : Went plan c subaddress count first after) where
       -- the transaction found
@@ -78,7 +80,7 @@ module _ {plan before : List ℕ} {p : Bool} {now : List ℕ} {c : Cursor} {tran
       not-taken : turns .asks p now t ≡ false → (left : List ℕ) → length left ≡ length before → Answers plan before left (refused 9)
       not-taken e left h =
           answers plan before left
-          (⊎-elim (λ r. ap (judgedBy before) r) (λ u. by-taken before (u .1 .0) (taken (u .0) (u .1 .1))) (writing-breaks w g e)) refl h
+          (⊎-elim (λ r. ap (judgedIf (takes before)) r) (λ u. by-test (takes before) (u .1 .0) (taken (u .0) (u .1 .1))) (writing-breaks w g e)) refl h
 
       -- it breaks the rule
       pub rule-answered : keepsRules subaddress count ≡ false → Answers plan before now (refused 9)

@@ -3,9 +3,11 @@ ghost use mathlib.Core.Path.{_≡_};
 ghost use mathlib.Core.Bool.{true};
 ghost use lib.ListN.{length};
 ghost use Rattle.bus.specs.Address.{addressRight};
+ghost use Rattle.refusals.specs.Order.{Exactly};
 ghost use Rattle.unpacking.specs.Unpacking.{counted};
+ghost use Rattle.playing.specs.Playing.{judgedIf, rowPlayed, playOrder, acknowledged, playOf, registersLeft};
 ghost use Rattle.adv7195_bus.specs.Kind.{registerCount};
-ghost use Rattle.adv7195_playing.specs.Playing.{unpacked, judgedBy, acknowledgedBy, registersAfter, playOf, playedImage, answerOf};
+ghost use Rattle.adv7195_playing.specs.Playing.{unpacked, takes, callOf, answerOf};
 ghost use Rattle.adv7195_playing.specs.Written.{Written, countOf, preparedAfter};
 use adv7195_bus::MODE_REGISTER_3;
 use adv7195_bus::MODE_REGISTER_6;
@@ -53,8 +55,8 @@ fn prepared_after(prepared: bool, registers: &[u8], subaddress: u8, count: u8) -
 // answers how many there are; the registers are no image of a chip's where the plan is refused.
 fn write_plan(plan: &[u8], registers: &mut [u8]) -> Walk
     requires { ⌜ length (now registers) ≡ registerCount ⌝ }
-    ensures answer { λ r. ⌜ countOf r ≡ counted (judgedBy (now (registers .entry)) (unpacked (now (plan .entry)))) ⌝ }
-    ensures memory { λ r. ⌜ Written (judgedBy (now (registers .entry)) (unpacked (now (plan .entry)))) (now (registers .entry)) (now (registers .exit)) ⌝ }
+    ensures answer { λ r. ⌜ countOf r ≡ counted (judgedIf (takes (now (registers .entry))) (unpacked (now (plan .entry)))) ⌝ }
+    ensures memory { λ r. ⌜ Written (judgedIf (takes (now (registers .entry))) (unpacked (now (plan .entry)))) (now (registers .entry)) (now (registers .exit)) ⌝ }
 {
     let mut cursor = begin(plan, Order::Any);
     let mut transactions: u8 = 0;
@@ -91,8 +93,8 @@ fn write_plan(plan: &[u8], registers: &mut [u8]) -> Walk
 // the chip's own address, the image becomes that copy.
 fn play_checked(image: &mut [u8], used: u32, own: u32, plan: &[u8]) -> Played
     requires { ⌜ (length (now image) ≡ registerCount) × (addressRight used ≡ true) × (addressRight own ≡ true) ⌝ }
-    ensures answer { λ r. ⌜ answerOf r ≡ acknowledgedBy (now (image .entry)) used own (judgedBy (now (image .entry)) (unpacked (now (plan .entry)))) ⌝ }
-    ensures memory { λ r. ⌜ now (image .exit) ≡ registersAfter (now (image .entry)) used own (judgedBy (now (image .entry)) (unpacked (now (plan .entry)))) ⌝ }
+    ensures answer { λ r. ⌜ answerOf r ≡ playOf (callOf (now (image .entry)) used own (now (plan .entry))) ⌝ }
+    ensures memory { λ r. ⌜ now (image .exit) ≡ registersLeft (callOf (now (image .entry)) used own (now (plan .entry))) ⌝ }
 {
     let mut registers = copied(image);
     match write_plan(plan, &mut registers) {
@@ -109,8 +111,10 @@ fn play_checked(image: &mut [u8], used: u32, own: u32, plan: &[u8]) -> Played
 
 // Plays a packed plan, sent at the address used, against a fresh chip of its own address that holds the image.
 pub fn play(image: &mut [u8], used: u32, own: u32, plan: &[u8]) -> Played
-    ensures answer { λ r. ⌜ answerOf r ≡ playOf (now (image .entry)) used own (now (plan .entry)) ⌝ }
-    ensures memory { λ r. ⌜ now (image .exit) ≡ playedImage (now (image .entry)) used own (now (plan .entry)) ⌝ }
+    ensures answer { λ r. ⌜ answerOf r ≡ playOf (callOf (now (image .entry)) used own (now (plan .entry))) ⌝ }
+    ensures memory { λ r. ⌜ now (image .exit) ≡ registersLeft (callOf (now (image .entry)) used own (now (plan .entry))) ⌝ }
+    ensures exactly { λ r. ⌜ Exactly (rowPlayed (callOf (now (image .entry)) used own (now (plan .entry)))) playOrder
+        (acknowledged (callOf (now (image .entry)) used own (now (plan .entry)))) (answerOf r) ⌝ }
 {
     if image.len() != REGISTERS as usize {
         return Played::Refused(Refusal::ImageLength);

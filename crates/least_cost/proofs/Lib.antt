@@ -10,6 +10,7 @@ pub mod Spans
 pub mod Earliest
 pub mod First
 pub mod Unique
+pub mod OnePlan
 pub mod Cheapest
 pub mod Near
 pub mod Segments

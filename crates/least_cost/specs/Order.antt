@@ -20,6 +20,13 @@ Before (t ∷ ts) (u ∷ us) =
     (t .subaddress < u .subaddress)
     ⊎ ((t .subaddress ≡ u .subaddress) × ((size t < size u) ⊎ ((size t ≡ size u) × Before ts us)))
 
+-- a list is the plan among some lists: it is one of them, none of them costs less, and every one that costs no more comes after it or is it. No other list
+-- is (theorem `one-plan` of proofs/OnePlan.antt)
+pub record IsPlan (Reaches : List Transaction → Type 0) (ts : List Transaction) : Type 0 where
+  pub reaches : Reaches ts
+  pub least : (us : List Transaction) → Reaches us → NoDearer ts us
+  pub first : (us : List Transaction) → Reaches us → NoDearer us ts → Before ts us ⊎ (us ≡ ts)
+
 -- the two lists have the same starts and lengths
 abbrev pub SameSpans : List Transaction → List Transaction → Type 0
 SameSpans [] [] = Unit {0}

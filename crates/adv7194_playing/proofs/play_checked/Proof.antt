@@ -11,15 +11,16 @@ use Rattle.refusals.specs.Refusal.{Judged, numberOf}
 use Rattle.bus.specs.Transactions.{Transaction}
 use Rattle.unpacking.specs.Unpacking.{unpack, counted}
 use Rattle.unpacking.proofs.PlanLaws.{refused-list}
+use Rattle.playing.specs.Playing.{Call, judgedIf}
+use Rattle.playing.proofs.Faults.{plan-fault}
+use Rattle.playing.proofs.Played.{played-elsewhere}
 use Rattle.adv7194_bus.specs.declared.board.Board.{Board}
 use Rattle.adv7194_bus.specs.Board.{boardOf}
 use Rattle.adv7194_playing.specs.declared.Walk.{Walk}
-use Rattle.adv7194_playing.specs.Playing.{judgedAs}
+use Rattle.adv7194_playing.specs.Playing.{takes, callOf}
 use Rattle.adv7194_playing.specs.Written.{Written, countOf, mapOf}
-use Rattle.adv7194_playing.proofs.JudgedLaws.{refuse}
-use Rattle.adv7194_playing.proofs.Elsewhere.{nothing-stored, not-acknowledged}
 use Rattle.adv7194_playing.proofs.WrittenLaws.{left-as-many}
-use Rattle.adv7194_playing.proofs.WrittenRun.{own-played}
+use Rattle.adv7194_playing.proofs.WrittenRun.{as-left, own-played}
 use Rattle.adv7194_playing.proofs.play_checked.Statement.{statement}
 use Rattle.adv7194_playing.proofs.play_checked.Tie as tie
 
@@ -29,34 +30,35 @@ start w = w .before .before .before .before .before .before
 
 -- the judgement of the plan
 abbrev judgement : tie.After-write-plan → Judged (List Transaction)
-judgement w = judgedAs (start w .args .kind) (unpack (now (start w .args .plan)))
+judgement w = judgedIf (takes (start w .args .kind)) (unpack (now (start w .args .plan)))
 
 -- as it was answered
 answered : (w : tie.After-write-plan) (r : Walk) → w .write-plan .result ≡ r → counted (judgement w) ≡ countOf r
 answered w r e = sym (w .write-plan .ensures .0) ∙ ap countOf e
 
+-- the board that was found, and the call
+abbrev board : tie.After-write-plan → Board
+board w = boardOf (now (start w .args .image)) (start w .args .known)
+
+abbrev call : tie.After-write-plan → Call
+call w = let a = start w .args in callOf (takes (a .kind)) (board w) (a .used) (a .own) (now (a .plan))
+
 returns : tie.Need-returns
 returns c =
     let t = c .before .before in
     let w = t .before .before .before in
-    let a = start w .args in
-    let p = start w .pre in (
-      not-acknowledged (now (a .image)) (a .used) (a .own) (c .if1 .taken) (p .1) (p .2) (judgement w) _ (answered w _ (t .transactions .given .1)),
-      sym (nothing-stored (now (a .image)) (a .used) (a .own) (c .if1 .taken) (p .1) (p .2) (a .known) (judgement w)),
-    )
+    let p = start w .pre in
+    as-left (played-elsewhere (call w) (start w .args .known) (p .0) (p .1) (p .2) (c .if1 .taken) _ (answered w _ (t .transactions .given .1)))
 
 returns-2 : tie.Need-returns-2
 returns-2 c =
     let t = c .before in
     let w = t .before .before .before in
-    let a = start w .args in
+    let p = start w .pre in
     let n = numberOf (t .refusal .given .0 .0) in
-    refuse (now (a .image)) (a .known) (a .used) (a .own) (judgement w) n (refused-list (judgement w) n (answered w _ (t .refusal .given .1)))
+    as-left (plan-fault (call w) (start w .args .known) (p .0) (p .1) (p .2) n (refused-list (judgement w) n (answered w _ (t .refusal .given .1))))
 
--- the board that was found, and the one that the walk left
-abbrev board : tie.After-write-plan → Board
-board w = boardOf (now (start w .args .image)) (start w .args .known)
-
+-- the one that the walk left
 abbrev left : tie.After-write-plan → Walk → Board
 left w r = boardOf (w .write-plan .last .1 .1 .0) (mapOf (start w .args .known) r)
 
@@ -89,7 +91,8 @@ returns-3 c =
     let w = written-at k in
     let a = start w .args in
     let e = t .transactions .given .1 in
-    let p = own-played (a .kind) (board w) (a .used) (a .own) (o .if1 .left) (now (a .plan)) _ _ (answered w _ e) (wrote w _ e) in
+    let r = start w .pre in
+    let p = own-played (a .kind) (board w) (a .used) (a .own) (o .if1 .left) (now (a .plan)) (r .0) (r .1) (r .2) _ _ (answered w _ e) (wrote w _ e) in
     (p .0, ap (λ (l : List ℕ). boardOf l (t .transactions .given .0 .1 .0)) (became k) ∙ p .1)
 
 same-length-3 : tie.Need-same-length-3

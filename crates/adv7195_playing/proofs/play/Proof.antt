@@ -1,56 +1,50 @@
--- `play` meets its contract: the tests that led to each answer decide the judgement. Assumes nothing.
-use mathlib.Core.Path.{_≡_, sym, ap, _∙_}
-use mathlib.Core.Bool.{true}
+-- `play` meets its contract: the tests that led to each answer decide the row that is given. Assumes nothing.
+use mathlib.Core.Path.{_≡_, sym, _∙_}
+use mathlib.Core.Bool.{Bool, true}
 use mathlib.Core.List.{List}
+use Prim.Native.Nat.{ℕ}
 use lib.Dec.{lit<}
 use lib.ListN.{length}
 use borrow.Author.Tests.{not-true, not-false}
 use borrow.Author.Needs.{needs}
 use denote.Ref.{now}
-use Rattle.refusals.specs.Refusal.{Judged}
-use Rattle.bus.specs.Transactions.{Transaction}
+use Rattle.refusals.specs.Verdict.{Verdict}
+use Rattle.refusals.specs.Order.{Exactly}
 use Rattle.bus.specs.Address.{addressRight}
-use Rattle.unpacking.proofs.Judging.{wrong-length, wrong-used, wrong-own, right-so-far}
+use Rattle.playing.specs.Playing.{Call, rowPlayed, playOrder, acknowledged, playOf, registersLeft}
+use Rattle.playing.proofs.Faults.{Left, image-fault, used-fault, own-fault, exactly-played}
 use Rattle.adv7195_bus.specs.Kind.{registerCount}
-use Rattle.adv7195_playing.specs.Playing.{unpacked, judgedBy, judged, acknowledgedBy, registersAfter}
-use Rattle.adv7195_playing.proofs.JudgedLaws.{refuse}
+use Rattle.adv7195_playing.specs.Playing.{callOf}
+use Rattle.adv7195_playing.proofs.PlayedLaws.{noMap}
 use Rattle.adv7195_playing.proofs.play.Statement.{statement}
 use Rattle.adv7195_playing.proofs.play.Tie as tie
 
--- the judgement, from where the function was entered, and what is judged last
-abbrev judgement : tie.Start → Judged (List Transaction)
-judgement s = judged (now (s .args .image)) (s .args .used) (s .args .own) (now (s .args .plan))
+-- the call, from where the function was entered
+abbrev call : tie.Start → Call
+call s = let a = s .args in callOf (now (a .image)) (a .used) (a .own) (now (a .plan))
 
-abbrev rest : tie.Start → Judged (List Transaction)
-rest s = judgedBy (now (s .args .image)) (unpacked (now (s .args .plan)))
+-- all that playing promises of an answer and of the registers that are left
+promised : (s : tie.Start) {v : Verdict Bool} {registers : List ℕ} {map : ℕ} → Left (call s) noMap v registers map
+    → (v ≡ playOf (call s)) × ((registers ≡ registersLeft (call s)) × Exactly (rowPlayed (call s)) playOrder (acknowledged (call s)) v)
+promised s l = (l .answer, (l .stored, exactly-played (call s) (l .answer)))
 
 returns : tie.Need-returns
-unfolding judged
-returns c =
-    let s = c .before .before .before in
-    let a = s .args in
-    refuse (now (a .image)) (a .used) (a .own) (judgement s) 1 (wrong-length registerCount (now (a .image)) (a .used) (a .own) (rest s) (c .if1 .taken))
+returns c = let s = c .before .before .before in promised s (image-fault (call s) noMap (c .if1 .taken))
 
 returns-2 : tie.Need-returns-2
-unfolding judged
 returns-2 c =
     let r = c .before in
     let s = r .before .before .before .before in
-    let a = s .args in
-    refuse (now (a .image)) (a .used) (a .own) (judgement s) 2
-    (wrong-used registerCount (now (a .image)) (a .used) (a .own) (rest s) (r .before .if1 .left)
-    (sym (r .address-right .ensures) ∙ not-true _ (c .if2 .taken)))
+    promised s (used-fault (call s) noMap (r .before .if1 .left) (sym (r .address-right .ensures) ∙ not-true _ (c .if2 .taken)))
 
 returns-3 : tie.Need-returns-3
-unfolding judged
 returns-3 c =
     let q = c .before in
     let r = q .before .before in
     let s = r .before .before .before .before in
-    let a = s .args in
-    refuse (now (a .image)) (a .used) (a .own) (judgement s) 2
-    (wrong-own registerCount (now (a .image)) (a .used) (a .own) (rest s) (r .before .if1 .left)
-    (sym (r .address-right .ensures) ∙ not-false _ (q .before .if2 .left)) (sym (q .address-right2 .ensures) ∙ not-true _ (c .if3 .taken)))
+    promised s
+    (own-fault (call s) noMap (r .before .if1 .left) (sym (r .address-right .ensures) ∙ not-false _ (q .before .if2 .left))
+    (sym (q .address-right2 .ensures) ∙ not-true _ (c .if3 .taken)))
 
 -- where the function was entered, from where both addresses were judged right
 abbrev start : tie.Else3 → tie.Start
@@ -67,15 +61,10 @@ own-right : (c : tie.Else3) → addressRight (start c .args .own) ≡ true
 own-right c = sym (c .before .address-right2 .ensures) ∙ not-false _ (c .if3 .left)
 
 returns-4 : tie.Need-returns-4
-unfolding judged
 returns-4 c =
     let p = c .before .before in
-    let e = p .before .before in
-    let a = start e .args in
-    let j = right-so-far registerCount (now (a .image)) (a .used) (a .own) (rest (start e)) (long e) (used-right e) (own-right e) in (
-      p .play-checked .ensures .0 ∙ sym (ap (acknowledgedBy (now (a .image)) (a .used) (a .own)) j),
-      p .play-checked .ensures .1 ∙ sym (ap (registersAfter (now (a .image)) (a .used) (a .own)) j),
-    )
+    let a = p .play-checked .ensures in
+    (a .0, (a .1, exactly-played (call (start (p .before .before))) (a .0)))
 
 pub play-spec : {M : Type 1} → statement M
 play-spec =

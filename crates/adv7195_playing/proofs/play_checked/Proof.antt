@@ -11,12 +11,14 @@ use Rattle.refusals.specs.Refusal.{Judged, numberOf}
 use Rattle.bus.specs.Transactions.{Transaction}
 use Rattle.unpacking.specs.Unpacking.{counted}
 use Rattle.unpacking.proofs.PlanLaws.{refused-list}
+use Rattle.playing.specs.Playing.{Call, judgedIf}
+use Rattle.playing.proofs.Faults.{plan-fault}
+use Rattle.playing.proofs.Played.{played-elsewhere}
 use Rattle.adv7195_playing.specs.declared.Walk.{Walk}
-use Rattle.adv7195_playing.specs.Playing.{unpacked, judgedBy}
+use Rattle.adv7195_playing.specs.Playing.{unpacked, takes, callOf}
 use Rattle.adv7195_playing.specs.Written.{Written, countOf}
-use Rattle.adv7195_playing.proofs.JudgedLaws.{refuse}
 use Rattle.adv7195_playing.proofs.WrittenLaws.{left-as-many}
-use Rattle.adv7195_playing.proofs.PlayedLaws.{own-played, nothing-stored, not-acknowledged}
+use Rattle.adv7195_playing.proofs.PlayedLaws.{noMap, as-left, own-played}
 use Rattle.adv7195_playing.proofs.play_checked.Statement.{statement}
 use Rattle.adv7195_playing.proofs.play_checked.Tie as tie
 
@@ -33,7 +35,7 @@ left w = w .write-plan .last .1 .0
 
 -- the judgement of the plan, for the image and for a copy of it
 abbrev judgedFor : tie.After-write-plan → List ℕ → Judged (List Transaction)
-judgedFor w l = judgedBy l (unpacked (now (start w .args .plan)))
+judgedFor w l = judgedIf (takes l) (unpacked (now (start w .args .plan)))
 
 abbrev judgement : tie.After-write-plan → Judged (List Transaction)
 judgement w = judgedFor w (image w)
@@ -47,23 +49,24 @@ wrote : (w : tie.After-write-plan) → Written (judgement w) (image w) (left w)
 wrote w =
     subst (λ (l : List ℕ). Written (judgedFor w l) l (left w)) (w .before .before .copied .ensures) (w .write-plan .ensures .1)
 
+-- the call
+abbrev call : tie.After-write-plan → Call
+call w = let a = start w .args in callOf (image w) (a .used) (a .own) (now (a .plan))
+
 returns : tie.Need-returns
 returns c =
     let t = c .before .before in
     let w = t .before .before .before in
-    let a = start w .args in
-    let p = start w .pre in (
-      not-acknowledged (image w) (a .used) (a .own) (c .if1 .taken) (p .1) (p .2) (judgement w) _ (answered w _ (t .transactions .given .1)),
-      sym (nothing-stored (image w) (a .used) (a .own) (c .if1 .taken) (p .1) (p .2) (judgement w)),
-    )
+    let p = start w .pre in
+    as-left (played-elsewhere (call w) noMap (p .0) (p .1) (p .2) (c .if1 .taken) _ (answered w _ (t .transactions .given .1)))
 
 returns-2 : tie.Need-returns-2
 returns-2 c =
     let t = c .before in
     let w = t .before .before .before in
-    let a = start w .args in
+    let p = start w .pre in
     let n = numberOf (t .refusal .given .0 .0) in
-    refuse (image w) (a .used) (a .own) (judgement w) n (refused-list (judgement w) n (answered w _ (t .refusal .given .1)))
+    as-left (plan-fault (call w) noMap (p .0) (p .1) (p .2) n (refused-list (judgement w) n (answered w _ (t .refusal .given .1))))
 
 -- where the plan was written at the chip's own address
 abbrev written-at : tie.After-copy → tie.After-write-plan
@@ -84,7 +87,9 @@ returns-3 c =
     let t = o .before .before in
     let w = written-at k in
     let a = start w .args in
-    let p = own-played (image w) (a .used) (a .own) (o .if1 .left) (now (a .plan)) _ _ (answered w _ (t .transactions .given .1)) (wrote w) in
+    let r = start w .pre in
+    let p =
+    own-played (image w) (a .used) (a .own) (o .if1 .left) (now (a .plan)) (r .0) (r .1) (r .2) _ _ (answered w _ (t .transactions .given .1)) (wrote w) in
     (p .0, became k ∙ p .1)
 
 same-length-3 : tie.Need-same-length-3

@@ -2,7 +2,7 @@
 use mathlib.Core.Path.{sym, ap, _∙_}
 use mathlib.Core.Bool.{Bool}
 use borrow.Author.Needs.{needs}
-use Rattle.refusals.specs.Refusal.{accepted}
+use Rattle.refusals.specs.Verdict.{good}
 use Rattle.adv7194_playing.specs.Playing.{answerOf, knownOf}
 use Rattle.adv7194_answers.specs.Answers.{playAnswer}
 use Rattle.adv7194_answers.proofs.play_numbers.play_answer.Statement.{statement}
@@ -18,7 +18,7 @@ returns-2 c =
     let told = c .before .before .played2 .given in
     sym (
     ap (λ p. playAnswer (answerOf p) (knownOf (c .before .before .before .before .args .known) p)) (told .1)
-    ∙ ap (λ (b : Bool). playAnswer (accepted b) (told .0 .1 .0)) (c .if1 .taken)
+    ∙ ap (λ (b : Bool). playAnswer (good b) (told .0 .1 .0)) (c .if1 .taken)
     )
 
 returns-3 : tie.Need-returns-3
@@ -26,7 +26,7 @@ returns-3 c =
     let told = c .before .before .played2 .given in
     sym (
     ap (λ p. playAnswer (answerOf p) (knownOf (c .before .before .before .before .args .known) p)) (told .1)
-    ∙ ap (λ (b : Bool). playAnswer (accepted b) (told .0 .1 .0)) (c .if1 .left)
+    ∙ ap (λ (b : Bool). playAnswer (good b) (told .0 .1 .0)) (c .if1 .left)
     )
 
 pub play-answer-spec : {M : Type 1} → statement M

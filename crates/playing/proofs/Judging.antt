@@ -1,27 +1,18 @@
--- What playing judges, whatever the chip: the image's length, then either address, then the plan by its packing and a test of its list. Assumes nothing.
+-- A plan's list by its packing and a test. Assumes nothing.
 use mathlib.Core.Path.{_≡_, refl, ap, _∙_, subst}
 use mathlib.Core.Bool.{Bool, true, false, cond, _&&_}
 use mathlib.Core.List.{List, [], _∷_}
 use Prim.Native.Nat.{ℕ, _<_}
 use native.Mathlib.Omega.{arith}
-use lib.Dec.{T, leb, eqb}
-use lib.ListN.{length}
-use borrow.Author.Tests.{eq-eqb, ne-eqb}
+use lib.Dec.{T, leb}
 use Rattle.bits.proofs.FlagLaws.{first, second}
 use Rattle.refusals.specs.Refusal.{Judged, accepted, refused}
 use Rattle.bus.specs.Transactions.{Transaction, size, end, Every}
-use Rattle.bus.specs.Address.{addressRight}
 use Rattle.packing.specs.Packing.{encodable, arranged}
 use Rattle.unpacking.specs.Unpacking.{unpackBy}
 use Rattle.unpacking.proofs.Tests.{encodable-facts}
-use Rattle.unpacking.proofs.Exact.{unpacks-packed, in-order}
-
--- ---- a list that was unpacked
-
--- it is accepted by a test, or refused by 9
-abbrev pub judgedIf : (List Transaction → Bool) → Judged (List Transaction) → Judged (List Transaction)
-judgedIf test (accepted ts) = cond (test ts) (accepted ts) (refused 9)
-judgedIf test (refused n) = refused n
+use Rattle.unpacking.proofs.Exact.{unpacks-packed, in-order, refused-nine}
+use Rattle.playing.specs.Playing.{Call, judgedIf, judged}
 
 module _ (test : List Transaction → Bool) where
   -- what it is judged as, by what the test says
@@ -38,6 +29,18 @@ module _ (test : List Transaction → Bool) where
       go false p q = let z : _≡_ {A = ℕ} 0 1 = cc in absurd (omega arith)
   was-taken (refused n) ts e = let z : _≡_ {A = ℕ} 0 1 = cc in absurd (omega arith)
 
+-- a plan is refused by 9 only
+pub only-nine : (c : Call) (n : ℕ) → judged c ≡ refused n → 9 ≡ n
+only-nine c n e = go (unpackBy (c .next) (c .plan)) refl e
+  where
+    by : (ts : List Transaction) (b : Bool) → cond b (accepted ts) (refused 9) ≡ refused n → 9 ≡ n
+    by ts true q = let z : _≡_ {A = ℕ} 0 1 = cc in absurd (omega arith)
+    by ts false q = cc
+
+    go : (j : Judged (List Transaction)) → unpackBy (c .next) (c .plan) ≡ j → judgedIf (c .takes) j ≡ refused n → 9 ≡ n
+    go (accepted ts) p q = by ts (c .takes ts) q
+    go (refused m) p q = refused-nine (c .next) (c .plan) m p ∙ cc
+
 -- transactions in an order that the packing demands have data
 all-sized : (next : ℕ → ℕ) (free : ℕ) (ts : List Transaction) → T (arranged next free ts) → Every (λ t. 0 < size t) ts
 unfolding arranged
@@ -50,26 +53,3 @@ all-sized next free (t ∷ ts) o =
 -- so do those that were unpacked
 pub unpacked-sized : (next : ℕ → ℕ) (plan : List ℕ) (ts : List Transaction) → unpackBy next plan ≡ accepted ts → Every (λ t. 0 < size t) ts
 unpacked-sized next plan ts e = all-sized next 0 ts (in-order next ts (unpacks-packed next plan ts e .0))
-
--- ---- image and addresses
-
--- the judgement of all, for a chip with that many registers
-abbrev pub judgedAfter : ℕ → List ℕ → ℕ → ℕ → Judged (List Transaction) → Judged (List Transaction)
-judgedAfter count image used own j = cond (eqb (length image) count) (cond (addressRight used && addressRight own) j (refused 2)) (refused 1)
-
-module _ (count : ℕ) (image : List ℕ) (used own : ℕ) (j : Judged (List Transaction)) where
-  -- the image's length
-  pub wrong-length : (length image ≡ count → ⊥) → judgedAfter count image used own j ≡ refused 1
-  wrong-length h = rw (ne-eqb (length image) count h)
-
-  module _ (h : length image ≡ count) where
-    -- the address used, and the chip's own
-    pub wrong-used : addressRight used ≡ false → judgedAfter count image used own j ≡ refused 2
-    wrong-used e = rw (eq-eqb (length image) count h, e)
-
-    pub wrong-own : addressRight used ≡ true → addressRight own ≡ false → judgedAfter count image used own j ≡ refused 2
-    wrong-own e f = rw (eq-eqb (length image) count h, e, f)
-
-    -- the plan is left to judge
-    pub right-so-far : addressRight used ≡ true → addressRight own ≡ true → judgedAfter count image used own j ≡ j
-    right-so-far e f = rw (eq-eqb (length image) count h, e, f)

@@ -1,0 +1,1 @@
+// Playing a packed plan, for any chip: definitions and theorems.
