@@ -1,7 +1,7 @@
 -- The plan where no limit is in force is the runs of the registers covered, and what is packed after its first transaction. Assumes nothing.
 use mathlib.Core.Path.{_≡_, refl, sym, ap, _∙_}
 use mathlib.Core.Bool.{Bool, true, false, not, _&&_}
-use mathlib.Core.List.{List, _∷_, _++_, append-assoc}
+use mathlib.Core.List.{List, [], _∷_, _++_, append-assoc}
 use Prim.Native.Nat.{ℕ, zero, suc, _+_, _-_, _*_, _^_, _≤_, _<_}
 use native.Mathlib.Nat.{sub-zero}
 use native.Mathlib.Omega.{arith}
@@ -11,7 +11,8 @@ use lib.Seq.{drop-drop, length-take-le}
 use Rattle.bits.specs.Strings.{msbFirst, byteBits, bytesOf}
 use Rattle.bits.specs.Maps.{mapWidth, has, complement}
 use Rattle.bits.proofs.ByteLaws.{byteBits-length, bytesOf-length}
-use Rattle.bus.specs.Transactions.{Transaction, size}
+use Rattle.bus.specs.Transactions.{Transaction, size, Every}
+use Rattle.bus.specs.Cost.{dataCount}
 use Rattle.packing.specs.declared.Pending.{Pending}
 use Rattle.packing.specs.Packing.{transactionBits, listBits, packed}
 use Rattle.packing.specs.Written.{Put, Room, written, finishedWith}
@@ -24,10 +25,10 @@ use Rattle.least_cost.proofs.Within.{greedy-within, plan-within}
 use Rattle.cutting.specs.Task.{largestCount, mapTask, Plannable, planBy}
 use Rattle.cutting.proofs.CutLaws.{map-sound, map-limited}
 use Rattle.planning.specs.Registers.{covers, before, begins}
-use Rattle.planning.specs.Plan.{listOf, joinedBy}
+use Rattle.planning.specs.Plan.{listOf, Mapped, joinedBy}
 use Rattle.planning.proofs.RunLaws.{closed, opened, uncovered, covered-ok}
 use Rattle.planning.proofs.CountLaws.{Maps}
-use Rattle.planning.proofs.PlanLaws.{Mapped, has-without, mapped-list, opening, begun-room, begun-done}
+use Rattle.planning.proofs.PlanLaws.{has-without, mapped-list, opening, begun-room, begun-done}
 
 -- ---- the maps of the plan
 
@@ -122,22 +123,47 @@ module _ (needed allowed taken starts : ℕ) (w : List ℕ) (ht : taken < 2 ^ 64
   unfolding greedyPlan
   list-is-joined = rw (sub-zero (length w)) (sym (same (length w) 0 .0 refl))
 
-  -- what a planner knows of the maps
+  -- so the maps are the plan's
   pub joined-mapped : ((i : ℕ) → has allowed i ≡ true → i < length w) → Mapped (joinedBy needed allowed w) w taken starts goes
   joined-mapped inside =
       mapped-list (joinedBy needed allowed w) w taken starts goes ht hs maps
       (λ i e. inside i (covered-ok (has needed) (has allowed) (has taken) writable covered i e)) list-is-joined
 
--- a limit that is no less than the number of registers changes nothing
-pub plan-joined : (needed allowed held limit : ℕ) (w : List ℕ) → Plannable needed allowed held limit w → length w ≤ limit
-    → planBy needed allowed held limit w ≡ joinedBy needed allowed w
-plan-joined needed allowed held limit w π h =
-    let p = mapTask (length w) needed allowed held limit in
-    let want : ℕ → ℕ = λ r. getD w r 0 in
-    let σ = map-sound needed allowed held limit w π in
-    let μ = map-limited needed allowed held limit w π in
-    plan-within p want σ (has allowed) limit μ (π .some) (greedy-within p want σ (has allowed) limit μ (π .some) h)
-    ∙ greedy-alike p (mapTask (length w) needed allowed 0 mapWidth) (has allowed) (has allowed) want refl (λ i. refl) (λ i. refl)
+-- no transaction of a list has more data than the list
+no-longer : (limit : ℕ) (ts : List Transaction) → dataCount ts ≤ limit → Every (λ t. size t ≤ limit) ts
+unfolding dataCount
+no-longer limit [] h = tt
+no-longer limit (t ∷ ts) h = (omega arith, no-longer limit ts (omega arith))
+
+module _ (needed allowed held limit : ℕ) (w : List ℕ) (π : Plannable needed allowed held limit w) where
+  -- the task with the limit, and the wanted bytes
+  abbrev task : Task
+  task = mapTask (length w) needed allowed held limit
+
+  abbrev bytes : ℕ → ℕ
+  bytes r = getD w r 0
+
+  -- the limit doesn't matter to the plan that joins gaps
+  as-joined : greedyPlan task (has allowed) bytes ≡ joinedBy needed allowed w
+  as-joined = greedy-alike task (mapTask (length w) needed allowed 0 mapWidth) (has allowed) (has allowed) bytes refl (λ i. refl) (λ i. refl)
+
+  -- that is the plan where it keeps the limit
+  pub within-joined : Every (λ t. size t ≤ limit) (joinedBy needed allowed w) → planBy needed allowed held limit w ≡ joinedBy needed allowed w
+  within-joined keeps =
+      plan-within task bytes (map-sound needed allowed held limit w π) (has allowed) limit (map-limited needed allowed held limit w π) (π .some)
+      (rw as-joined keeps)
+      ∙ as-joined
+
+  -- a limit that is no less than the number of registers changes nothing
+  pub plan-joined : length w ≤ limit → planBy needed allowed held limit w ≡ joinedBy needed allowed w
+  plan-joined h =
+      within-joined
+      (rw as-joined at
+      (greedy-within task bytes (map-sound needed allowed held limit w π) (has allowed) limit (map-limited needed allowed held limit w π) (π .some) h))
+
+  -- nor does one that is no less than the number of data
+  pub few-joined : dataCount (joinedBy needed allowed w) ≤ limit → planBy needed allowed held limit w ≡ joinedBy needed allowed w
+  few-joined h = within-joined (no-longer limit (joinedBy needed allowed w) h)
 
 -- ---- after its first transaction
 

@@ -5,7 +5,6 @@ use mathlib.Core.List.{List, [], _∷_, _++_}
 use Prim.Native.Nat.{ℕ, zero, suc, _-_, _^_, _≤_, _<_}
 use native.Mathlib.Omega.{arith}
 use lib.Bits.{bitAnd}
-use lib.Count.{ones}
 use lib.Dec.{leb, ltb}
 use lib.ListN.{length, getD, drop}
 use borrow.Author.Tests.{ltb-true, ltb-false, le-leb, lt-leb}
@@ -13,7 +12,6 @@ use Rattle.bits.specs.Maps.{has}
 use Rattle.bits.proofs.SetLaws.{has-and}
 use Rattle.refusals.specs.Verdict.{Verdict, refusedAt}
 use Rattle.bus.specs.Transactions.{Transaction, end, Every, busBytes}
-use Rattle.bus.specs.Cost.{dataCount}
 use Rattle.bus.proofs.CostLaws.{bytes-count}
 use Rattle.packing.specs.declared.Pending.{Pending}
 use Rattle.packing.specs.Packing.{listBits, packed}
@@ -28,7 +26,7 @@ use Rattle.cutting.specs.Spans.{touched, begun}
 use Rattle.cutting.specs.Task.{largestCount, mapTask, Plannable, planBy}
 use Rattle.cutting.proofs.CutLaws.{map-sound}
 use Rattle.planning.specs.Registers.{before}
-use Rattle.planning.specs.Plan.{Counts, listOf, packingOf, planAfter, done}
+use Rattle.planning.specs.Plan.{Counts, listOf, Mapped, packingOf, planAfter, done}
 use Rattle.planning.proofs.ShiftLaws.{has-past, has-not}
 use Rattle.planning.proofs.ListLaws.{Good, list-is, begun-touched, touched-begun}
 use Rattle.planning.proofs.CountLaws.{Maps, list-counted, count-le, no-start}
@@ -54,17 +52,7 @@ before-same : (f g : ℕ → Bool) → ((x : ℕ) → f x ≡ g x) → (x : ℕ)
 before-same f g e zero = refl
 before-same f g e (suc x) = e x
 
--- what a planner knows of the maps that it found for a list
-pub record Mapped (ts : List Transaction) (wanted : List ℕ) (taken starts goes : ℕ) : Type 0 where
-  pub list : listOf taken goes wanted ≡ ts
-  pub inside : (i : ℕ) → has taken i ≡ true → i < length wanted
-  pub over : (i : ℕ) → has goes i ≡ true → has taken i ≡ true
-  pub transactions : length (listOf taken goes wanted) ≡ ones starts
-  pub bytes : dataCount (listOf taken goes wanted) ≡ ones taken
-  pub few : ones starts ≤ length wanted
-  pub short : ones taken ≤ length wanted
-
--- it knows that where the list of the maps is that list, and what it touches has a wanted byte
+-- two maps are a list's where the list of the maps is that list, and what it touches has a wanted byte
 pub mapped-list : (ts : List Transaction) (w : List ℕ) (taken starts goes : ℕ) → taken < 2 ^ 64 → starts < 2 ^ 64 → Maps taken starts goes
     → ((i : ℕ) → has taken i ≡ true → i < length w) → listOf taken goes w ≡ ts → Mapped ts w taken starts goes
 mapped-list ts w taken starts goes ht hs μ inside same =
@@ -135,7 +123,7 @@ module _ (needed allowed held limit : ℕ) (w : List ℕ) (taken starts : ℕ) (
       go true l u ih = let d = ltb-true x (end t) l in omega (arith, g .0 .ends)
       go false l u ih = ih (sym (rw (l, and-false (leb (t .subaddress) x))) ∙ u)
 
-  -- it knows that of the plan's maps
+  -- they are the plan's maps
   pub mapped : Mapped ts w taken starts goes
   mapped = mapped-list ts w taken starts goes ht hs maps (λ x e. touched-in ts good x (sym (touches x) ∙ e)) same
 

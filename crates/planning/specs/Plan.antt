@@ -4,12 +4,15 @@ use mathlib.Core.Path.{_≡_}
 use mathlib.Core.Bool.{true, cond}
 use mathlib.Core.List.{List, _++_}
 use Prim.Native.Nat.{ℕ, _-_, _≤_, _<_}
+use lib.Bits.{bitAnd}
+use lib.Count.{ones}
 use lib.Dec.{leb}
 use lib.ListN.{length, getD, drop}
-use Rattle.bits.specs.Maps.{mapWidth, has}
+use Rattle.bits.specs.Maps.{mapWidth, has, complement}
 use Rattle.refusals.specs.Refusal.{numberOf}
 use Rattle.refusals.specs.Verdict.{Verdict, good, refusedAt}
 use Rattle.bus.specs.Transactions.{Transaction, busBytes}
+use Rattle.bus.specs.Cost.{dataCount}
 use Rattle.packing.specs.declared.Pending.{Pending}
 use Rattle.packing.specs.Packing.{listBits, packed}
 use Rattle.packing.specs.Written.{Sound, Room}
@@ -27,6 +30,21 @@ listFrom taken goes wanted i =
 -- and from the first register on
 abbrev pub listOf : ℕ → ℕ → List ℕ → List Transaction
 listOf taken goes wanted = listFrom taken goes wanted 0
+
+-- the registers of a map but those of another: those that transactions go on over, where the maps are those that they touch and those that they start at
+abbrev pub without : ℕ → ℕ → ℕ
+without taken starts = bitAnd taken (complement starts)
+
+-- two maps are those of a list with the wanted bytes, of the registers that it touches and of those that its transactions start at: the list of the maps is
+-- that list, and they count its transactions and its data
+pub record Mapped (ts : List Transaction) (wanted : List ℕ) (taken starts goes : ℕ) : Type 0 where
+  pub list : listOf taken goes wanted ≡ ts
+  pub inside : (i : ℕ) → has taken i ≡ true → i < length wanted
+  pub over : (i : ℕ) → has goes i ≡ true → has taken i ≡ true
+  pub transactions : length (listOf taken goes wanted) ≡ ones starts
+  pub bytes : dataCount (listOf taken goes wanted) ≡ ones taken
+  pub few : ones starts ≤ length wanted
+  pub short : ones taken ≤ length wanted
 
 -- the list of two maps can be packed after what is written and pending: its registers have wanted bytes, no more than a count can hold, and the lent plan
 -- has room for it

@@ -1,13 +1,15 @@
 ghost use mathlib.Core.Path.{_≡_};
-ghost use mathlib.Core.List.{_∷_, _++_};
+ghost use mathlib.Core.List.{List, _∷_, _++_};
+ghost use Prim.Native.Nat.{ℕ};
 ghost use lib.ListN.{length};
 ghost use Rattle.refusals.specs.Verdict.{refusedAt};
 ghost use Rattle.packing.specs.Packing.{packedLength, listBits};
 ghost use Rattle.packing.specs.Written.{written, finishedWith};
-ghost use Rattle.cutting.specs.Task.{Plannable, planBy};
-ghost use Rattle.planning.specs.Plan.{Packable, Joinable, listOf, joinedBy, answerOf, packingOf, planAfter};
+ghost use Rattle.cutting.specs.Task.{Bounded, Plannable, planBy};
+ghost use Rattle.planning.specs.Plan.{without, Mapped, Packable, Joinable, listOf, joinedBy, answerOf, packingOf, planAfter};
 use crate::maps;
 use crate::spans::plan_spans;
+use cutting::spans::Spans;
 use packing::BYTE_BITS;
 use packing::FIELD_BITS;
 use packing::Pending;
@@ -73,6 +75,19 @@ fn pack_spans(plan: &mut [u8], first: Pending, taken: u64, goes: u64, wanted: &[
     packing::finish(plan, pending);
 }
 
+// The transactions of the plan that writes the needed registers: where no more registers are covered than the limit, each run of them is one.
+fn plan_maps(needed: u64, allowed: u64, held: u64, limit: usize) -> Spans
+    requires { ⌜ Bounded needed allowed limit ⌝ }
+    ensures answer { λ r. ⌜ ((w : List ℕ) → Plannable needed allowed held limit w → Mapped (planBy needed allowed held limit w) w (r .taken) (r .starts) (without (r .taken) (r .starts))) ⌝ }
+{
+    let taken = maps::covered(needed, allowed);
+    if bits::maps::count(taken) as usize <= limit {
+        let starts = maps::starts(taken);
+        return Spans { taken, starts };
+    }
+    plan_spans(needed, allowed, held, limit)
+}
+
 // Packs the plan that writes the needed registers, where it fits the lent plan: no transaction ends before a held register or has more data than the limit.
 pub fn pack(
     plan: &mut [u8],
@@ -86,7 +101,7 @@ pub fn pack(
     ensures answer { λ r. ⌜ answerOf r ≡ packingOf (planBy needed allowed held limit (now (wanted .entry))) (length (now (plan .entry))) ⌝ }
     ensures memory { λ r. ⌜ now (plan .exit) ≡ planAfter (planBy needed allowed held limit (now (wanted .entry))) (now (plan .entry)) ⌝ }
 {
-    let found = plan_spans(needed, allowed, held, limit);
+    let found = plan_maps(needed, allowed, held, limit);
     let taken = found.taken;
     let starts = found.starts;
     let transactions = bits::maps::count(starts);

@@ -13,8 +13,8 @@ use Rattle.bus.proofs.CostLaws.{bytes-count}
 use Rattle.packing.specs.Packing.{packed, packedLength}
 use Rattle.packing.proofs.PackedLaws.{packed-length}
 use Rattle.cutting.specs.Task.{planBy}
-use Rattle.planning.specs.Plan.{listOf}
-use Rattle.planning.proofs.PlanLaws.{Mapped, mapped, too-short, has-room, begun-sound, begun-room, begun-done}
+use Rattle.planning.specs.Plan.{listOf, Mapped}
+use Rattle.planning.proofs.PlanLaws.{too-short, has-room, begun-sound, begun-room, begun-done}
 use Rattle.planning.proofs.plan.pack.Statement.{statement}
 use Rattle.planning.proofs.plan.pack.Tie as tie
 
@@ -24,10 +24,10 @@ start c = c .before .before .before .before .before .before
 
 -- the registers taken, the starts, and the registers that transactions go on over
 abbrev taken : tie.After-packed-length → ℕ
-taken c = c .before .before .before .plan-spans .result .taken
+taken c = c .before .before .before .plan-maps .result .taken
 
 abbrev starts : tie.After-packed-length → ℕ
-starts c = c .before .before .before .plan-spans .result .starts
+starts c = c .before .before .before .plan-maps .result .starts
 
 abbrev goes : tie.After-packed-length → ℕ
 goes c = bitAnd (taken c) (complement (starts c))
@@ -40,11 +40,7 @@ plan-of c = planBy (start c .args .needed) (start c .args .allowed) (start c .ar
 known : (c : tie.After-packed-length)
     → Mapped (planBy (start c .args .needed) (start c .args .allowed) (start c .args .held) (start c .args .limit) (start c .args .wanted .now))
     (start c .args .wanted .now) (taken c) (starts c) (goes c)
-known c =
-    let s = start c in
-    let a = s .args in
-    let e = c .before .before .before .plan-spans .ensures (a .wanted .now) (s .pre) in
-    mapped (a .needed) (a .allowed) (a .held) (a .limit) (a .wanted .now) (taken c) (starts c) (s .pre) (search needs) (search needs) (e .0) (e .1)
+known c = let s = start c in c .before .before .before .plan-maps .ensures (s .args .wanted .now) (s .pre)
 
 -- their list, and how many transactions it has
 abbrev list : tie.After-packed-length → List Transaction
@@ -71,8 +67,8 @@ long c = c .packed-length .ensures ∙ ap₂ packedLength (sym (counted c)) (sym
 cost : (c : tie.After-packed-length) → costOf (c .before .before .count .result) (c .before .count2 .result) ≡ busBytes (list c)
 cost c = ap₂ costOf (sym (counted c)) (sym (bytes c)) ∙ sym (bytes-count (list c))
 
-plan-spans-requires : tie.Need-plan-spans-requires
-plan-spans-requires c κs =
+plan-maps-requires : tie.Need-plan-maps-requires
+plan-maps-requires c κs =
     let π = c .before .before .pre in
     record { writable = π .writable; small = λ i e. omega (arith, π .inside i e, π .small); some = π .some; most = π .most }
 
@@ -115,7 +111,7 @@ pub pack-spec : {M : Type 1} → statement M
 pack-spec =
     tie.close
     (tie.spec
-    plan-spans-requires
+    plan-maps-requires
     (λ c κs. tt)
     (λ c κs. tt)
     (λ c κs. tt)

@@ -13,8 +13,8 @@ use Rattle.bus.specs.Cost.{dataCount, costOf}
 use Rattle.bus.proofs.CostLaws.{bytes-count}
 use Rattle.packing.specs.Packing.{packed, packedLength}
 use Rattle.packing.proofs.PackedLaws.{packed-length}
-use Rattle.planning.specs.Plan.{listOf, joinedBy}
-use Rattle.planning.proofs.PlanLaws.{Mapped, too-short, has-room, begun-sound}
+use Rattle.planning.specs.Plan.{listOf, Mapped, joinedBy}
+use Rattle.planning.proofs.PlanLaws.{too-short, has-room, begun-sound}
 use Rattle.planning.proofs.JoinedLaws.{joined-mapped, first-room, later-room, later-done}
 use Rattle.planning.proofs.plan.pack_after.Statement.{statement}
 use Rattle.planning.proofs.plan.pack_after.Tie as tie
