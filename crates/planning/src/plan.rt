@@ -80,10 +80,13 @@ fn plan_maps(needed: u64, allowed: u64, held: u64, limit: usize) -> Spans
     requires { ⌜ Bounded needed allowed limit ⌝ }
     ensures answer { λ r. ⌜ ((w : List ℕ) → Plannable needed allowed held limit w → Mapped (planBy needed allowed held limit w) w (r .taken) (r .starts) (without (r .taken) (r .starts))) ⌝ }
 {
-    let taken = maps::covered(needed, allowed);
-    if bits::maps::count(taken) as usize <= limit {
-        let starts = maps::starts(taken);
-        return Spans { taken, starts };
+    let covered = maps::covered(needed, allowed);
+    if bits::maps::count(covered) as usize <= limit {
+        let starts = maps::starts(covered);
+        return Spans {
+            taken: covered,
+            starts,
+        };
     }
     plan_spans(needed, allowed, held, limit)
 }
