@@ -1,70 +1,123 @@
--- Laws of signalling's and curves' text: by their kind, and byte by byte. Assumes nothing.
-use mathlib.Core.Path.{_≡_, sym, ap, _∙_}
-use mathlib.Core.Bool.{false}
-use mathlib.Core.List.{List, _++_, append-assoc, append-nil}
-use Prim.Native.Nat.{ℕ, zero, suc, _+_}
+-- Laws of signalling's and curves' text: the templates that the kinds choose, filled, are the texts. Assumes nothing.
+use mathlib.Core.Path.{_≡_, refl, ap, ap₂, _∙_}
+use mathlib.Core.Bool.{Bool, true, false, cond}
+use mathlib.Core.List.{List, [], _++_, append-nil}
+use Prim.Native.Nat.{ℕ, zero, suc, _+_, _≤_}
 use native.Mathlib.Nat.{add-zero}
 use native.Mathlib.Omega.{arith}
 use lib.IntN.{ℤ, pos}
+use lib.ListN.{getD, drop}
+use lib.Seq.{getD-drop, drop-drop}
 use Rattle.text.specs.Text.{space, signed}
 use Rattle.field_table.specs.Blocks.{is}
 use Rattle.writing.specs.Ascii.{ascii}
-use Rattle.adv7194_lines.specs.Kinds.{numberAt, cgmsText, signallingText, ratioText, bytesText, sevenText, curveText}
 use Rattle.writing.specs.Codes.{code}
+use Rattle.template.specs.Columns.{columnIn}
+use Rattle.template.specs.Template.{standsFor, filled, widths}
+use Rattle.adv7194_names.specs.Widths.{signallingWidth, curveWidth}
 use Rattle.adv7194_names.specs.Values.{number}
+use Rattle.adv7194_lines.specs.declared.kinds.Template.{Template}
+use Rattle.adv7194_lines.specs.Kinds.{numberAt, cgmsText, signallingText, ratioText, bytesText, sevenText, curveText}
+use Rattle.adv7194_lines.specs.Templates.{signallingTable, signallingTemplate, curveTable, curveTemplate}
+
+-- a template
+abbrev chosen : ℕ → ℕ → Template
+chosen column skipped = record { column = column; skipped = skipped }
+
+-- ---- numbers from a place on
+
+module _ (zs : List ℤ) where
+  first-of : (k : ℕ) → getD (drop k zs) 0 (pos 0) ≡ numberAt zs k
+  first-of k = getD-drop k zs 0 (pos 0) ∙ ap (numberAt zs) (add-zero k)
+
+  next-of : (k j : ℕ) → k + 1 ≡ j → getD (drop 1 (drop k zs)) 0 (pos 0) ≡ numberAt zs j
+  next-of k j e = ap (λ (ys : List ℤ). getD ys 0 (pos 0)) (drop-drop 1 k zs) ∙ first-of (k + 1) ∙ ap (numberAt zs) e
+
+-- n bytes, each after a space
+abbrev bytesOf : List ℤ → ℕ → List ℕ
+bytesOf ys zero = []
+bytesOf ys (suc n) = space ++ code (getD ys 0 (pos 0)) ++ bytesOf (drop 1 ys) n
+
+bytes-from : (zs : List ℤ) (n k : ℕ) → bytesOf (drop k zs) n ≡ bytesText zs k n
+unfolding bytesText
+bytes-from zs zero k = refl
+bytes-from zs (suc n) k =
+    let one : k + 1 ≡ suc k = omega arith in
+    ap₂ (λ (z : ℤ) (t : List ℕ). space ++ code z ++ t) (first-of zs k)
+    (ap (λ (ys : List ℤ). bytesOf ys n) (drop-drop 1 k zs ∙ ap (λ (j : ℕ). drop j zs) one) ∙ bytes-from zs n (suc k))
+
+-- ---- the templates filled
 
 module _ (zs : List ℤ) (k : ℕ) where
-  -- ---- signalling by its kind
+  plain : filled (ascii "%") (drop (k + 0) zs) ≡ signed (numberAt zs k)
+  unfolding filled standsFor
+  plain = append-nil (signed (getD (drop (k + 0) zs) 0 (pos 0))) ∙ ap signed (first-of zs (k + 0) ∙ ap (numberAt zs) (add-zero k))
 
-  -- kind 0 is off
-  pub off-is : numberAt zs k ≡ pos 0 → ascii "off" ≡ signallingText zs k
-  unfolding signallingText
-  off-is e = rw e
+  wss : filled (ascii "WSS %") (drop (k + 1) zs) ≡ number "WSS " (numberAt zs (k + 1))
+  unfolding filled standsFor
+  wss = ap (λ (t : List ℕ). ascii "WSS " ++ t) (append-nil (signed (getD (drop (k + 1) zs) 0 (pos 0))) ∙ ap signed (first-of zs (k + 1)))
 
-  -- kind 1 is CGMS
+  ratio : filled (ascii "ratio %/%") (drop (k + 1) zs) ≡ ratioText zs k
+  unfolding filled standsFor ratioText
+  ratio =
+      let two : k + 1 + 1 ≡ k + 2 = omega arith in
+      ap₂ (λ (x y : List ℕ). (ascii "ratio " ++ x) ++ (ascii "/" ++ y)) (ap signed (first-of zs (k + 1)))
+      (append-nil (signed (getD (drop 1 (drop (k + 1) zs)) 0 (pos 0))) ∙ ap signed (next-of zs (k + 1) (k + 2) two))
+
+  seven : filled (ascii "# # # # # # #") (drop (k + 3) zs) ≡ sevenText zs k
+  unfolding filled standsFor sevenText
+  seven =
+      let four : k + 3 + 1 ≡ k + 4 = omega arith in
+      ap₂ (λ (z : ℤ) (t : List ℕ). code z ++ t) (first-of zs (k + 3))
+      (ap (λ (ys : List ℤ). bytesOf ys 6) (drop-drop 1 (k + 3) zs ∙ ap (λ (j : ℕ). drop j zs) four) ∙ bytes-from zs 6 (k + 4))
+
+  -- ---- by the kind
+
   pub cgms-is : numberAt zs k ≡ pos 1 → cgmsText zs k ≡ signallingText zs k
   unfolding signallingText
   cgms-is e = rw e
 
-  -- kind 2 is WSS
-  pub wss-is : numberAt zs k ≡ pos 2 → number "WSS " (numberAt zs (k + 1)) ≡ signallingText zs k
-  unfolding signallingText
-  wss-is e = rw e
+  pub signalling-filled : is 1 (numberAt zs k) ≡ false → (let t = signallingTemplate (numberAt zs k) in
+      filled (columnIn signallingTable (t .column)) (drop (k + t .skipped) zs) ≡ signallingText zs k)
+  unfolding signallingTemplate signallingText columnIn filled standsFor
+  signalling-filled e = rw e (split (is 0 (numberAt zs k)) (is 2 (numberAt zs k)))
+    where
+      split : (a b : Bool) → (let t = cond a (chosen 0 0) (cond b (chosen 1 1) (chosen 2 0)) in
+          filled (columnIn signallingTable (t .column)) (drop (k + t .skipped) zs)
+          ≡ cond a (ascii "off") (cond b (number "WSS " (numberAt zs (k + 1))) (signed (numberAt zs k))))
+      split true b = refl
+      split false true = wss
+      split false false = plain
 
-  -- any other is written as its number
-  pub no-signalling-is : is 0 (numberAt zs k) ≡ false → is 1 (numberAt zs k) ≡ false → is 2 (numberAt zs k) ≡ false
-      → signed (numberAt zs k) ≡ signallingText zs k
-  unfolding signallingText
-  no-signalling-is e f h = rw (e, f, h)
+  pub curve-filled : (let t = curveTemplate (numberAt zs k) in
+      filled (columnIn curveTable (t .column)) (drop (k + t .skipped) zs) ≡ curveText zs k)
+  unfolding curveTemplate curveText columnIn
+  curve-filled = split (is 0 (numberAt zs k)) (is 1 (numberAt zs k))
+    where
+      split : (a b : Bool) → (let t = cond a (chosen 0 1) (cond b (chosen 1 3) (chosen 2 0)) in
+          filled (columnIn curveTable (t .column)) (drop (k + t .skipped) zs) ≡ cond a (ratioText zs k) (cond b (sevenText zs k) (signed (numberAt zs k))))
+      split true b = ratio
+      split false true = seven
+      split false false = plain
 
-  -- ---- a curve by its kind
+-- ---- room, and how many numbers are passed over
 
-  -- kind 0 is a ratio
-  pub ratio-is : numberAt zs k ≡ pos 0 → ratioText zs k ≡ curveText zs k
-  unfolding curveText
-  ratio-is e = rw e
+pub signalling-room : (z : ℤ) → (let t = signallingTemplate z in (widths (columnIn signallingTable (t .column)) ≤ signallingWidth) × (t .skipped ≤ 3))
+unfolding signallingTemplate columnIn widths
+signalling-room z = split (is 0 z) (is 2 z)
+  where
+    split : (a b : Bool) → (let t = cond a (chosen 0 0) (cond b (chosen 1 1) (chosen 2 0)) in
+        (widths (columnIn signallingTable (t .column)) ≤ signallingWidth) × (t .skipped ≤ 3))
+    split true b = (omega arith, omega arith)
+    split false true = (omega arith, omega arith)
+    split false false = (omega arith, omega arith)
 
-  -- kind 1 is seven bytes
-  pub seven-is : numberAt zs k ≡ pos 1 → sevenText zs k ≡ curveText zs k
-  unfolding curveText
-  seven-is e = rw e
-
-  -- any other is written as its number
-  pub no-curve-is : is 0 (numberAt zs k) ≡ false → is 1 (numberAt zs k) ≡ false → signed (numberAt zs k) ≡ curveText zs k
-  unfolding curveText
-  no-curve-is e f = rw (e, f)
-
--- ---- a curve's bytes
-
--- a further byte after some
-further : (zs : List ℤ) (k i : ℕ) → bytesText zs k i ++ (space ++ code (numberAt zs (k + i))) ≡ bytesText zs k (suc i)
-unfolding bytesText
-further zs k zero = ap (λ (j : ℕ). space ++ code (numberAt zs j)) (add-zero k) ∙ sym (append-nil (space ++ code (numberAt zs k)))
-further zs k (suc i) =
-    let there : k + suc i ≡ suc k + i = omega arith in
-    append-assoc (space ++ code (numberAt zs k)) (bytesText zs (suc k) i) (space ++ code (numberAt zs (k + suc i)))
-    ∙ ap (λ (j : ℕ). (space ++ code (numberAt zs k)) ++ (bytesText zs (suc k) i ++ (space ++ code (numberAt zs j)))) there
-    ∙ ap (λ (t : List ℕ). (space ++ code (numberAt zs k)) ++ t) (further zs (suc k) i)
-
-pub bytes-more : (zs : List ℤ) (k i : ℕ) → bytesText zs k i ++ (space ++ code (numberAt zs (k + i))) ≡ bytesText zs k (i + 1)
-bytes-more zs k i = let more : suc i ≡ i + 1 = omega arith in further zs k i ∙ ap (bytesText zs k) more
+pub curve-room : (z : ℤ) → (let t = curveTemplate z in (widths (columnIn curveTable (t .column)) ≤ curveWidth) × (t .skipped ≤ 3))
+unfolding curveTemplate columnIn widths
+curve-room z = split (is 0 z) (is 1 z)
+  where
+    split : (a b : Bool) → (let t = cond a (chosen 0 1) (cond b (chosen 1 3) (chosen 2 0)) in
+        (widths (columnIn curveTable (t .column)) ≤ curveWidth) × (t .skipped ≤ 3))
+    split true b = (omega arith, omega arith)
+    split false true = (omega arith, omega arith)
+    split false false = (omega arith, omega arith)

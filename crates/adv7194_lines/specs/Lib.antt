@@ -1,2 +1,3 @@
 pub mod Kinds
 pub mod Lines
+pub mod Templates

@@ -1,7 +1,7 @@
--- Laws of what is at fault, in words: the row of a field, its bits, and signalling's bytes. Assumes nothing.
+-- Laws of what is at fault: the row of a field and its bits, and how short the line of a refusal is. Assumes nothing.
 use mathlib.Core.Path.{_≡_, refl, sym, ap, _∙_}
 use mathlib.Core.Bool.{Bool, true, false, cond, _&&_}
-use mathlib.Core.List.{List, [], _∷_, _++_, append-assoc, append-nil}
+use mathlib.Core.List.{List, [], _∷_}
 use Prim.Native.Nat.{ℕ, zero, suc, _+_, _≤_, _<_}
 use native.Mathlib.Numerals.{add-one}
 use native.Mathlib.Omega.{arith}
@@ -10,7 +10,6 @@ use lib.IntN.{pos}
 use lib.ListN.{length, getD, drop, length-append}
 use lib.Seq.{drop-cons}
 use borrow.Author.Tests.{eq-eqb, ne-eqb, leb-true}
-use Rattle.text.specs.Text.{space, hexByte}
 use Rattle.text.proofs.Numerals.{decimal-most}
 use Rattle.listing.specs.Lines.{refusedLine, countsLine}
 use Rattle.refusals.specs.declared.Refusal.{Refusal}
@@ -19,12 +18,9 @@ use Rattle.refusals.specs.declared.Refusal.the-variants.{SignallingConflict, Di
 use Rattle.refusals.specs.Refusal.{numberOf}
 use Rattle.field_table.specs.declared.row.Row.{Row}
 use Rattle.field_table.specs.Rows.{rowOf}
-use Rattle.field_table.specs.Walk.{held}
-use Rattle.field_table.specs.Blocks.{bytesFrom}
 use Rattle.adv7194_table.specs.Fields.{timing, output, picture, dnr}
 use Rattle.adv7194_table.specs.Table.{singles, table, singleFields, rowsIn, rowsOf}
-use Rattle.writing.specs.Ascii.{ascii}
-use Rattle.adv7194_listing.specs.Faults.{rowAt, fieldRow, counted, hexText, reservedText}
+use Rattle.adv7194_listing.specs.Faults.{rowAt, fieldRow}
 
 -- ---- the row of a field
 
@@ -95,33 +91,6 @@ row-bits f (r ∷ rs) e =
 -- those of a field's row do
 pub field-bits : (f : ℕ) {r : Row} → r ≡ fieldRow f → r .bit + r .width ≤ 8
 field-bits f e = rw e (row-bits f (rowsIn (singleFields table)) table-bits)
-
--- ---- signalling's bytes
-
--- each after a space
-pub three-bytes : (image : List ℕ)
-    → (space ++ hexByte (getD image 0x19 0)) ++ (space ++ hexByte (getD image 0x1a 0)) ++ (space ++ hexByte (getD image 0x1b 0))
-    ≡ hexText (bytesFrom image 0x19 3)
-unfolding hexText bytesFrom
-three-bytes image = simp (append-assoc, append-nil)
-
--- ---- row 4
-
-module _ (image : List ℕ) (f : ℕ) where
-  -- signalling's bytes
-  pub reserved-signalling : f ≡ 11 → ascii "reserved code" ++ hexText (bytesFrom image 0x19 3) ≡ reservedText image f
-  unfolding reservedText
-  reserved-signalling e = rw (eq-eqb f 11 e)
-
-  -- must-be-zero bits
-  pub reserved-zero : (f ≡ 11 → ⊥) → fieldRow f .outside ≡ 3 → ascii "must-be-zero bits set" ≡ reservedText image f
-  unfolding reservedText
-  reserved-zero e h = rw (ne-eqb f 11 e, eq-eqb (fieldRow f .outside) 3 h)
-
-  -- any other field's code
-  pub reserved-code : (f ≡ 11 → ⊥) → (fieldRow f .outside ≡ 3 → ⊥) → counted "reserved code " (held image (fieldRow f)) "" ≡ reservedText image f
-  unfolding reservedText
-  reserved-code e h = rw (ne-eqb f 11 e, ne-eqb (fieldRow f .outside) 3 h)
 
 -- ---- the line of a refusal
 

@@ -10,23 +10,23 @@ use field_table::held;
 use field_table::row::Row;
 use field_table::row::row_of;
 use refusals::Refusal;
+use template::fill_column;
 use text::put;
-use writing::put_byte;
 use writing::put_counted;
 ghost use mathlib.Core.Path.{_≡_};
 ghost use mathlib.Core.Bool.{cond};
+ghost use mathlib.Core.List.{_++_};
 ghost use Prim.Native.Nat.{_+_, _≤_};
 ghost use lib.Dec.{eqb};
 ghost use lib.ListN.{length, getD};
 ghost use Rattle.refusals.specs.Refusal.{numberOf};
-ghost use Rattle.field_table.specs.Walk.{held as heldIn};
-ghost use Rattle.field_table.specs.Blocks.{bytesFrom};
 ghost use Rattle.adv7194_signalling.specs.Kind.{kindOf};
 ghost use Rattle.writing.specs.Ascii.{ascii};
 ghost use Rattle.adv7194_names.specs.Names.{named};
 ghost use Rattle.writing.specs.Put.{Put};
 ghost use Rattle.adv7194_names.specs.Widths.{labelWidth, wordsWidth, lineWidth};
-ghost use Rattle.adv7194_listing.specs.Faults.{fieldRow, counted, hexText, reservedText, conflictText, disagreementText, faultWords, faultText};
+ghost use Rattle.adv7194_listing.specs.Faults.{fieldRow, faultWords, faultText};
+ghost use Rattle.adv7194_listing.specs.Words.{wordTable, reservedWords, conflictWords, wordsOf, shownNumbers};
 ghost use Rattle.adv7194_lines.specs.Lines.{labelText};
 
 // Signalling, its first register, and the subcarrier word.
@@ -38,6 +38,29 @@ const WORD_FIELD: u8 = 28;
 
 // The refusal of a number outside its range, as a row's column has it.
 const OUT_OF_RANGE: u8 = 3;
+
+// The words of faults, each after a colon, of this many bytes: templates, whose marks stand for a code or for signalling's bytes.
+const SIZE: usize = 259;
+
+const WORDS: [u8; SIZE] = *b": code % out of range
+: reserved code %
+: reserved code # # #
+: must-be-zero bits set
+: with square pixel
+: with PAL
+: CGMS with PAL
+: WSS with NTSC
+: CGMS and WSS at once
+: doesn't agree with standard and square pixel
+: check bits don't agree
+: not known
+: 
+";
+
+// Where those of signalling's bytes stand among them, and the empty ones.
+const SIGNALLING_BYTES: usize = 2;
+
+const NO_WORDS: usize = 12;
 
 // The row of a field of one number; one of no bits for any other.
 pub fn field_row(field: u8) -> Row
@@ -74,90 +97,84 @@ pub fn byte_at(image: &[u8], register: usize) -> u8
     0
 }
 
-// Writes signalling's three bytes.
-fn put_signalling_bytes(line: &mut [u8], at: usize, image: &[u8]) -> usize
-    requires { ⌜ at + 9 ≤ length (now line) ⌝ }
-    ensures written { λ r. ⌜ Put 9 (now (line .entry)) at (hexText (bytesFrom (now (image .entry)) 0x19 3)) (now (line .exit)) r ⌝ }
+// The table of words.
+fn words() -> [u8; SIZE]
+    ensures answer { λ r. ⌜ r ≡ wordTable ⌝ }
 {
-    let first = put_byte(line, at, byte_at(image, SIGNALLING_REGISTER));
-    let second = put_byte(line, first, byte_at(image, SIGNALLING_REGISTER + 1));
-    put_byte(line, second, byte_at(image, SIGNALLING_REGISTER + 2))
+    WORDS
 }
 
-// Writes which code is reserved, or that must-be-zero bits are set.
-fn put_reserved(line: &mut [u8], at: usize, image: &[u8], field: u8) -> usize
-    requires { ⌜ at + wordsWidth ≤ length (now line) ⌝ }
-    ensures written { λ r. ⌜ Put wordsWidth (now (line .entry)) at (reservedText (now (image .entry)) field) (now (line .exit)) r ⌝ }
+// Which words tell a reserved code: signalling's bytes, must-be-zero bits, or a field's code.
+fn reserved_words(field: u8) -> usize
+    ensures answer { λ r. ⌜ r ≡ reservedWords field ⌝ }
 {
     if field == SIGNALLING_FIELD {
-        let words = put(line, at, b"reserved code");
-        return put_signalling_bytes(line, words, image);
+        return SIGNALLING_BYTES;
     }
-    let row = field_row(field);
-    if row.outside == OUT_OF_RANGE {
-        return put(line, at, b"must-be-zero bits set");
+    if field_row(field).outside == OUT_OF_RANGE {
+        return 3;
     }
-    put_counted(line, at, b"reserved code ", held(image, row) as u64, b"")
+    1
 }
 
-// Writes which kind of signalling is at fault.
-fn put_conflict(line: &mut [u8], at: usize, r19: u8) -> usize
-    requires { ⌜ at + wordsWidth ≤ length (now line) ⌝ }
-    ensures written { λ r. ⌜ Put wordsWidth (now (line .entry)) at (conflictText (kindOf r19)) (now (line .exit)) r ⌝ }
+// Which words tell the kind of signalling that is at fault.
+fn conflict_words(r19: u8) -> usize
+    ensures answer { λ r. ⌜ r ≡ conflictWords (kindOf r19) ⌝ }
 {
     let found = kind(r19);
     match found {
-        SignallingKind::Off => at,
-        SignallingKind::Cgms => put(line, at, b"CGMS with PAL"),
-        SignallingKind::Wss => put(line, at, b"WSS with NTSC"),
-        SignallingKind::Refused(_) => put(line, at, b"CGMS and WSS at once"),
+        SignallingKind::Off => NO_WORDS,
+        SignallingKind::Cgms => 6,
+        SignallingKind::Wss => 7,
+        SignallingKind::Refused(_) => 8,
     }
 }
 
-// Writes what doesn't agree.
-fn put_disagreement(line: &mut [u8], at: usize, field: u8) -> usize
-    requires { ⌜ at + wordsWidth ≤ length (now line) ⌝ }
-    ensures written { λ r. ⌜ Put wordsWidth (now (line .entry)) at (disagreementText field) (now (line .exit)) r ⌝ }
-{
-    if field == WORD_FIELD {
-        return put(line, at, b"doesn't agree with standard and square pixel");
-    }
-    put(line, at, b"check bits don't agree")
-}
-
-// Writes that a code is out of range.
-fn put_out_of_range(line: &mut [u8], at: usize, image: &[u8], field: u8) -> usize
-    requires { ⌜ at + wordsWidth ≤ length (now line) ⌝ }
-    ensures written { λ r. ⌜ Put wordsWidth (now (line .entry)) at (counted "code " (heldIn (now (image .entry)) (fieldRow field)) " out of range") (now (line .exit)) r ⌝ }
-{
-    let row = field_row(field);
-    put_counted(
-        line,
-        at,
-        b"code ",
-        held(image, row) as u64,
-        b" out of range",
-    )
-}
-
-// Writes a refusal in words.
-fn put_words(line: &mut [u8], at: usize, image: &[u8], refusal: Refusal, field: u8) -> usize
-    requires { ⌜ at + wordsWidth ≤ length (now line) ⌝ }
-    ensures written { λ r. ⌜ Put wordsWidth (now (line .entry)) at (faultWords (now (image .entry)) (numberOf refusal) field) (now (line .exit)) r ⌝ }
+// Which words tell a refusal; none for a wrong length, whose words have a count.
+fn words_of(refusal: Refusal, field: u8, r19: u8) -> usize
+    ensures answer { λ r. ⌜ r ≡ wordsOf (numberOf refusal) field r19 ⌝ }
 {
     match refusal {
-        Refusal::ImageLength => put_counted(line, at, b"", image.len() as u64, b" bytes, not 54"),
-        Refusal::OutOfRange => put_out_of_range(line, at, image, field),
-        Refusal::Reserved => put_reserved(line, at, image, field),
-        Refusal::SquarePixelWithOversampling => put(line, at, b"with square pixel"),
-        Refusal::PedestalWithPal => put(line, at, b"with PAL"),
-        Refusal::SignallingConflict => put_conflict(line, at, byte_at(image, SIGNALLING_REGISTER)),
-        Refusal::Disagreement => put_disagreement(line, at, field),
-        Refusal::RegisterUnknown => put(line, at, b"not known"),
-        Refusal::BusAddress => at,
-        Refusal::PlanBytes => at,
-        Refusal::PlanRoom => at,
+        Refusal::OutOfRange => 0,
+        Refusal::Reserved => reserved_words(field),
+        Refusal::SquarePixelWithOversampling => 4,
+        Refusal::PedestalWithPal => 5,
+        Refusal::SignallingConflict => conflict_words(r19),
+        Refusal::Disagreement => { if field == WORD_FIELD { 9 } else { 10 } }
+        Refusal::RegisterUnknown => 11,
+        Refusal::ImageLength => NO_WORDS,
+        Refusal::BusAddress => NO_WORDS,
+        Refusal::PlanBytes => NO_WORDS,
+        Refusal::PlanRoom => NO_WORDS,
     }
+}
+
+// The numbers that words show: signalling's three bytes, or the code that a field holds.
+fn shown(image: &[u8], field: u8, column: usize) -> [i32; 3]
+    ensures answer { λ r. ⌜ r ≡ shownNumbers (now (image .entry)) field column ⌝ }
+{
+    if column == SIGNALLING_BYTES {
+        return [
+            byte_at(image, SIGNALLING_REGISTER) as i32,
+            byte_at(image, SIGNALLING_REGISTER + 1) as i32,
+            byte_at(image, SIGNALLING_REGISTER + 2) as i32,
+        ];
+    }
+    [held(image, field_row(field)) as i32, 0, 0]
+}
+
+// Writes a refusal in words, after a colon.
+fn put_words(line: &mut [u8], at: usize, image: &[u8], refusal: Refusal, field: u8) -> usize
+    requires { ⌜ at + wordsWidth ≤ length (now line) ⌝ }
+    ensures written { λ r. ⌜ Put wordsWidth (now (line .entry)) at (ascii ": " ++ faultWords (now (image .entry)) (numberOf refusal) field) (now (line .exit)) r ⌝ }
+{
+    if refusal.number() == 1 {
+        return put_counted(line, at, b": ", image.len() as u64, b" bytes, not 54");
+    }
+    let column = words_of(refusal, field, byte_at(image, SIGNALLING_REGISTER));
+    let numbers = shown(image, field, column);
+    let words = words();
+    fill_column(line, at, &words, column, &numbers, 0)
 }
 
 // Writes where the fault is: a field's number and name, or that it is the image.
@@ -183,7 +200,6 @@ pub(crate) fn fault_line(
     ensures written { λ r. ⌜ Put lineWidth (now (line .entry)) at (faultText (now (image .entry)) (numberOf refusal) field) (now (line .exit)) r ⌝ }
 {
     let place = put_place(line, at, field);
-    let said = put(line, place, b": ");
-    let words = put_words(line, said, image, refusal, field);
+    let words = put_words(line, place, image, refusal, field);
     put(line, words, b"\n")
 }

@@ -4,7 +4,8 @@ use mathlib.Core.Bool.{true}
 use Prim.Native.Nat.{ℕ, _+_, _*_, _≤_, _<_}
 use lib.ListN.{length}
 use Rattle.adv7194_names.specs.Names.{names, named}
-use Rattle.adv7194_names.specs.Columns.{columnsText, columnOf, columnIn}
+use Rattle.template.specs.Columns.{columnIn}
+use Rattle.adv7194_names.specs.Columns.{columnsText, columnOf}
 use Rattle.adv7194_names.specs.Widths.{columnWidth}
 use Rattle.adv7194_names.proofs.ColumnLaws.{cleanRows, column-at, narrowRows, narrow-at}
 

@@ -1,11 +1,13 @@
 // The table of names and units: a line a field, from number 0 on, which stands for no field. A line has the columns name, word of the setting 0, word of the
 // setting 1, and unit.
+use template::columns::column_end;
+use template::columns::column_start;
 use text::put;
 ghost use mathlib.Core.Path.{_≡_};
-ghost use Prim.Native.Nat.{_+_, _-_, _≤_, _<_};
-ghost use lib.ListN.{length, take, drop};
+ghost use Prim.Native.Nat.{_+_, _≤_, _<_};
+ghost use lib.ListN.{length};
 ghost use Rattle.adv7194_names.specs.Names.{names as namesOf, named};
-ghost use Rattle.adv7194_names.specs.Columns.{columnsText, columnOf, columnIn, ends};
+ghost use Rattle.adv7194_names.specs.Columns.{columnsText, columnOf};
 ghost use Rattle.writing.specs.Put.{Put};
 ghost use Rattle.adv7194_names.specs.Widths.{columnWidth};
 
@@ -59,48 +61,6 @@ fn names() -> [u8; SIZE]
     ensures answer { λ r. ⌜ r ≡ columnsText namesOf ⌝ }
 {
     NAMES
-}
-
-// Whether a byte ends a column.
-fn is_end(b: u8) -> bool
-    ensures answer { λ r. ⌜ r ≡ ends b ⌝ }
-{
-    if b == b',' { true } else { b == b'\n' }
-}
-
-// Where column k of a table begins, counted from its beginning on through all lines; the table's end where it has fewer.
-fn column_start(table: &[u8], k: usize) -> usize
-    ensures within { λ r. ⌜ r ≤ length (now (table .entry)) ⌝ }
-    ensures answer { λ r. ⌜ columnIn (drop r (now (table .entry))) 0 ≡ columnIn (now (table .entry)) k ⌝ }
-{
-    let mut at: usize = 0;
-    let mut left = k;
-    while left > 0 {
-        if at == table.len() {
-            return at;
-        }
-        if is_end(table[at]) {
-            left -= 1;
-        }
-        at += 1;
-    }
-    at
-}
-
-// Where the column that begins at a place ends.
-fn column_end(table: &[u8], start: usize) -> usize
-    requires { ⌜ start ≤ length (now table) ⌝ }
-    ensures within { λ r. ⌜ (start ≤ r) × (r ≤ length (now (table .entry))) ⌝ }
-    ensures answer { λ r. ⌜ take (r - start) (drop start (now (table .entry))) ≡ columnIn (drop start (now (table .entry))) 0 ⌝ }
-{
-    let mut at = start;
-    while at < table.len() {
-        if is_end(table[at]) {
-            return at;
-        }
-        at += 1;
-    }
-    at
 }
 
 // Writes a column of a field's line, and answers the place after it.

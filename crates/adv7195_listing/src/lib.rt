@@ -86,7 +86,7 @@ fn list_settings(out: &mut [u8], numbers: &[i32]) -> Place
 {
     let mut text = [0u8; TEXT_WIDTH];
     let lines = lines();
-    let end = fill(&mut text, &lines, numbers);
+    let end = fill(&mut text, 0, &lines, numbers, 0);
     append(out, 0, &text[0..end])
 }
 

@@ -1,3 +1,2 @@
-pub mod PartLaws
 pub mod LineLaws
 pub mod TextLaws

@@ -7,7 +7,8 @@ use lib.IntN.{ℤ}
 use Rattle.listing.specs.Lines.{refusedLine}
 use Rattle.adv7194_settings.specs.Held.{settingsHeld}
 use Rattle.adv7194_compare.specs.Compare.{canBeRead, whole}
-use Rattle.compare_listing.specs.CompareText.{fieldLine, sideText, sidesText, compareText}
+use Rattle.compare_fields.specs.FieldLines.{fieldLine}
+use Rattle.compare_listing.specs.CompareText.{sideText, sidesText, compareText}
 
 module _ (a b : List ℕ) where
   -- raw codes don't depend on numbers

@@ -2,7 +2,7 @@
 -- with both settings, or both raw codes where reading refuses either image; then a line for each register that differs in bits outside all fields. Or the
 -- refusal.
 use mathlib.Core.Bool.{Bool, cond, _&&_}
-use mathlib.Core.List.{List, [], _∷_, _++_}
+use mathlib.Core.List.{List, _++_}
 use Prim.Native.Nat.{ℕ, _+_}
 use lib.IntN.{ℤ}
 use lib.ListN.{length}
@@ -11,27 +11,17 @@ use Rattle.listing.specs.Lines.{refusedLine}
 use Rattle.adv7194_table.specs.RawCodes.{outsideBits}
 use Rattle.adv7194_settings.specs.Held.{settingsHeld}
 use Rattle.writing.specs.Ascii.{ascii}
-use Rattle.adv7194_lines.specs.Lines.{labelText}
 use Rattle.adv7194_compare.specs.Differences.{fieldsDiffering, registersDiffering}
 use Rattle.adv7194_compare.specs.Compare.{canBeRead, whole}
-use Rattle.compare_listing.specs.Values.{markOf, sideOf}
+use Rattle.compare_fields.specs.FieldLines.{fieldLine, linesOf}
 
 -- `DIFFERENCES n`
 unfoldable pub countLine : ℕ → List ℕ
 countLine n = ascii "DIFFERENCES " ++ decimal n ++ lineEnd
 
--- field n's line: `12 contrast 1000 thousandths | 1180 thousandths`, or `12 contrast raw 80 | 97`
-unfoldable pub fieldLine : Bool → List ℕ → List ℕ → List ℤ → List ℤ → ℕ → List ℕ
-fieldLine both a b za zb n = labelText n ++ markOf both ++ sideOf both a za n ++ ascii " |" ++ sideOf both b zb n ++ lineEnd
-
 -- `register 03 A0 | A5`
 unfoldable pub registerLine : List ℕ → List ℕ → ℕ → List ℕ
 registerLine a b r = ascii "register " ++ hexByte r ++ space ++ hexByte (outsideBits a r) ++ ascii " | " ++ hexByte (outsideBits b r) ++ lineEnd
-
--- a line for each of some numbers
-unfoldable pub linesOf : (ℕ → List ℕ) → List ℕ → List ℕ
-linesOf f [] = []
-linesOf f (n ∷ ns) = f n ++ linesOf f ns
 
 -- the text of two images of the right length, whose settings are these numbers where both can be read
 unfoldable pub sideText : Bool → List ℕ → List ℕ → List ℤ → List ℤ → List ℕ

@@ -13,15 +13,14 @@ use adv7194_compare::fields_differing;
 use adv7194_compare::registers_differing;
 use adv7194_compare::taken;
 use adv7194_compare::whole;
-use lines::count_line;
-use lines::field_lines;
+use compare_fields::field_lines;
 use lines::register_lines;
 use listing::refused_line;
 use refusals::Refusal;
 use text::Place;
+use writing::put_counted;
 
 mod lines;
-mod parts;
 
 // How many numbers settings are.
 const NUMBERS: usize = 49;
@@ -53,7 +52,7 @@ fn write_sides(
     requires { ⌜ textWidth ≤ length (now line) ⌝ }
     ensures written { λ r. ⌜ Put textWidth (now (line .entry)) 0 (sideText readable (now (a .entry)) (now (b .entry)) (now (left .entry)) (now (right .entry))) (now (line .exit)) r ⌝ }
 {
-    let counted = count_line(line, 0, count(a, b));
+    let counted = put_counted(line, 0, b"DIFFERENCES ", count(a, b), b"\n");
     let listed = field_lines(line, counted, readable, a, b, left, right);
     register_lines(line, listed, a, b)
 }

@@ -1,15 +1,19 @@
--- Laws of templates: what each kind of byte stands for, and a text and its width from a place on. Assumes nothing.
+-- Laws of templates: what each kind of byte stands for, a text and its width from a place on, and a byte among the numbers. Assumes nothing.
 use mathlib.Core.Path.{_≡_, sym, ap, ap₂, _∙_}
 use mathlib.Core.Bool.{Bool, cond}
 use mathlib.Core.List.{List, [], _∷_, _++_, append-assoc, append-nil}
 use Prim.Native.Nat.{ℕ, _+_, _<_}
 use native.Mathlib.Nat.{add-zero}
 use native.Mathlib.Numerals.{add-one}
+use native.Mathlib.Omega.{arith}
 use lib.IntN.{ℤ, pos}
 use lib.ListN.{length, getD, drop}
 use lib.Seq.{drop-cons, drop-drop, drop-length, getD-drop}
-use borrow.Author.Tests.{eq-eqb, ne-eqb}
-use Rattle.text.specs.Text.{signed}
+use mir.Syntax.{w32}
+use mir.Val.{toZ}
+use mir.ValLaws.{toZ-pos}
+use borrow.Author.Tests.{eq-eqb, ne-eqb, lt-ltb}
+use Rattle.text.specs.Text.{signed, hexByte}
 use Rattle.writing.specs.Put.{numberWidth}
 use Rattle.writing.specs.Codes.{code}
 use Rattle.template.specs.Template.{decimalMark, byteMark, isMark, standsFor, taken, filled, width, widths}
@@ -59,9 +63,9 @@ module _ (template : List ℕ) (i : ℕ) (h : i < length template) where
       ∙ ap₂ (λ (z : ℤ) (ys : List ℤ). standsFor b z ++ filled (drop (i + 1) template) ys) first (drop-drop (taken b) k zs)
 
   -- a text written so far, and what its byte stands for after it
-  pub filled-more : (zs : List ℤ) (k : ℕ) (text : List ℕ) → text ++ filled (drop i template) (drop k zs) ≡ filled template zs
+  pub filled-more : (zs : List ℤ) (k : ℕ) (text : List ℕ) {whole : List ℕ} → text ++ filled (drop i template) (drop k zs) ≡ whole
       → (text ++ standsFor (getD template i 0) (getD zs k (pos 0))) ++ filled (drop (i + 1) template) (drop (k + taken (getD template i 0)) zs)
-      ≡ filled template zs
+      ≡ whole
   filled-more zs k text e =
       let b = getD template i 0 in
       append-assoc text (standsFor b (getD zs k (pos 0))) (filled (drop (i + 1) template) (drop (k + taken b) zs))
@@ -69,9 +73,20 @@ module _ (template : List ℕ) (i : ℕ) (h : i < length template) where
       ∙ e
 
 -- at the template's end the text is whole
-pub filled-whole : (template : List ℕ) (zs ys : List ℤ) (i : ℕ) (text : List ℕ) → i ≡ length template → text ++ filled (drop i template) ys ≡ filled template zs
-    → text ≡ filled template zs
+pub filled-whole : (template : List ℕ) (ys : List ℤ) (i : ℕ) (text : List ℕ) {whole : List ℕ} → i ≡ length template
+    → text ++ filled (drop i template) ys ≡ whole → text ≡ whole
 unfolding filled
-filled-whole template zs ys i text h e =
+filled-whole template ys i text h e =
     let none : drop i template ≡ [] = ap (λ (k : ℕ). drop k template) h ∙ drop-length template in
     sym (append-nil text) ∙ ap (λ (t : List ℕ). text ++ filled t ys) (sym none) ∙ e
+
+-- ---- a byte among the numbers
+
+-- as the machine hands it over
+pub byte-number : (b : ℕ) → b < 256 → toZ w32 b ≡ pos b
+byte-number b h = toZ-pos w32 b (omega arith)
+
+-- as it is shown
+pub byte-code : (b : ℕ) → b < 256 → code (pos b) ≡ hexByte b
+unfolding code
+byte-code b h = rw (lt-ltb b 256 h)

@@ -1,4 +1,3 @@
-pub mod CheckLaws
 pub mod LineLaws
 pub mod WalkLaws
 pub mod TextLaws

@@ -13,7 +13,8 @@ use Rattle.unpacking.specs.Unpacking.{unpack}
 use Rattle.unpacking.specs.Listed.{listed, Accepted}
 use Rattle.unpacking.proofs.Exact.{unpacks-packed}
 use Rattle.adv7194_reasons.specs.Reasons.{Reason}
-use Rattle.why_listing.specs.WhyText.{registerLine, registerLines, whyLines}
+use Rattle.why_lines.specs.RegisterLine.{registerLine}
+use Rattle.why_listing.specs.WhyText.{registerLines, whyLines}
 use Rattle.why_listing.specs.Parts.{transactionText, transactionWidth, byteWidth}
 
 -- ---- registers

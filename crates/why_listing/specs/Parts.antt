@@ -1,9 +1,9 @@
 -- The parts of the text as they are written, and the most bytes of each.
 use mathlib.Core.Path.{_≡_}
-use mathlib.Core.List.{List, [], _++_}
+use mathlib.Core.List.{List, _++_}
 use Prim.Native.Nat.{ℕ, _+_, _*_, _≤_}
 use lib.ListN.{length}
-use Rattle.refusals.specs.Verdict.{Verdict, good, refusedAt}
+use Rattle.refusals.specs.Verdict.{Verdict, good}
 use Rattle.bus.specs.Transactions.{Transaction, size}
 use Rattle.listing.specs.Written.{lineWidth}
 use Rattle.plan_listing.specs.PlanText.{transactionLine}
@@ -12,12 +12,8 @@ use Rattle.answer_listing.specs.AnswerText.{Holds}
 use Rattle.adv7194_bus.specs.Kind.{registerCount}
 use Rattle.adv7194_least.specs.Demands.{wideBytes}
 use Rattle.adv7194_reasons.specs.Reasons.{Reason}
-use Rattle.why_listing.specs.WhyText.{reasonText, registerLines}
-
--- an answer in plain words: those of the reason, none for a refusal
-abbrev pub answerWords : Verdict Reason → List ℕ
-answerWords (good k) = reasonText k
-answerWords (refusedAt n f) = []
+use Rattle.why_lines.specs.RegisterLine.{registerWidth}
+use Rattle.why_listing.specs.WhyText.{registerLines}
 
 -- a transaction's line and those of its registers
 abbrev pub transactionText : (ℕ → Reason) → Transaction → List ℕ
@@ -30,14 +26,6 @@ pub record Ready (image plan : List ℕ) (v : Verdict Counts) : Type 0 where
   pub whole : (n : Counts) → v ≡ good n → length image ≡ registerCount
 
 -- ---- the most bytes of each
-
--- a reason
-abbrev pub reasonWidth : ℕ
-reasonWidth = 29
-
--- a register's line: its number, a space, the reason and the line end
-abbrev pub registerWidth : ℕ
-registerWidth = 2 + 1 + reasonWidth + 1
 
 -- a transaction's line and those of its registers, by how many data bytes it has
 abbrev pub transactionWidth : ℕ → ℕ

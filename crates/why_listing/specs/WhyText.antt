@@ -6,33 +6,17 @@ use lib.ListN.{length}
 use Rattle.refusals.specs.Verdict.{Verdict, good, refusedAt}
 use Rattle.bus.specs.Transactions.{Transaction, size, busBytes}
 use Rattle.planning.specs.Plan.{Counts}
-use Rattle.text.specs.Text.{space, lineEnd, hexByte}
 use Rattle.listing.specs.Lines.{planLine, refusedLine}
 use Rattle.plan_listing.specs.PlanText.{transactionLine}
 use Rattle.adv7194_bus.specs.Kind.{boardAddress}
 use Rattle.adv7194_bus.specs.Limit.{noLimit}
-use Rattle.writing.specs.Ascii.{ascii}
-use Rattle.adv7194_names.specs.Names.{named}
 use Rattle.adv7194_settings.specs.House.{house}
 use Rattle.adv7194_least.specs.Demands.{wideBytes}
 use Rattle.adv7194_planning.specs.Rows.{listOf}
 use Rattle.adv7194_planning.specs.Planning.{planningOf}
-use Rattle.adv7194_reasons.specs.Reasons.{Reason, notSent, unknown, changed, zeroed, companion, bridge}
-use Rattle.adv7194_reasons.specs.Why.{reasonIn}
+use Rattle.adv7194_reasons.specs.Reasons.{Reason}
 use Rattle.house_listing.specs.HouseText.{boardIn}
-
--- a reason in plain words
-unfoldable pub reasonText : Reason → List ℕ
-reasonText notSent = ascii "not sent"
-reasonText unknown = ascii "not known"
-reasonText (changed f) = ascii (named f .name) ++ ascii " changed"
-reasonText zeroed = ascii "must be zero"
-reasonText companion = ascii "sent with the subcarrier word"
-reasonText (bridge i j) = ascii "between " ++ hexByte i ++ ascii " and " ++ hexByte j
-
--- a register's line: its number and the reason
-unfoldable pub registerLine : ℕ → Reason → List ℕ
-registerLine r k = hexByte r ++ space ++ reasonText k ++ lineEnd
+use Rattle.why_lines.specs.RegisterLine.{registerLine, houseReason}
 
 -- the lines of k registers from r on, by the reason of each
 unfoldable pub registerLines : (ℕ → Reason) → ℕ → ℕ → List ℕ
@@ -48,10 +32,6 @@ whyLines why (t ∷ ts) = transactionLine t ++ registerLines why (size t) (t .su
 abbrev pub whyTextOf : (ℕ → Reason) → List Transaction → Verdict Counts → List ℕ
 whyTextOf why ts (good n) = planLine (length ts) (busBytes ts) ++ whyLines why ts
 whyTextOf why ts (refusedAt n f) = refusedLine n f
-
--- the reason of a register in the plan of the house setting over an image
-abbrev pub houseReason : List ℕ → ℕ → Reason
-houseReason image = reasonIn (boardIn image) house noLimit
 
 -- the text of the house setting planned over an image
 unfoldable pub houseWhyText : List ℕ → List ℕ

@@ -7,7 +7,8 @@ ghost use Rattle.listing.specs.Written.{lineWidth};
 ghost use Rattle.planning.specs.Plan.{answerOf};
 ghost use Rattle.answer_listing.specs.AnswerText.{firstLine, listIn};
 ghost use Rattle.writing.specs.Put.{Put};
-ghost use Rattle.why_listing.specs.WhyText.{houseReason, whyTextOf, houseWhyText};
+ghost use Rattle.why_lines.specs.RegisterLine.{houseReason};
+ghost use Rattle.why_listing.specs.WhyText.{whyTextOf, houseWhyText};
 ghost use Rattle.why_listing.specs.Parts.{Ready, textWidth};
 use answer_listing::first_line;
 use house_listing::MOST_BYTES;
@@ -18,7 +19,6 @@ use text::Place;
 use text::put;
 
 mod lines;
-mod words;
 
 // Room for any text.
 const TEXT_ROOM: usize = 2048;

@@ -2,51 +2,23 @@
 ghost use mathlib.Core.Path.{_≡_};
 ghost use Prim.Native.Nat.{_+_, _*_, _≤_, _<_, _^_};
 ghost use lib.ListN.{length};
-ghost use Rattle.refusals.specs.Verdict.{good};
 ghost use Rattle.unpacking.specs.Unpacking.{unpack};
 ghost use Rattle.unpacking.specs.Listed.{listed, Accepted};
 ghost use Rattle.adv7194_bus.specs.Kind.{registerCount};
 ghost use Rattle.writing.specs.Put.{Put};
-ghost use Rattle.adv7194_reasons.specs.Why.{whyAs};
-ghost use Rattle.why_listing.specs.WhyText.{houseReason, registerLine, registerLines, whyLines};
-ghost use Rattle.why_listing.specs.Parts.{transactionText, registerWidth, transactionWidth, byteWidth};
-use crate::words::put_reason;
-use adv7194_bus::NO_LIMIT;
-use adv7194_bus::board::ALL_KNOWN;
-use adv7194_reasons::Explained;
-use adv7194_reasons::why;
-use adv7194_settings::house;
+ghost use Rattle.why_lines.specs.RegisterLine.{houseReason, registerWidth};
+ghost use Rattle.why_listing.specs.WhyText.{registerLines, whyLines};
+ghost use Rattle.why_listing.specs.Parts.{transactionText, transactionWidth, byteWidth};
 use plan_listing::put_line;
-use text::put;
 use unpacking::places::copy_data;
 use unpacking::steps::Order;
 use unpacking::steps::Step;
 use unpacking::steps::begin;
 use unpacking::steps::next;
-use writing::put_hex;
+use why_lines::register_line;
 
 // The most data bytes of a transaction.
 const MOST_DATA: usize = 63;
-
-// Why the plan of the house setting over an image has a register.
-fn house_reason(image: &[u8], register: u8) -> Explained
-    requires { ⌜ length (now image) ≡ registerCount ⌝ }
-    ensures answer { λ r. ⌜ whyAs r ≡ good (houseReason (now (image .entry)) register) ⌝ }
-{
-    let numbers = house();
-    why(image, ALL_KNOWN, &numbers, NO_LIMIT, register as u32)
-}
-
-// Writes a register's line.
-fn register_line(line: &mut [u8], at: usize, image: &[u8], register: u8) -> usize
-    requires { ⌜ (at + registerWidth ≤ length (now line)) × (length (now image) ≡ registerCount) ⌝ }
-    ensures written { λ r. ⌜ Put registerWidth (now (line .entry)) at (registerLine register (houseReason (now (image .entry)) register)) (now (line .exit)) r ⌝ }
-{
-    let number = put_hex(line, at, register);
-    let spaced = put(line, number, b" ");
-    let reason = put_reason(line, spaced, house_reason(image, register));
-    put(line, reason, b"\n")
-}
 
 // Writes the lines of so many registers from the first on.
 fn register_lines(line: &mut [u8], at: usize, image: &[u8], first: u8, count: u8) -> usize

@@ -17,7 +17,7 @@ wide : (c : tie.After-lines) → widths (c .lines .result) ≤ textWidth
 wide c = rw (c .lines .ensures) lines-room
 
 fill-requires : tie.Need-fill-requires
-fill-requires c κs = omega (arith, wide (c .before .before))
+fill-requires c κs = (omega (arith, wide (c .before .before)), omega arith)
 
 part-append-end : tie.Need-part-append-end
 part-append-end c =

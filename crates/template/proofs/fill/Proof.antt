@@ -15,20 +15,20 @@ use borrow.Author.Needs.{needs}
 use Rattle.template.proofs.fill.Statement.{statement}
 use Rattle.template.proofs.fill.Tie as tie
 
-record Inv (line₀ template : List ℕ) (zs : List ℤ) (line : List ℕ) (place next i : ℕ) : Type 0 where
+record Inv (line₀ : List ℕ) (at : ℕ) (template : List ℕ) (zs : List ℤ) (first : ℕ) (line : List ℕ) (place next i : ℕ) : Type 0 where
   turns : i ≤ length template
-  few : next ≤ i
+  few : next ≤ first + i
   spent : ℕ
   text : List ℕ
-  written : Put spent line₀ 0 text line place
+  written : Put spent line₀ at text line place
   room : spent + widths (drop i template) ≡ widths template
-  whole : text ++ filled (drop i template) (drop next zs) ≡ filled template zs
+  whole : text ++ filled (drop i template) (drop next zs) ≡ filled template (drop first zs)
 
 abbrev Inv-loop : tie.InvT-loop
-Inv-loop line₀ template numbers place₀ next₀ i₀ line place next i = Inv line₀ template numbers line place next i
+Inv-loop line₀ at template numbers first place₀ next₀ i₀ line place next i = Inv line₀ at template numbers first line place next i
 
 abbrev μ-loop : tie.MeasureT-loop
-μ-loop line₀ template numbers place₀ next₀ i₀ line place next i = length template - i
+μ-loop line₀ at template numbers first place₀ next₀ i₀ line place next i = length template - i
 
 loop-holds : tie.Need-loop-holds Inv-loop μ-loop
 loop-holds c =
@@ -38,7 +38,7 @@ loop-holds c =
       few = omega arith;
       spent = 0;
       text = [];
-      written = unwritten (start .args .line .now) 0 (omega arith);
+      written = unwritten (start .args .line .now) (start .args .at) (omega (arith, start .pre .0));
       room = omega arith;
       whole = refl;
     }
@@ -49,7 +49,7 @@ put-part-requires c κs =
     let l = t .before .loop in
     let start = t .before .before .before .before in
     let w = l .inv .written in
-    omega (arith, w .most, kept w, l .inv .room, widths-from (start .args .template .now) (l .i) (t .loop-test .taken), start .pre)
+    omega (arith, w .most, kept w, l .inv .room, widths-from (start .args .template .now) (l .i) (t .loop-test .taken), start .pre .0)
 
 loop-again : tie.Need-loop-again Inv-loop μ-loop
 loop-again c =
@@ -72,7 +72,7 @@ loop-again c =
       few = ⊎-elim (λ w. omega (arith, w .1, l .inv .few)) (λ w. omega (arith, w .1, l .inv .few)) (c .if1 .came);
       spent = l .inv .spent + width b;
       text = longer;
-      written = more (l .inv .written) part (omega (arith, l .inv .room, from, start .pre));
+      written = more (l .inv .written) part (omega (arith, l .inv .room, from, start .pre .0));
       room = omega (arith, l .inv .room, from);
       whole =
           ap (λ (k : ℕ). longer ++ filled (drop (l .i + 1) (a .template .now)) (drop k (a .numbers .now))) (sym next)
@@ -84,7 +84,7 @@ returns c =
     let l = c .before .loop in
     let a = c .before .before .before .before .args in
     let end : l .i ≡ length (a .template .now) = omega (arith, l .inv .turns, c .loop-test .left) in
-    same-text (filled-whole (a .template .now) (a .numbers .now) (drop (l .next) (a .numbers .now)) (l .i) (l .inv .text) end (l .inv .whole))
+    same-text (filled-whole (a .template .now) (drop (l .next) (a .numbers .now)) (l .i) (l .inv .text) end (l .inv .whole))
     (wider (widths (a .template .now)) (omega (arith, l .inv .room)) (l .inv .written))
 
 pub fill-spec : {M : Type 1} → statement M

@@ -14,7 +14,8 @@ use Rattle.unpacking.specs.Unpacking.{unpack}
 use Rattle.unpacking.specs.Listed.{listed, Accepted}
 use Rattle.answer_listing.specs.AnswerText.{firstLine, listIn}
 use Rattle.writing.proofs.Putting.{kept, more, wider, same-text}
-use Rattle.why_listing.specs.WhyText.{houseReason, whyLines, whyTextOf}
+use Rattle.why_lines.specs.RegisterLine.{houseReason}
+use Rattle.why_listing.specs.WhyText.{whyLines, whyTextOf}
 use Rattle.why_listing.specs.Parts.{Ready, textWidth}
 use Rattle.why_listing.proofs.TextLaws.{planned-text}
 use Rattle.why_listing.proofs.put_text.Statement.{statement}

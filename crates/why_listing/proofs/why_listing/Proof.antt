@@ -19,7 +19,8 @@ use Rattle.writing.proofs.Putting.{part}
 use Rattle.adv7194_planning.specs.Rows.{listOf}
 use Rattle.house_listing.specs.HouseText.{boardIn}
 use Rattle.house_listing.proofs.AnswerLaws.{image-whole, plans}
-use Rattle.why_listing.specs.WhyText.{houseReason, whyTextOf, houseWhyText}
+use Rattle.why_lines.specs.RegisterLine.{houseReason}
+use Rattle.why_listing.specs.WhyText.{whyTextOf, houseWhyText}
 use Rattle.why_listing.proofs.TextLaws.{text-of}
 use Rattle.why_listing.proofs.why_listing.Statement.{statement}
 use Rattle.why_listing.proofs.why_listing.Tie as tie

@@ -1,45 +1,46 @@
--- `kinds::put_curve` meets its contract: the kind chooses what is written. Assumes nothing.
-use mathlib.Core.Path.{refl, sym, ap, _∙_}
+-- `kinds::put_curve` meets its contract: the kind chooses the template. Assumes nothing.
+use mathlib.Core.Path.{_≡_, ap, _∙_}
+use Prim.Native.Nat.{_+_, _≤_}
 use native.Mathlib.Omega.{arith}
-use Rattle.text.specs.Text.{signed}
-use Rattle.field_table.specs.Blocks.{is}
-use Rattle.adv7194_names.specs.Widths.{curveWidth}
-use Rattle.adv7194_names.proofs.Choosing.{is-not, number-is}
-use Rattle.adv7194_lines.proofs.KindLaws.{ratio-is, seven-is, no-curve-is}
-use Rattle.writing.proofs.Putting.{wider, same-text, looked}
+use lib.ListN.{drop}
 use borrow.Author.Needs.{needs}
+use Rattle.writing.proofs.Putting.{same, same-text, wider}
+use Rattle.template.specs.Columns.{columnIn}
+use Rattle.template.specs.Template.{filled, widths}
+use Rattle.adv7194_names.specs.Widths.{curveWidth}
+use Rattle.adv7194_lines.specs.declared.kinds.Template.{Template}
+use Rattle.adv7194_lines.specs.Kinds.{numberAt}
+use Rattle.adv7194_lines.specs.Templates.{curveTable, curveTemplate}
+use Rattle.adv7194_lines.proofs.KindLaws.{curve-filled, curve-room}
 use Rattle.adv7194_lines.proofs.kinds.put_curve.Statement.{statement}
 use Rattle.adv7194_lines.proofs.kinds.put_curve.Tie as tie
+
+-- the template that the kind chooses
+chosen : (c : tie.After-curve-template) → (let a = c .before .before .before .args in
+    c .curve-template .result ≡ curveTemplate (numberAt (a .numbers .now) (a .k)))
+chosen c = let g = c .before .number-at in c .curve-template .ensures ∙ ap curveTemplate (same (g .result) (g .ok) ∙ g .ensures)
+
+-- has room, and passes over few numbers
+room : (c : tie.After-curve-template) → (let t = c .curve-template .result in (widths (columnIn curveTable (t .column)) ≤ curveWidth) × (t .skipped ≤ 3))
+room c = let a = c .before .before .before .args in rw (chosen c) (curve-room (numberAt (a .numbers .now) (a .k)))
+
+add-fill-column : tie.Need-add-fill-column
+add-fill-column c = let t = c .before .before .before in omega (arith, room t .1, t .before .before .before .pre .1)
+
+fill-column-requires : tie.Need-fill-column-requires
+fill-column-requires c κs =
+    let t = c .before .before .before in
+    let start = t .before .before .before in
+    (omega (arith, room t .0, start .pre .0), omega (arith, room t .1, start .pre .1))
 
 returns : tie.Need-returns
 returns c =
     let p = c .before .before in
-    let m = p .before .before in
-    let g = m .before .number-at in
-    let a = m .before .before .before .args in
-    let e = ratio-is (a .numbers .now) (a .k) (sym (g .ensures) ∙ number-is 0 (g .result) (g .ok) refl (m .match .keys1)) in
-    same-text e (p .put-ratio .ensures)
-
-returns-2 : tie.Need-returns-2
-returns-2 c =
-    let p = c .before .before in
-    let m = p .before .before in
-    let g = m .before .number-at in
-    let a = m .before .before .before .args in
-    let e = seven-is (a .numbers .now) (a .k) (sym (g .ensures) ∙ number-is 1 (g .result) (g .ok) refl (m .match .keys2)) in
-    same-text e (p .put-seven .ensures)
-
-returns-3 : tie.Need-returns-3
-returns-3 c =
-    let p = c .before .before in
-    let m = p .before .before in
-    let g = m .before .number-at in
-    let a = m .before .before .before .args in
-    let z = g .result in
-    let h = m .match .rest in
-    let e =
-    no-curve-is (a .numbers .now) (a .k) (ap (is 0) (sym (g .ensures)) ∙ is-not 0 z refl (h .0 .1)) (ap (is 1) (sym (g .ensures)) ∙ is-not 1 z refl (h .1)) in
-    same-text e (wider curveWidth (omega arith) (looked signed (g .ok) (g .ensures) (p .put-signed .ensures)))
+    let t = p .before .before .before .before in
+    let a = t .before .before .before .args in
+    let zs = a .numbers .now in
+    same-text (ap (λ (t : Template). filled (columnIn curveTable (t .column)) (drop (a .k + t .skipped) zs)) (chosen t) ∙ curve-filled zs (a .k))
+    (wider curveWidth (room t .0) (p .fill-column .ensures))
 
 pub put-curve-spec : {M : Type 1} → statement M
 put-curve-spec =
@@ -47,11 +48,8 @@ put-curve-spec =
     (tie.spec
     (λ c κs. search needs)
     (λ c κs. search needs)
-    (λ c κs. search needs)
-    (λ c κs. search needs)
     (λ c. search needs)
-    returns
+    add-fill-column
+    fill-column-requires
     (λ c. search needs)
-    returns-2
-    (λ c. search needs)
-    returns-3)
+    returns)

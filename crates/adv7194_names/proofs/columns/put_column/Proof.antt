@@ -6,7 +6,8 @@ use native.Mathlib.Omega.{arith}
 use lib.ListN.{length, take, drop}
 use borrow.Author.Needs.{needs}
 use Rattle.adv7194_names.specs.Names.{names, named}
-use Rattle.adv7194_names.specs.Columns.{columnIn, columnsText, columnOf}
+use Rattle.template.specs.Columns.{columnIn}
+use Rattle.adv7194_names.specs.Columns.{columnsText, columnOf}
 use Rattle.adv7194_names.specs.Widths.{columnWidth}
 use Rattle.adv7194_names.proofs.TableLaws.{field-column, field-width}
 use Rattle.writing.proofs.Putting.{put, wider, same-text}

@@ -2,7 +2,7 @@
 use native.Mathlib.Omega.{arith}
 use borrow.Author.Needs.{needs}
 use Rattle.writing.proofs.Putting.{same-text, unwritten}
-use Rattle.compare_listing.proofs.LineLaws.{line-shown, line-left-out}
+use Rattle.compare_fields.proofs.LineLaws.{line-shown, line-left-out}
 use Rattle.compare_listing.proofs.lines.register_line.Statement.{statement}
 use Rattle.compare_listing.proofs.lines.register_line.Tie as tie
 

@@ -10,7 +10,8 @@ use Rattle.writing.proofs.Putting.{kept, more, wider, same-text, unwritten}
 use Rattle.adv7194_compare.specs.Differences.{registerDiffers}
 use Rattle.compare_listing.specs.Widths.{registerWidth}
 use Rattle.compare_listing.specs.CompareText.{registerLine}
-use Rattle.compare_listing.proofs.LineLaws.{linesFrom, lines-turn, lines-end, register-lines-all}
+use Rattle.compare_fields.proofs.LineLaws.{linesFrom, lines-turn, lines-end}
+use Rattle.compare_listing.proofs.LineLaws.{register-lines-all}
 use Rattle.compare_listing.proofs.lines.register_lines.Statement.{statement}
 use Rattle.compare_listing.proofs.lines.register_lines.Tie as tie
 

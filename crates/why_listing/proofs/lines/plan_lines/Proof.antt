@@ -13,7 +13,8 @@ use Rattle.unpacking.proofs.StepLaws.{Went, Stepped, stepped}
 use Rattle.plan_listing.proofs.WalkLaws.{data-in-front, all-passed}
 use Rattle.writing.proofs.Putting.{kept, wider, same-text}
 use Rattle.adv7194_reasons.specs.Reasons.{Reason}
-use Rattle.why_listing.specs.WhyText.{houseReason, whyLines}
+use Rattle.why_lines.specs.RegisterLine.{houseReason}
+use Rattle.why_listing.specs.WhyText.{whyLines}
 use Rattle.why_listing.specs.Parts.{transactionText, transactionWidth, byteWidth}
 use Rattle.why_listing.proofs.LineLaws.{listWidth, plan-width}
 use Rattle.why_listing.proofs.WalkLaws.{Listing, listing-begins, lines-room, listing-goes}
