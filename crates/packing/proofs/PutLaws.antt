@@ -1,19 +1,19 @@
 -- What was put: one string after another, into a part of a plan, and the last byte. Assumes nothing.
 use mathlib.Core.Path.{_≡_, refl, sym, ap, ap₂, _∙_, subst}
 use mathlib.Core.Bool.{Bool, false}
-use mathlib.Core.List.{List, [], _++_, append-assoc, append-nil}
-use Prim.Native.Nat.{ℕ, _+_, _-_, _*_, _/_, _%_, _^_, _≤_, _<_}
-use native.Mathlib.Nat.{add-zero, add-comm, mod-lt, mod-eq-of-lt}
-use native.Mathlib.Numerals.{add-one}
+use mathlib.Core.List.{List, [], _∷_, _++_, append-assoc, append-nil}
+use Prim.Native.Nat.{ℕ, suc, _+_, _-_, _*_, _/_, _%_, _^_, _≤_, _<_}
+use native.Mathlib.Nat.{add-zero, add-comm, mod-lt}
 use native.Mathlib.Omega.{arith}
 use lib.Arith.{digits-lt}
-use lib.ListN.{length, take, drop, set, getD, replicate, length-append, length-drop, drop-of-length-le}
+use lib.ListN.{length, take, drop, set, getD, replicate, length-append, length-drop, length-set, drop-of-length-le}
 use lib.Pow.{pow-pos, pow-add, pow-mono, shr-lt, split, low, field, mod-mod-pow}
-use lib.Seq.{drop-set-lt, drop-drop, take-all, take-append-add, drop-append-add, length-take-le, take-suc}
+use lib.Seq.{sets, drop-set-lt, drop-drop, take-all, take-append-add, drop-append-add, length-take-le}
 use borrow.Rule.Slice.PartMut.{putMid}
 use Rattle.bits.specs.Strings.{msbFirst, byteBits, bytesOf}
 use Rattle.bits.proofs.StringLaws.{msb-length, msb-cat, msb-cut}
 use Rattle.bits.proofs.ByteLaws.{byteBits-append, byteBits-length, stored, bytesOf-length}
+use Rattle.shifting.specs.Shifted.{between, shifted, lastFrom}
 use Rattle.bus.specs.Transactions.{Transaction}
 use Rattle.packing.proofs.FillLaws.{msb-zero, take-bytes, filled-bytes}
 use Rattle.packing.specs.declared.Pending.{Pending}
@@ -146,33 +146,41 @@ byte-left n a v few h =
     let e : 8 - n + n ≡ 8 = omega arith in
     sym (mod-mod-pow x (8 - n) n) ∙ ap (λ (k : ℕ). x % 2 ^ k % 2 ^ n) e ∙ ap (λ (y : ℕ). y % 2 ^ n) (low a 8 h)
 
--- no byte yet: the pending bits are the lowest of their number
-pub put-no-byte : (plan : List ℕ) (p : Pending) → Sound p → Put plan plan p [] (record { at = p .at + 0; count = p .count; bits = p .bits % 2 ^ p .count })
-put-no-byte plan p s =
-    subst (λ (k : ℕ). Put plan plan p [] (record { at = k; count = p .count; bits = p .bits % 2 ^ p .count })) (sym (add-zero (p .at)))
-    (subst (λ (b : ℕ). Put plan plan p [] (record { at = p .at; count = p .count; bits = b })) (sym (mod-eq-of-lt (s .low))) (put-none plan p s))
-
--- a byte more: the pending bits are the lowest of a number before it
-pub put-byte : (plan : List ℕ) (at i count before v : ℕ) → count < 8 → v < 2 ^ 8 → at + i < length plan
-    → Put plan (set plan (at + i) ((before * 0x100 + v) / 2 ^ count % 0x100)) (record { at = at + i; count = count; bits = before % 2 ^ count }) (msbFirst 8 v)
-    (record { at = at + (i + 1); count = count; bits = v % 2 ^ count })
-put-byte plan at i count before v few h room =
+-- a byte: the pending bits are the lowest of a number before it
+put-byte : (plan : List ℕ) (at count before v : ℕ) → count < 8 → v < 2 ^ 8 → at < length plan
+    → Put plan (set plan at (between count before v)) (record { at = at; count = count; bits = before % 2 ^ count }) (msbFirst 8 v)
+    (record { at = at + 1; count = count; bits = v % 2 ^ count })
+put-byte plan at count before v few h room =
     let x = before % 2 ^ count * 2 ^ 8 + v in
-    let p : Pending = record { at = at + i; count = count; bits = before % 2 ^ count } in
+    let p : Pending = record { at = at; count = count; bits = before % 2 ^ count } in
     let e : count + 8 - 8 ≡ count = omega arith in
-    let on : at + i + 1 ≡ at + (i + 1) = omega arith in
-    let byte : x / 2 ^ (count + 8 - 8) ≡ (before * 0x100 + v) / 2 ^ count % 0x100 = cc (byte-cut count before v h) in
-    let next : _≡_ {A = Pending} (record { at = at + i + 1; count = count + 8 - 8; bits = x % 2 ^ (count + 8 - 8) })
-    (record { at = at + (i + 1); count = count; bits = v % 2 ^ count }) =
+    let byte : x / 2 ^ (count + 8 - 8) ≡ between count before v = cc (byte-cut count before v h) in
+    let next : _≡_ {A = Pending} (record { at = at + 1; count = count + 8 - 8; bits = x % 2 ^ (count + 8 - 8) })
+    (record { at = at + 1; count = count; bits = v % 2 ^ count }) =
     cc (byte-left count (before % 2 ^ count) v few h) in
-    subst (λ (y : ℕ). Put plan (set plan (at + i) y) p (msbFirst 8 v) (record { at = at + (i + 1); count = count; bits = v % 2 ^ count })) byte
-    (subst (λ (r : Pending). Put plan (set plan (at + i) (x / 2 ^ (count + 8 - 8))) p (msbFirst 8 v) r) next
+    subst (λ (y : ℕ). Put plan (set plan at y) p (msbFirst 8 v) (record { at = at + 1; count = count; bits = v % 2 ^ count })) byte
+    (subst (λ (r : Pending). Put plan (set plan at (x / 2 ^ (count + 8 - 8))) p (msbFirst 8 v) r) next
     (put-full plan p 8 v (record { few = few; low = mod-lt before (pow-pos count) }) (omega arith) h (omega arith) room))
 
--- one byte more of a list
-pub byteBits-more : (l : List ℕ) (i : ℕ) → i < length l → byteBits (take (i + 1) l) ≡ byteBits (take i l) ++ msbFirst 8 (getD l i 0)
-unfolding byteBits
-byteBits-more l i h = rw (add-one i, take-suc l i 0, byteBits-append, append-nil)
+-- bytes, one after the other, each shifted by the pending bits
+pub put-all : (bytes plan : List ℕ) (at count before : ℕ) → count < 8 → ((k : ℕ) → getD bytes k 0 < 2 ^ 8) → at + length bytes ≤ length plan
+    → Put plan (sets plan at (shifted count before bytes)) (record { at = at; count = count; bits = before % 2 ^ count }) (byteBits bytes)
+    (record { at = at + length bytes; count = count; bits = lastFrom before bytes % 2 ^ count })
+unfolding shifted byteBits
+put-all [] plan at count before few h room =
+    let p : Pending = record { at = at; count = count; bits = before % 2 ^ count } in
+    subst (λ (k : ℕ). Put plan plan p [] (record { at = k; count = count; bits = before % 2 ^ count })) (sym (add-zero at))
+    (put-none plan p (record { few = few; low = mod-lt before (pow-pos count) }))
+put-all (b ∷ bs) plan at count before few h room =
+    let after = set plan at (between count before b) in
+    let one : at + 1 ≡ suc at = omega arith in
+    let all : at + 1 + length bs ≡ at + suc (length bs) = omega arith in
+    put-then (put-byte plan at count before b few (h 0) (omega arith)) (
+    subst (λ (k : ℕ). Put after (sets after k (shifted count b bs)) (record { at = at + 1; count = count; bits = b % 2 ^ count }) (byteBits bs)
+    (record { at = at + suc (length bs); count = count; bits = lastFrom b bs % 2 ^ count })) one
+    (subst (λ (k : ℕ). Put after (sets after (at + 1) (shifted count b bs)) (record { at = at + 1; count = count; bits = b % 2 ^ count }) (byteBits bs)
+    (record { at = k; count = count; bits = lastFrom b bs % 2 ^ count })) all
+    (put-all bs after (at + 1) count b few (λ k. h (suc k)) (omega (arith, length-set plan at (between count before b))))))
 
 -- ---- the last byte
 
