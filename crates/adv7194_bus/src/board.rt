@@ -1,16 +1,15 @@
 // A board: its registers' bytes, and which of them are known.
 ghost use mathlib.Core.Path.{_≡_};
 ghost use mathlib.Core.List.{List};
-ghost use Prim.Native.Nat.{ℕ, _+_, _≤_};
+ghost use Prim.Native.Nat.{ℕ};
 ghost use lib.ListN.{length};
-ghost use Rattle.bus.specs.Known.{marks, knownBy};
+ghost use Rattle.bus.specs.Known.{knownBy};
 ghost use Rattle.bus.specs.Lent.{chipAt};
 ghost use Rattle.adv7194_bus.specs.Kind.{registerCount, adv7194};
 ghost use Rattle.adv7194_bus.specs.Board.{boardOf};
 use crate::DROPPED;
 use crate::REGISTERS;
 use crate::image::copied;
-use crate::span;
 use bus::chip::Event;
 use bus::chip::State;
 use bus::known::known_by;
@@ -41,12 +40,4 @@ pub fn known_after(state: State, event: Event, known: u64) -> u64
     ensures answer { λ r. ⌜ ((own : ℕ) (bytes : List ℕ) → r ≡ knownBy (adv7194 own) (chipAt (state .phase) (state .pointer) bytes) known event) ⌝ }
 {
     known_by(state, event, DROPPED, REGISTERS as usize, known)
-}
-
-// The known registers after data for that many registers from a subaddress on, of which each keeps a byte.
-pub fn marked(known: u64, subaddress: u8, count: u8) -> u64
-    requires { ⌜ subaddress + count ≤ registerCount ⌝ }
-    ensures answer { λ r. ⌜ r ≡ marks known subaddress count ⌝ }
-{
-    known | span(subaddress as u32, count as u32)
 }

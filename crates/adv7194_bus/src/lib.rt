@@ -1,11 +1,13 @@
 // The ADV7194 as a chip on the bus: how many registers it has, which of them drop a byte, one event at it, and the three rules for what is written to it.
 ghost use mathlib.Core.Path.{_≡_};
+ghost use mathlib.Core.Bool.{cond};
 ghost use Prim.Native.Nat.{_+_, _-_, _*_, _^_, _≤_};
 ghost use Rattle.adv7194_bus.specs.Kind.{registerCount};
 ghost use Rattle.adv7194_bus.specs.Limit.{limitRight};
 ghost use Rattle.adv7194_bus.specs.Rules.{keepsRules};
 ghost use Rattle.adv7194_bus.specs.Step.{stepBy};
 ghost use Rattle.bus.specs.Lent.{steppedOf};
+ghost use Rattle.bus.specs.Known.{marks};
 use bus::chip::Event;
 use bus::chip::State;
 use bus::chip::Stepped;
@@ -24,6 +26,9 @@ pub const BARRED: u64 = 0x10_0000_001E_0000;
 
 // The map of the subcarrier word's registers, 0C to 0F.
 pub const WORD: u64 = 0xF000;
+
+// The map of no register.
+const NONE: u64 = 0;
 
 // The bus address of the chip on the boards.
 pub const BOARD_ADDRESS: u32 = 0x54;
@@ -57,22 +62,22 @@ fn span(start: u32, count: u32) -> u64
     ((1 << count) - 1) << start
 }
 
-// Whether a write transaction with this subaddress and that many data bytes keeps the three rules.
-pub fn keeps_rules(subaddress: u8, count: u8) -> bool
-    ensures answer { λ r. ⌜ r ≡ keepsRules subaddress count ⌝ }
+// The map of the registers that a write transaction with this subaddress and that many data bytes touches, where it keeps the three rules; else of none.
+pub fn touched(subaddress: u8, count: u8) -> u64
+    ensures answer { λ r. ⌜ r ≡ cond (keepsRules subaddress count) (marks 0 subaddress count) 0 ⌝ }
 {
-    if count == 0 {
-        return true;
-    }
     let start = subaddress as u32;
     let end = start + count as u32;
     if REGISTERS < end {
-        return false;
+        return NONE;
     }
-    let touched = span(start, count as u32);
-    if touched & BARRED != 0 {
-        return false;
+    let map = span(start, count as u32);
+    if map & BARRED != 0 {
+        return NONE;
     }
-    let word = touched & WORD;
-    (word == 0) | (word == WORD)
+    let word = map & WORD;
+    if (word == 0) | (word == WORD) {
+        return map;
+    }
+    NONE
 }

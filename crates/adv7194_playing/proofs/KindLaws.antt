@@ -1,20 +1,23 @@
 -- What the kinds of plans ask: of a list it is what they ask of each transaction and of how many there are; data that they take are for registers that
 -- the chip keeps, and those of a pair are read from the registers that they were written to. Assumes nothing.
 use mathlib.Core.Path.{_≡_, refl, sym, ap, ap₂, _∙_, subst⁻¹}
-use mathlib.Core.Logic.{⊎-elim}
-use mathlib.Core.Bool.{Bool, true, false, not, _&&_, _||_, and-true}
+use mathlib.Core.Logic.{⊎-elim, _≢_}
+use mathlib.Core.Bool.{Bool, true, false, cond, not, _&&_, _||_, and-true, false≢true}
 use mathlib.Core.List.{List, [], _∷_, _++_, append-assoc}
-use Prim.Native.Nat.{ℕ, suc, _+_, _≤_, _<_}
+use Prim.Native.Nat.{ℕ, suc, _+_, _*_, _%_, _^_, _≤_, _<_}
 use native.Mathlib.Numerals.{add-one}
 use native.Mathlib.Omega.{arith}
 use lib.Dec.{T, eqb, leb, eqb→eq}
 use lib.ListN.{length, take, drop, getD}
 use lib.Seq.{drop-cons, take-at, drop-at, length-take-le, sets, length-sets, sets-eq}
-use borrow.Author.Tests.{leb-true, lt-ltb, ne-eqb}
+use borrow.Author.Tests.{leb-true, le-leb, lt-ltb, ne-eqb}
+use Rattle.bits.specs.Maps.{has}
 use Rattle.bits.proofs.FlagLaws.{first, second, either}
+use Rattle.bits.proofs.SetLaws.{none-has}
 use Rattle.bus.specs.Transactions.{Transaction, size, Every}
 use Rattle.bus.specs.Known.{marks, marksOf}
 use Rattle.bus.proofs.Play.{Kept}
+use Rattle.bus.proofs.KnownLaws.{has-marks}
 use Rattle.unpacking.proofs.Writing.{Turns, passes, stateAfter}
 use Rattle.adv7194_bus.specs.Kind.{registerCount, readOnly, adv7194}
 use Rattle.adv7194_bus.specs.Rules.{keepsRules, allKeepRules}
@@ -76,7 +79,7 @@ marks-state kind (t ∷ ts) map l = marks-state kind ts (marks map (t .subaddres
 -- ---- a transaction
 
 -- a pair's subaddress and data count
-pair-at : (subaddress count : ℕ) → T (atPair subaddress count) → (subaddress ≤ ordinaryPair) × (count ≡ pairSize)
+pub pair-at : (subaddress count : ℕ) → T (atPair subaddress count) → (subaddress ≤ ordinaryPair) × (count ≡ pairSize)
 pair-at subaddress count h =
     let x = eqb subaddress extendedPair in
     let o = eqb subaddress ordinaryPair in
@@ -84,6 +87,29 @@ pair-at subaddress count h =
       ⊎-elim (λ p. omega (arith, eqb→eq subaddress extendedPair p)) (λ p. omega (arith, eqb→eq subaddress ordinaryPair p)) (either x o (first (x || o) two h)),
       eqb→eq count pairSize (second (x || o) two h),
     )
+
+-- the map of a pair's registers
+pub pair-marks : (subaddress count : ℕ) → T (atPair subaddress count) → marks 0 subaddress count ≡ (3 * 2 ^ subaddress) % 2 ^ 64
+unfolding marks
+pair-marks subaddress count h =
+    let x = eqb subaddress extendedPair in
+    let o = eqb subaddress ordinaryPair in
+    let two : count ≡ pairSize = pair-at subaddress count h .1 in
+    ⊎-elim (λ p. rw (eqb→eq subaddress extendedPair p, two)) (λ p. rw (eqb→eq subaddress ordinaryPair p, two))
+    (either x o (first (x || o) (eqb count pairSize) h))
+
+-- the map of a transaction's registers is that of some: so it tells whether the header is taken
+pub not-touched : (b : Bool) (subaddress count : ℕ) → 0 < count → cond b (marks 0 subaddress count) 0 ≡ 0 → b ≡ false
+not-touched false subaddress count h z = refl
+not-touched true subaddress count h z =
+    let there : has 0 subaddress ≡ true =
+    sym (ap (λ (m : ℕ). has m subaddress) z) ∙ has-marks count subaddress 0 subaddress
+    ∙ rw (none-has subaddress, le-leb subaddress subaddress (omega arith), lt-ltb subaddress (subaddress + count) (omega arith)) in
+    absurd (false≢true (sym (none-has subaddress) ∙ there))
+
+pub is-touched : (b : Bool) (subaddress count : ℕ) → cond b (marks 0 subaddress count) 0 ≢ 0 → b ≡ true
+is-touched false subaddress count h = absurd (h refl)
+is-touched true subaddress count h = refl
 
 -- data that a kind takes are for registers that the chip has
 pub room : (kind : PlanKind) (subaddress count : ℕ) → 0 < count → takesHeader kind subaddress count ≡ true → subaddress + count ≤ registerCount

@@ -1,20 +1,19 @@
 // Playing a packed plan against the ADV7194.
 ghost use mathlib.Core.Path.{_≡_};
-ghost use mathlib.Core.Bool.{true};
+ghost use mathlib.Core.Bool.{true, cond};
 ghost use lib.ListN.{length};
 ghost use Rattle.refusals.specs.Order.{Exactly};
 ghost use Rattle.unpacking.specs.Unpacking.{unpack, counted};
 ghost use Rattle.adv7194_bus.specs.Kind.{registerCount};
 ghost use Rattle.adv7194_bus.specs.Board.{boardOf};
 ghost use Rattle.bus.specs.Address.{addressRight};
+ghost use Rattle.bus.specs.Known.{marks};
 ghost use Rattle.adv7194_playing.specs.Kinds.{needsTransaction, takesHeader, takesData, pairFrom, PairThere};
 ghost use Rattle.playing.specs.Playing.{judgedIf, rowPlayed, playOrder, acknowledged, playOf};
 ghost use Rattle.adv7194_playing.specs.Playing.{takes, callOf, playedBoard, answerOf, knownOf};
 ghost use Rattle.adv7194_playing.specs.Written.{Written, countOf, mapOf};
 use adv7194_bus::REGISTERS;
-use adv7194_bus::board::marked;
 use adv7194_bus::image::copied;
-use adv7194_bus::keeps_rules;
 use adv7194_captions::at_pair;
 use adv7194_captions::is_odd;
 use bus::address::address_right;
@@ -24,6 +23,12 @@ use unpacking::steps::Order;
 use unpacking::steps::Step;
 use unpacking::steps::begin;
 use unpacking::steps::next;
+
+// The map of no register.
+const NONE: u64 = 0;
+
+// The map of a pair's registers, from its first on.
+const PAIR: u64 = 3;
 
 // The plans that a play call takes.
 pub enum PlanKind {
@@ -55,13 +60,18 @@ fn needs_transaction(kind: PlanKind) -> bool
     }
 }
 
-// Whether this kind takes a transaction's subaddress and data count.
-fn takes_header(kind: PlanKind, subaddress: u8, count: u8) -> bool
-    ensures answer { λ r. ⌜ r ≡ takesHeader kind subaddress count ⌝ }
+// The map of the registers that a transaction with this subaddress and data count touches, where this kind takes those; else of none.
+fn touched(kind: PlanKind, subaddress: u8, count: u8) -> u64
+    ensures answer { λ r. ⌜ r ≡ cond (takesHeader kind subaddress count) (marks 0 subaddress count) 0 ⌝ }
 {
     match kind {
-        PlanKind::Settings => keeps_rules(subaddress, count),
-        PlanKind::Captions => at_pair(subaddress, count),
+        PlanKind::Settings => adv7194_bus::touched(subaddress, count),
+        PlanKind::Captions => {
+            if at_pair(subaddress, count) {
+                return PAIR << subaddress;
+            }
+            NONE
+        }
     }
 }
 
@@ -110,14 +120,15 @@ fn write_plan(kind: PlanKind, plan: &[u8], registers: &mut [u8], known: u64) -> 
                 data,
                 after,
             } => {
-                if !takes_header(kind, subaddress, count) {
+                let written = touched(kind, subaddress, count);
+                if written == NONE {
                     return Walk::Refused(Refusal::PlanBytes);
                 }
                 copy_data(plan, data, registers, subaddress, count);
                 if !takes_data(kind, registers, subaddress) {
                     return Walk::Refused(Refusal::PlanBytes);
                 }
-                map = marked(map, subaddress, count);
+                map = map | written;
                 cursor = after;
                 transactions += 1;
             }

@@ -70,6 +70,10 @@ marks-or (suc n) s m =
     marks-or n (suc s) (mark m s) ∙ ap (λ (x : ℕ). bitOr x rest) (mark-or m s) ∙ joined-assoc m (2 ^ s) rest
     ∙ ap (bitOr m) (or-shifted-r (2 ^ n - 1) (suc s) (2 ^ s) (pow-lt (omega arith)) ∙ one-more n s)
 
+-- so they are the map of theirs, joined
+pub marks-joined : (n s m : ℕ) → marks m s n ≡ bitOr m (marks 0 s n)
+marks-joined n s m = marks-or n s m ∙ ap (bitOr m) (sym (marks-or n s 0))
+
 -- they are in the map, with those that were
 pub has-marks : (n s m r : ℕ) → has (marks m s n) r ≡ (has m r || (leb s r && ltb r (s + n)))
 has-marks n s m r =

@@ -1,11 +1,11 @@
 -- Bytes shifted a part at a time. Assumes nothing.
 use mathlib.Core.Path.{_≡_, refl, sym, ap, _∙_}
 use mathlib.Core.List.{List, [], _∷_, _++_}
-use Prim.Native.Nat.{ℕ, suc, _+_}
+use Prim.Native.Nat.{ℕ, suc, _+_, _-_, _≤_, _<_}
 use native.Mathlib.Nat.{add-zero}
 use native.Mathlib.Omega.{arith}
-use lib.ListN.{length, set}
-use lib.Seq.{sets}
+use lib.ListN.{length, take, getD, set}
+use lib.Seq.{sets, take-suc, set-set}
 use Rattle.shifting.specs.Shifted.{between, shifted, lastFrom}
 
 -- they are as many
@@ -38,3 +38,30 @@ pub more : (l : List ℕ) (at held before : ℕ) (xs ys : List ℕ)
 more l at held before xs ys =
     sym (ap (sets l at) (shifted-append held before xs ys) ∙ sets-append l at (shifted held before xs) (shifted held (lastFrom before xs) ys)
     ∙ ap (λ (n : ℕ). sets (sets l at (shifted held before xs)) (at + n) (shifted held (lastFrom before xs) ys)) (shifted-length held before xs))
+
+-- the last of some bytes is the one before the next
+pub last-taken : (before : ℕ) (bs : List ℕ) (i : ℕ) → 0 < i → i ≤ length bs → lastFrom before (take i bs) ≡ getD bs (i - 1) 0
+last-taken before bs (suc k) some h =
+    let e : k ≡ suc k - 1 = omega arith in
+    ap (lastFrom before) (take-suc bs k 0 h) ∙ last-append before (take k bs) (getD bs k 0 ∷ []) ∙ ap (λ (n : ℕ). getD bs n 0) e
+
+-- no bytes
+pub none : (l : List ℕ) (at held before : ℕ) (bs : List ℕ) → length bs ≡ 0
+    → (before ≡ lastFrom before bs) × (l ≡ sets l at (shifted held before bs))
+unfolding shifted
+none l at held before [] e = (refl, refl)
+none l at held before (b ∷ bs) e = absurd (omega (arith, e))
+
+-- the first byte
+pub one : (l : List ℕ) (at held before r : ℕ) (bs : List ℕ) → 0 < length bs → r ≡ between held before (getD bs 0 0)
+    → set l at r ≡ sets (set l at r) at (shifted held before (take 1 bs))
+unfolding shifted
+one l at held before r [] h e = absurd (omega (arith, h))
+one l at held before r (b ∷ bs) h e = ap (set l at) e ∙ sym (set-set l at r (between held before b))
+
+-- what stood in its place doesn't count
+pub again : (l : List ℕ) (at held before r : ℕ) (bs : List ℕ) → 0 < length bs
+    → sets (set l at r) at (shifted held before bs) ≡ sets l at (shifted held before bs)
+unfolding shifted
+again l at held before r [] h = absurd (omega (arith, h))
+again l at held before r (b ∷ bs) h = ap (λ (m : List ℕ). sets m (suc at) (shifted held b bs)) (set-set l at r (between held before b))

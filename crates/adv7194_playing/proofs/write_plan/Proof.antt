@@ -1,20 +1,23 @@
 -- `write_plan` meets its contract: it is a walk that writes the data of each transaction that the kind takes, and marks its registers. Assumes nothing.
 use mathlib.Core.Path.{_≡_, sym, ap, _∙_, subst}
-use mathlib.Core.Bool.{Bool, true, false, not, _&&_}
+use mathlib.Core.Bool.{Bool, true, false, cond, not, _&&_}
 use mathlib.Core.List.{List}
 use Prim.Native.Nat.{ℕ}
 use native.Mathlib.Omega.{arith}
+use lib.Bits.{bitOr}
 use lib.Dec.{eqb}
 use borrow.Author.Needs.{needs}
 use borrow.Author.Tests.{not-true, not-false}
+use Rattle.bus.specs.Known.{marks}
+use Rattle.bus.proofs.KnownLaws.{marks-joined}
 use Rattle.unpacking.specs.declared.steps.Step.{Step}
 use Rattle.unpacking.specs.declared.steps.Order.the-variants.{Ascending}
 use Rattle.unpacking.proofs.StepLaws.{Went, Stepped, stepped}
 use Rattle.unpacking.proofs.Writing.{writing-begins, as-many}
 use Rattle.adv7194_playing.specs.Kinds.{takesHeader}
-use Rattle.adv7194_playing.proofs.KindLaws.{turns, enough}
+use Rattle.adv7194_playing.proofs.KindLaws.{turns, enough, not-touched, is-touched}
 use Rattle.adv7194_playing.proofs.WrittenLaws.{Passed, fault-answered, empty-answered, end-answered, header-answered}
-use Rattle.adv7194_playing.proofs.WrittenLaws.{fits, data-there, still-as-many, data-answered, written-on}
+use Rattle.adv7194_playing.proofs.WrittenLaws.{data-there, still-as-many, data-answered, written-on}
 use Rattle.adv7194_playing.proofs.write_plan.Statement.{statement}
 use Rattle.adv7194_playing.proofs.write_plan.Tie as tie
 
@@ -81,7 +84,8 @@ returns-4 c =
     let k = c .before in
     let s = k .before .before in
     let l = s .before .before .before in
-    header-answered (start l .args .kind) (l .loop .inv) (went s) (start l .args .known) (sym (k .takes-header .ensures) ∙ not-true _ (c .if2 .taken))
+    header-answered (start l .args .kind) (l .loop .inv) (went s) (start l .args .known)
+    (not-touched _ _ _ (went s .some) (sym (k .touched .ensures) ∙ c .if2 .taken))
 
 -- its header was taken, and its data were written
 abbrev found : tie.After-takes-data-arg Inv-loop μ-loop → tie.After-subaddress Inv-loop μ-loop
@@ -89,7 +93,9 @@ found c = c .before .before .before .before .before .before .before .before
 
 header : (c : tie.After-takes-data-arg Inv-loop μ-loop)
     → takesHeader (start (found c .before .before .before) .args .kind) (found c .subaddress .given .0 .0) (found c .subaddress .given .0 .1 .0) ≡ true
-header c = let e = c .before .before .before .before .before in sym (e .before .takes-header .ensures) ∙ not-false _ (e .if2 .left)
+header c =
+    let e = c .before .before .before .before .before in
+    is-touched _ (found c .subaddress .given .0 .0) (found c .subaddress .given .0 .1 .0) (λ z. e .if2 .left (e .before .touched .ensures ∙ z))
 
 returns-5 : tie.Need-returns-5 Inv-loop μ-loop
 returns-5 c =
@@ -99,15 +105,25 @@ returns-5 c =
     (start l .args .known) (sym (c .before .takes-data .ensures) ∙ not-true _ (c .if3 .taken))
 
 add-transactions : tie.Need-add-transactions Inv-loop μ-loop
-add-transactions c = let v = found (c .before .before .before) .before .before .before .loop .inv in record { fits = omega (arith, v .counts, v .walked .few) }
+add-transactions c = let v = found (c .before .before) .before .before .before .loop .inv in record { fits = omega (arith, v .counts, v .walked .few) }
+
+-- its registers are joined to those known
+joined : (c : tie.After-takes-data-arg Inv-loop μ-loop) (map : ℕ)
+    → bitOr map (c .before .before .before .before .before .before .touched .result)
+    ≡ marks map (found c .subaddress .given .0 .0) (found c .subaddress .given .0 .1 .0)
+joined c map =
+    let subaddress = found c .subaddress .given .0 .0 in
+    let count = found c .subaddress .given .0 .1 .0 in
+    ap (bitOr map)
+    (c .before .before .before .before .before .before .touched .ensures ∙ ap (λ (b : Bool). cond b (marks 0 subaddress count) 0) (header c))
+    ∙ sym (marks-joined count subaddress map)
 
 loop-again : tie.Need-loop-again Inv-loop μ-loop
 loop-again c =
-    let e = c .before in
-    let a = e .before .before in
+    let a = c .before .before in
     let l = found a .before .before .before in
     written-on (start l .args .kind) (l .loop .inv) (went (found a)) (start l .pre) (header a) (a .before .before .before .copy-data .ensures)
-    (sym (e .before .takes-data .ensures) ∙ not-false _ (e .if3 .left)) (c .marked .ensures)
+    (sym (c .before .takes-data .ensures) ∙ not-false _ (c .if3 .left)) (joined a (l .loop .map))
 
 same-length-5 : tie.Need-same-length-5 Inv-loop μ-loop
 same-length-5 c =
@@ -119,12 +135,6 @@ takes-data-requires : tie.Need-takes-data-requires Inv-loop μ-loop
 takes-data-requires c κs =
     let l = found c .before .before .before in
     data-there (start l .args .kind) (l .loop .inv) (went (found c)) (start l .pre) (header c) (c .before .before .before .copy-data .ensures)
-
-marked-requires : tie.Need-marked-requires Inv-loop μ-loop
-marked-requires c κs =
-    let a = c .before .before in
-    let l = found a .before .before .before in
-    fits (start l .args .kind) (l .loop .inv) (went (found a)) (start l .pre) (header a)
 
 pub write-plan-spec : {M : Type 1} → statement M
 write-plan-spec =
@@ -152,7 +162,6 @@ write-plan-spec =
     takes-data-requires
     same-length-5
     returns-5
-    marked-requires
     add-transactions
-    (λ c. omega (arith, went (found (c .before .before .before)) .left))
+    (λ c. omega (arith, went (found (c .before .before)) .left))
     loop-again)

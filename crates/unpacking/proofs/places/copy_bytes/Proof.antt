@@ -18,16 +18,13 @@ start k = k .before .before .before .before
 byte : (k : tie.After-shared-slice-known2) (i : ℕ) → getD (start k .args .plan .now) i 0 < 2 ^ 8
 byte k i = k .shared-slice-known2 .given i .fits
 
-cast-shift : tie.Need-cast-shift
-cast-shift k = record { fits = omega (arith, byte k (start k .args .place .at - 1)) }
-
 shift-requires : tie.Need-shift-requires
 shift-requires c κs =
     let k = c .before in
     let s = start k in
     let p = s .args .place in
     let part = drop (p .at) (s .args .plan .now) in
-    (omega (arith, s .pre .2, length-take (p .at + s .args .count - p .at) part), byte k (p .at - 1), s .pre .0 .few)
+    (omega (arith, s .pre .2, length-take (p .at + s .args .count - p .at) part), s .pre .0 .few)
 
 returns : tie.Need-returns
 returns c =
@@ -50,7 +47,6 @@ copy-bytes-spec =
     (λ c. search needs)
     (λ c. search needs)
     (λ c. search needs)
-    cast-shift
     shift-requires
     (λ c. search needs)
     returns)
