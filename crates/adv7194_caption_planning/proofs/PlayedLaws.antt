@@ -158,7 +158,7 @@ module _ (extended ordinary : List ℤ) (h : pairsRight extended ordinary ≡ tr
   -- what the packed list does
   pub captions-played : CaptionsPlayed extended ordinary (packed list)
   captions-played = record {
-    unpacks = captions-unpack extended ordinary h;
+    packs = (captions-formed extended ordinary h, refl);
     answer = answer;
     acknowledged = acknowledged;
     leaves = leaves;

@@ -8,14 +8,13 @@ use Prim.Native.Nat.{ℕ, _<_}
 use lib.Dec.{eqb}
 use lib.IntN.{ℤ, pos, natAbs}
 use lib.ListN.{length, getD}
-use Rattle.refusals.specs.Refusal.{accepted}
 use Rattle.refusals.specs.Verdict.{good}
 use Rattle.bus.specs.Transactions.{Transaction, Touched, Every}
 use Rattle.bits.specs.Maps.{has}
 use Rattle.bus.specs.Chip.{Chip}
 use Rattle.bus.specs.Known.{knownAfter}
 use Rattle.bus.specs.Run.{run, allAcknowledged, noneAcknowledged, listEvents}
-use Rattle.unpacking.specs.Unpacking.{unpack}
+use Rattle.packing.specs.Packing.{behind, Packs}
 use Rattle.least_cost.specs.Order.{Holds}
 use Rattle.adv7194_bus.specs.Kind.{registerCount, adv7194}
 use Rattle.adv7194_bus.specs.declared.board.Board.{Board}
@@ -47,12 +46,12 @@ pub record MakesKnown (ts : List Transaction) (before after : ℕ) : Type 0 wher
   pub touched : (r : ℕ) → Touched ts r → has after r ≡ true
   pub kept : (r : ℕ) → (Touched ts r → ⊥) → has after r ≡ has before r
 
--- a plan's bytes are those of the pairs: they unpack to their list; the call that plays captions takes them for every right pair of addresses, and at the
+-- a plan's bytes are those of the pairs: they pack their list; the call that plays captions takes them for every right pair of addresses, and at the
 -- chip's own alone they are acknowledged. The chip, whatever it waits for and points at, acknowledges every byte at its own address, then holds the
 -- pairs' bytes, which are known then, every other register and flag as it was, and reads them back; at another address it acknowledges nothing and stores
 -- nothing
 pub record CaptionsPlayed (extended ordinary : List ℤ) (plan : List ℕ) : Type 0 where
-  pub unpacks : unpack plan ≡ accepted (captionList extended ordinary)
+  pub packs : Packs behind plan (captionList extended ordinary)
   pub answer : (b : Board) (used own : ℕ) → length (b .registers) ≡ registerCount → addressRight used ≡ true → addressRight own ≡ true
       → playOf (callOf areCaptions b used own plan) ≡ good (eqb used own)
   pub acknowledged : (own : ℕ) (c : Chip) → allAcknowledged (adv7194 own) c (listEvents own (captionList extended ordinary)) ≡ true

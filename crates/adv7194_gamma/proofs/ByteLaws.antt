@@ -1,7 +1,7 @@
 -- A curve's seven bytes: those that are set are accepted where each number is a byte, and refused else; those that are read mean themselves.
 -- Assumes nothing.
 use mathlib.Core.Path.{_≡_, refl, sym, ap, subst}
-use mathlib.Core.Bool.{Bool, true, false, _&&_, _||_}
+use mathlib.Core.Bool.{true, false, _&&_, _||_}
 use mathlib.Core.List.{List, [], _∷_, map}
 use Prim.Native.Nat.{ℕ, zero, suc, _+_, _≤_, _<_}
 use native.Mathlib.Numerals.{add-one}
@@ -17,7 +17,7 @@ use mir.ValLaws.{toZ-ofZ}
 use borrow.Author.Tests.{ltb-true, ltb-false, le-ltb, le-leb, lt-leb}
 use Rattle.refusals.specs.Refusal.{accepted, refused}
 use Rattle.rounding.proofs.Range.{both-l, both-r, back}
-use Rattle.adv7194_gamma.specs.Curve.{isByte, allBytes, before, byteSet, bytesSet}
+use Rattle.adv7194_gamma.specs.Curve.{isByte, allBytes, bytesSet}
 
 -- ---- one number
 
@@ -83,21 +83,10 @@ seven zs h =
 
 -- all bytes are accepted
 pub bytes-set : (zs : List ℤ) → allBytes zs ≡ true → bytesSet zs ≡ accepted (map natAbs zs)
-unfolding allBytes bytesSet
-bytes-set [] e = refl
-bytes-set (z ∷ zs) e = go (isByte z) refl (bytes-set zs)
-  where
-    go : (b : Bool) → isByte z ≡ b → (allBytes zs ≡ true → bytesSet zs ≡ accepted (map natAbs zs))
-        → before (byteSet z) (bytesSet zs) ≡ accepted (natAbs z ∷ map natAbs zs)
-    go true t r = rw (t, r (rw t at e))
-    go false f r = absurd (subst T (rw f at (sym e)) tt)
+unfolding bytesSet
+bytes-set zs e = rw e
 
 -- others are refused
 pub bytes-refused : (zs : List ℤ) → allBytes zs ≡ false → bytesSet zs ≡ refused 3
-unfolding allBytes bytesSet
-bytes-refused [] e = absurd (subst T e tt)
-bytes-refused (z ∷ zs) e = go (isByte z) refl (bytes-refused zs)
-  where
-    go : (b : Bool) → isByte z ≡ b → (allBytes zs ≡ false → bytesSet zs ≡ refused 3) → before (byteSet z) (bytesSet zs) ≡ refused 3
-    go true t r = rw (t, r (rw t at e))
-    go false f r = rw f
+unfolding bytesSet
+bytes-refused zs e = rw e

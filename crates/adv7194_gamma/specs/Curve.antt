@@ -51,20 +51,9 @@ unfoldable pub allBytes : List ℤ → Bool
 allBytes [] = true
 allBytes (z ∷ zs) = isByte z && allBytes zs
 
--- a byte as it is set
-abbrev pub byteSet : ℤ → Judged ℕ
-byteSet z = cond (isByte z) (accepted (natAbs z)) (refused 3)
-
--- a byte before further bytes
-abbrev pub before : Judged ℕ → Judged (List ℕ) → Judged (List ℕ)
-before (accepted b) (accepted bs) = accepted (b ∷ bs)
-before (accepted b) (refused n) = refused n
-before (refused n) bs = refused n
-
--- bytes as they are set, or the first refusal
+-- bytes as they are set
 unfoldable pub bytesSet : List ℤ → Judged (List ℕ)
-bytesSet [] = accepted []
-bytesSet (z ∷ zs) = before (byteSet z) (bytesSet zs)
+bytesSet zs = cond (allBytes zs) (accepted (map natAbs zs)) (refused 3)
 
 -- the bytes of a curve by its numbers: kind (0 a ratio, 1 seven bytes), p, q, the seven bytes
 unfoldable pub curveCodes : List ℤ → Judged (List ℕ)

@@ -9,10 +9,10 @@ use lib.ListN.{length}
 use Rattle.bits.proofs.FlagLaws.{both}
 use Rattle.refusals.specs.Refusal.{accepted}
 use Rattle.bus.specs.Transactions.{Transaction, end, Every, busBytes}
-use Rattle.packing.specs.Packing.{packed, encodable, arranged, ascending}
+use Rattle.packing.specs.Packing.{packed, encodable, arranged, ascending, behind, Packs}
 use Rattle.unpacking.specs.Unpacking.{unpack, Counted}
 use Rattle.unpacking.proofs.Tests.{Encodable, encodable-from}
-use Rattle.unpacking.proofs.Exact.{round-trip}
+use Rattle.unpacking.proofs.Exact.{round-trip, unpacks-packed}
 use Rattle.adv7194_bus.specs.Kind.{registerCount}
 use Rattle.least_cost.specs.Order.{Ascending}
 use Rattle.adv7194_least.specs.Aim.{Aim, must}
@@ -41,6 +41,10 @@ module _ (a : Aim) (χ : Change a) where
       (plan-inside a χ)
       .0
 
+  -- so it packs the plan
+  pub plan-packs : Packs behind (packed (planOf a)) (planOf a)
+  plan-packs = unpacks-packed behind (packed (planOf a)) (planOf a) plan-unpacks
+
   -- its numbers are the plan's
   pub plan-counted : (let ts = planOf a in Counted (packed ts) (length (packed ts)) (length ts) (busBytes ts))
-  plan-counted = record { list = planOf a; unpacks = plan-unpacks; size-is = refl; transactions-are = refl; bytes-are = refl }
+  plan-counted = record { list = planOf a; packs = plan-packs; size-is = refl; transactions-are = refl; bytes-are = refl }

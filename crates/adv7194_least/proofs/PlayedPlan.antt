@@ -24,7 +24,7 @@ use Rattle.adv7194_least.specs.Plan.{planOf}
 use Rattle.adv7194_least.specs.Played.{Leaves, Played}
 use Rattle.adv7194_least.proofs.Reached.{plan-rules, plan-clear, must-touched, plan-reaches, plan-acknowledged}
 use Rattle.adv7194_least.proofs.Costs.{touched-compared, board-held}
-use Rattle.adv7194_least.proofs.PackedPlan.{plan-unpacks}
+use Rattle.adv7194_least.proofs.PackedPlan.{plan-unpacks, plan-packs}
 
 module _ (a : Aim) (χ : Change a) where
   -- the play call for settings takes the plan
@@ -70,7 +70,7 @@ module _ (a : Aim) (χ : Change a) where
   pub plan-played : Played a (packed (planOf a))
   plan-played = record {
     list = planOf a;
-    unpacks = plan-unpacks a χ;
+    packs = plan-packs a χ;
     reaches = plan-reaches a χ;
     acknowledged = λ own pointer image m. plan-acknowledged a χ own pointer image;
     answer = λ own e. played-answer Settings (a .board) own (packed (planOf a)) (planOf a) (χ .found .size) e (plan-unpacks a χ) plan-taken;

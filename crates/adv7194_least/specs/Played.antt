@@ -1,15 +1,14 @@
--- Document 01, demand 2: the plan's bytes unpack to a list that keeps the rules, is acknowledged throughout and leaves the wanted image. Document 02, P5: on
+-- Document 01, demand 2: the plan's bytes pack a list that keeps the rules, is acknowledged throughout and leaves the wanted image. Document 02, P5: on
 -- whatever the chip may hold; and playing leaves exactly the registers known or needed known.
 use mathlib.Core.Path.{_≡_}
 use mathlib.Core.Bool.{true, false}
 use mathlib.Core.List.{List}
 use Prim.Native.Nat.{ℕ, _≤_, _<_}
 use lib.ListN.{length, getD}
-use Rattle.refusals.specs.Refusal.{accepted}
 use Rattle.refusals.specs.Verdict.{good}
 use Rattle.bus.specs.Transactions.{Transaction}
 use Rattle.bus.specs.Run.{allAcknowledged, listEvents, idleAt}
-use Rattle.unpacking.specs.Unpacking.{unpack}
+use Rattle.packing.specs.Packing.{behind, Packs}
 use Rattle.adv7194_bus.specs.Kind.{registerCount, adv7194}
 use Rattle.adv7194_bus.specs.declared.board.Board.{Board}
 use Rattle.adv7194_bus.specs.Board.{knows}
@@ -31,7 +30,7 @@ pub record Leaves (a : Aim) (after : Board) : Type 0 where
 -- demand 2: what a plan's bytes do to a chip that holds what is known of the board, at every address and pointer; and what playing them answers and leaves
 pub record Played (a : Aim) (plan : List ℕ) : Type 0 where
   pub list : List Transaction
-  pub unpacks : unpack plan ≡ accepted list
+  pub packs : Packs behind plan list
   pub reaches : (own pointer : ℕ) → Reaches own pointer a list
   pub acknowledged : (own pointer : ℕ) (image : List ℕ) → MayHold (a .board) image
       → allAcknowledged (adv7194 own) (idleAt pointer image) (listEvents own list) ≡ true

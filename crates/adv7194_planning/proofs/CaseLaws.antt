@@ -9,7 +9,7 @@ use lib.ListN.{length, drop}
 use borrow.Author.Tests.{eq-eqb, ne-eqb, lt-ltb, le-ltb, not-true}
 use Rattle.bits.proofs.FlagLaws.{first, second, holds, both-true}
 use Rattle.refusals.specs.Verdict.{Verdict, good, refusedAt, after}
-use Rattle.refusals.specs.Order.{firstOf, placesAt, placesOver}
+use Rattle.refusals.specs.Order.{Place, firstOf, placesAt, placesOver}
 use Rattle.refusals.proofs.OrderLaws.{first-append}
 use Rattle.refusals.proofs.PlaceLaws.{allPass, same-first}
 use Rattle.packing.specs.Packing.{packed}
@@ -24,8 +24,12 @@ use Rattle.adv7194_table.specs.Registers.{fieldAmong, lowestIn, lowestField}
 use Rattle.adv7194_settings.specs.Known.{fixesSome, unknown}
 use Rattle.adv7194_settings.specs.Order.{placesOf, order}
 use Rattle.adv7194_settings.specs.Rows.{rowHolds, checkOf}
-use Rattle.adv7194_planning.specs.Rows.{listOf, rowPlanned, lastChecks, planOrder}
+use Rattle.adv7194_planning.specs.Rows.{listOf, rowPlanned, planOrder}
 use Rattle.adv7194_planning.specs.Planning.{planningOf, planLeft}
+
+-- what is checked after the settings: row 11 at each field, then the room
+abbrev pub lastChecks : List Place
+lastChecks = placesOver 11 (orderOf table) ++ placesAt (10 ∷ []) 0
 
 -- ---- the settings' rows
 

@@ -23,10 +23,10 @@ use Rattle.adv7194_settings.specs.Order.{order}
 use Rattle.adv7194_settings.specs.Rows.{checkOf}
 use Rattle.adv7194_settings.specs.Wanted.{wantedBy}
 use Rattle.adv7194_planning.specs.Aims.{Passing}
-use Rattle.adv7194_planning.specs.Rows.{listOf, rowPlanned, lastChecks, planOrder}
+use Rattle.adv7194_planning.specs.Rows.{listOf, rowPlanned, planOrder}
 use Rattle.adv7194_planning.specs.Checks.{checks, checkedImage}
 use Rattle.adv7194_planning.specs.Planning.{planningOf}
-use Rattle.adv7194_planning.proofs.CaseLaws.{same-check}
+use Rattle.adv7194_planning.proofs.CaseLaws.{lastChecks, same-check}
 
 -- the limit is right, and the settings pass the check
 pub record Cleared (zs : List ℤ) (limit : ℕ) : Type 0 where

@@ -40,10 +40,6 @@ unfoldable pub rowPlanned : Board → List ℤ → ℕ → ℕ → ℕ → ℕ �
 rowPlanned b zs address limit room n f =
     cond (eqb f 0) (callRow b zs address limit room n) (cond (eqb n 11) (partlyFixed b zs f) (rowHolds zs n f))
 
--- what is checked after the settings: row 11 at each field, then the room
-abbrev pub lastChecks : List Place
-lastChecks = placesOver 11 (orderOf table) ++ placesAt (10 ∷ []) 0
-
--- the checking order of planning
+-- the checking order of planning: after the settings row 11 at each field, then the room
 unfoldable pub planOrder : List Place
-planOrder = placesAt (1 ∷ 2 ∷ 3 ∷ []) 0 ++ (order ++ lastChecks)
+planOrder = placesAt (1 ∷ 2 ∷ 3 ∷ []) 0 ++ (order ++ (placesOver 11 (orderOf table) ++ placesAt (10 ∷ []) 0))

@@ -9,8 +9,8 @@ ghost use Rattle.adv7194_bus.specs.Board.{boardOf};
 ghost use Rattle.bus.specs.Address.{addressRight};
 ghost use Rattle.bus.specs.Known.{marks};
 ghost use Rattle.adv7194_playing.specs.Kinds.{needsTransaction, takesHeader, takesData, pairFrom, PairThere};
-ghost use Rattle.playing.specs.Playing.{judgedIf, rowPlayed, playOrder, acknowledged, playOf};
-ghost use Rattle.adv7194_playing.specs.Playing.{takes, callOf, playedBoard, answerOf, knownOf};
+ghost use Rattle.playing.specs.Playing.{judgedIf, JudgedBy, rowPlayed, playOrder, acknowledged, playOf};
+ghost use Rattle.adv7194_playing.specs.Playing.{Takes, takes, callOf, playedBoard, answerOf, knownOf};
 ghost use Rattle.adv7194_playing.specs.Written.{Written, countOf, mapOf};
 use adv7194_bus::REGISTERS;
 use adv7194_bus::image::copied;
@@ -188,6 +188,7 @@ pub fn play(
         boardOf (now (image .exit)) (knownOf known r) ≡ playedBoard (takes kind) (boardOf (now (image .entry)) known) used own (now (plan .entry)) ⌝ }
     ensures exactly { λ r. ⌜ Exactly (rowPlayed (callOf (takes kind) (boardOf (now (image .entry)) known) used own (now (plan .entry)))) playOrder
         (acknowledged (callOf (takes kind) (boardOf (now (image .entry)) known) used own (now (plan .entry)))) (answerOf r) ⌝ }
+    ensures taken { λ r. ⌜ JudgedBy (Takes kind) (callOf (takes kind) (boardOf (now (image .entry)) known) used own (now (plan .entry))) ⌝ }
 {
     if image.len() != REGISTERS as usize {
         return Played::Refused(Refusal::ImageLength);

@@ -1,4 +1,4 @@
--- The wanted image of any settings is demand 2's image, bit by bit. Assumes nothing.
+-- The wanted image of any settings is demand 2's image, bit by bit, and no other is. Assumes nothing.
 use mathlib.Core.Path.{_≡_, refl, sym, ap, _∙_, subst}
 use mathlib.Core.Logic.{⊎-elim}
 use mathlib.Core.Bool.{Bool, true, false, cond, not, _&&_, _||_}
@@ -11,6 +11,7 @@ use lib.ListN.{length, getD}
 use borrow.Author.Tests.{eq-eqb}
 use Rattle.bits.specs.Fields.{field, bit}
 use Rattle.bits.proofs.FlagLaws.{first, second, either}
+use Rattle.bits.proofs.SameLaws.{same-registers}
 use Rattle.rounding.proofs.Range.{below, below-at, imp, imp→}
 use Rattle.refusals.specs.Refusal.{codeIn}
 use Rattle.field_table.specs.Rows.{rowOf}
@@ -20,7 +21,7 @@ use Rattle.field_table.specs.Walk.{given, rowWrite, writeOf}
 use Rattle.field_table.proofs.WriteLaws.{AllFit, puts-length, puts-bit}
 use Rattle.field_table.proofs.ApartLaws.{puts-held}
 use Rattle.field_table.proofs.RoundTripLaws.{All}
-use Rattle.field_table.proofs.FitLaws.{each-append, untouched}
+use Rattle.field_table.proofs.FitLaws.{each-append, untouched, Bytes}
 use Rattle.field_table.proofs.MaskLaws.{zero-code, bit-zero}
 use Rattle.adv7194_bus.specs.Kind.{registerCount}
 use Rattle.adv7194_table.specs.declared.blocks.Block.{Block}
@@ -217,3 +218,7 @@ demanded image zs size =
           (entries-free zs r i table
           (imp→ _ _ (at-bit (freeBit (signalCodes zs)) (free (signalCodes zs)) r i hr hi) (eq-eqb (bit i (fixedMask (signalCodes zs) r)) 0 z)));
     }
+
+-- no two images of bytes are
+pub one-demanded : (image : List ℕ) (zs : List ℤ) (a b : List ℕ) → Bytes a → Bytes b → Demanded image zs a → Demanded image zs b → a ≡ b
+one-demanded image zs a b ha hb p q = same-registers a b (p .size ∙ sym (q .size)) ha hb (λ r i h. p .bits r i h ∙ sym (q .bits r i h))

@@ -107,12 +107,6 @@ picture = contrast ∷ uScale ∷ vScale ∷ hue ∷ brightness ∷ zeroBits 16 
 -- 18 DNR border gain, 19 data gain, 20 threshold, 21 border area, 22 block size, 23 input, 24 mode, 25 block offset
 unfoldable pub dnr : List Field
 dnr =
-    code 18 21 0x23 0 4 0 8
-    ∷ code 19 22 0x23 4 4 0 8
-    ∷ code 20 23 0x24 0 6 0 63
-    ∷ yesNo 21 24 0x24 6
-    ∷ yesNo 22 25 0x24 7
-    ∷ dnrInput
-    ∷ yesNo 24 27 0x25 3
-    ∷ code 25 28 0x25 4 4 0 15
-    ∷ []
+    code 18 21 0x23 0 4 0 8 ∷ code 19 22 0x23 4 4 0 8
+    ∷ code 20 23 0x24 0 6 0 63 ∷ yesNo 21 24 0x24 6 ∷ yesNo 22 25 0x24 7
+    ∷ dnrInput ∷ yesNo 24 27 0x25 3 ∷ code 25 28 0x25 4 4 0 15 ∷ []

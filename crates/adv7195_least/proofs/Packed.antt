@@ -16,10 +16,11 @@ use Rattle.bus.specs.Run.{idleAt, allAcknowledged, listEvents}
 use Rattle.bus.proofs.Acknowledged.{Fits, acknowledged-list}
 use Rattle.bus.proofs.CostLaws.{bytes-count}
 use Rattle.bus.proofs.RegisterLaws.{among-in, among-out, among?}
-use Rattle.packing.specs.Packing.{packed, anywhere}
+use Rattle.packing.specs.Packing.{packed, anywhere, Packs}
 use Rattle.packing.proofs.PackedLaws.{packed-length}
 use Rattle.unpacking.specs.Unpacking.{unpackBy, CountedBy}
 use Rattle.unpacking.proofs.Tests.{Encodable}
+use Rattle.unpacking.proofs.Exact.{unpacks-packed}
 use Rattle.unpacking.proofs.Anywhere.{round-trip-anywhere}
 use Rattle.least_cost.specs.Order.{Holds}
 use Rattle.least_cost.specs.Weight.{byteWeight, startWeight, weights}
@@ -207,9 +208,13 @@ module _ (image wanted : List ℕ) (χ : Change image wanted) where
   pub plan-unpacks : unpackBy anywhere (packed (planOf image wanted)) ≡ accepted (planOf image wanted)
   plan-unpacks = round-trip-anywhere (planOf image wanted) (packable .few) (packable .encodable)
 
+  -- so its bytes pack it
+  pub plan-packs : Packs anywhere (packed (planOf image wanted)) (planOf image wanted)
+  plan-packs = unpacks-packed anywhere (packed (planOf image wanted)) (planOf image wanted) plan-unpacks
+
   -- its numbers are the packing's
   pub plan-counted : (let ts = planOf image wanted in CountedBy anywhere (packed ts) (length (packed ts)) (length ts) (busBytes ts))
-  plan-counted = record { list = planOf image wanted; unpacks = plan-unpacks; size-is = refl; transactions-are = refl; bytes-are = refl }
+  plan-counted = record { list = planOf image wanted; packs = plan-packs; size-is = refl; transactions-are = refl; bytes-are = refl }
 
   -- and it has at most 41 bytes packed
   pub plan-room : length (packed (planOf image wanted)) ≤ mostBytes

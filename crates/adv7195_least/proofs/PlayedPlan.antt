@@ -23,7 +23,7 @@ use Rattle.adv7195_least.specs.Reaching.{Change}
 use Rattle.adv7195_least.specs.Plan.{planOf}
 use Rattle.adv7195_least.specs.Played.{Played}
 use Rattle.adv7195_least.proofs.Costs.{plan-reaches}
-use Rattle.adv7195_least.proofs.Packed.{plan-acknowledged, plan-unpacks}
+use Rattle.adv7195_least.proofs.Packed.{plan-acknowledged, plan-unpacks, plan-packs}
 
 module _ (image wanted : List ℕ) (χ : Change image wanted) where
   -- its list passes both tests
@@ -61,7 +61,7 @@ module _ (image wanted : List ℕ) (χ : Change image wanted) where
   pub plan-played : Played image wanted (packed (planOf image wanted))
   plan-played = record {
     list = planOf image wanted;
-    unpacks = plan-unpacks image wanted χ;
+    packs = plan-packs image wanted χ;
     reaches = plan-reaches image wanted χ;
     acknowledged = plan-acknowledged image wanted χ;
     answer = plan-answer;

@@ -14,7 +14,9 @@ use Rattle.adv7195_bus.specs.Rules.{allKeepRules}
 use Rattle.adv7195_bus.specs.Order.{keepsOrder}
 use Rattle.adv7195_bus.proofs.RuleLaws.{agree-all}
 use Rattle.adv7195_bus.proofs.OrderLaws.{order-agrees}
-use Rattle.adv7195_playing.specs.Playing.{Takes, takes}
+use Rattle.playing.specs.Playing.{JudgedBy}
+use Rattle.playing.proofs.Judging.{judged-by}
+use Rattle.adv7195_playing.specs.Playing.{Takes, takes, callOf}
 
 -- the test of a list holds exactly where it keeps the rule and the order
 pub test-holds : (own : ℕ) (image : List ℕ) (ts : List Transaction) → length image ≡ registerCount → (takes image ts ≡ true) ↔ Takes own image ts
@@ -24,3 +26,7 @@ test-holds own image ts h = (
       (rules, order-agrees own ts (fresh image) rules h .0 (q .1)),
   λ k. rw (holds (allKeepRules ts) (agree-all ts .1 (k .0)), order-agrees own ts (fresh image) (k .0) h .1 (k .1)),
 )
+
+-- so a plan is judged by those
+pub plan-judged : (image : List ℕ) (used own : ℕ) (plan : List ℕ) → length image ≡ registerCount → JudgedBy (Takes own image) (callOf image used own plan)
+plan-judged image used own plan h = judged-by (Takes own image) (callOf image used own plan) (λ ts e. test-holds own image ts h)

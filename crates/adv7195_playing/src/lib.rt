@@ -5,9 +5,9 @@ ghost use lib.ListN.{length};
 ghost use Rattle.bus.specs.Address.{addressRight};
 ghost use Rattle.refusals.specs.Order.{Exactly};
 ghost use Rattle.unpacking.specs.Unpacking.{counted};
-ghost use Rattle.playing.specs.Playing.{judgedIf, rowPlayed, playOrder, acknowledged, playOf, registersLeft};
+ghost use Rattle.playing.specs.Playing.{judgedIf, JudgedBy, rowPlayed, playOrder, acknowledged, playOf, registersLeft};
 ghost use Rattle.adv7195_bus.specs.Kind.{registerCount};
-ghost use Rattle.adv7195_playing.specs.Playing.{unpacked, takes, callOf, answerOf};
+ghost use Rattle.adv7195_playing.specs.Playing.{unpacked, Takes, takes, callOf, answerOf};
 ghost use Rattle.adv7195_playing.specs.Written.{Written, countOf, preparedAfter};
 use adv7195_bus::MODE_REGISTER_3;
 use adv7195_bus::MODE_REGISTER_6;
@@ -115,6 +115,8 @@ pub fn play(image: &mut [u8], used: u32, own: u32, plan: &[u8]) -> Played
     ensures memory { λ r. ⌜ now (image .exit) ≡ registersLeft (callOf (now (image .entry)) used own (now (plan .entry))) ⌝ }
     ensures exactly { λ r. ⌜ Exactly (rowPlayed (callOf (now (image .entry)) used own (now (plan .entry)))) playOrder
         (acknowledged (callOf (now (image .entry)) used own (now (plan .entry)))) (answerOf r) ⌝ }
+    ensures taken { λ r. ⌜
+        (length (now (image .entry)) ≡ registerCount → JudgedBy (Takes own (now (image .entry))) (callOf (now (image .entry)) used own (now (plan .entry)))) ⌝ }
 {
     if image.len() != REGISTERS as usize {
         return Played::Refused(Refusal::ImageLength);

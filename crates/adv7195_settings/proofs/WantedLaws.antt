@@ -1,5 +1,5 @@
--- The wanted image of any settings is demand 2's image, bit by bit; it is as long as the starting image, bytes where that is, and the same in the registers
--- that 001 doesn't name. Assumes nothing.
+-- The wanted image of any settings is demand 2's image, bit by bit, and no other is; it is as long as the starting image, bytes where that is,
+-- and the same in the registers that 001 doesn't name. Assumes nothing.
 use mathlib.Core.Path.{_≡_, sym, _∙_, subst}
 use mathlib.Core.Bool.{true, false, not, and-false}
 use mathlib.Core.List.{List}
@@ -9,6 +9,7 @@ use lib.IntN.{ℤ}
 use lib.ListN.{length, getD}
 use Rattle.bits.specs.Fields.{bit}
 use Rattle.bits.proofs.FlagLaws.{first}
+use Rattle.bits.proofs.SameLaws.{same-registers}
 use Rattle.field_table.specs.Writes.{puts, Each}
 use Rattle.field_table.proofs.WriteLaws.{AllFit, puts-length, puts-bit}
 use Rattle.field_table.proofs.ApartLaws.{puts-held}
@@ -66,3 +67,7 @@ demanded image zs size =
       zero = λ r i hr hi e. zero-bit mustBeZero (partsOf zs) fields (puts image ws) r i fields-apart fields-zero held e;
       kept = λ r i hr hi e. puts-bit image ws r i hi fit ∙ kept-bit mustBeZero (partsOf zs) fields (bit i (getD image r 0)) r i fields-apart e;
     }
+
+-- no two images of bytes are
+pub one-demanded : (image : List ℕ) (zs : List ℤ) (a b : List ℕ) → Bytes a → Bytes b → Demanded image zs a → Demanded image zs b → a ≡ b
+one-demanded image zs a b ha hb p q = same-registers a b (p .size ∙ sym (q .size)) ha hb (λ r i h. p .bits r i h ∙ sym (q .bits r i h))

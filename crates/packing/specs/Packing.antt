@@ -1,10 +1,11 @@
 -- Document 01, "Packing": fields most significant bit first, no gaps: 6 bits of transaction count; for each transaction 6 bits of subaddress,
 -- 6 bits of data count (never 0), then the data. Zero bits fill the last byte. Starts ascend, and no transaction overlaps another; what may come
 -- next is a parameter, for a chip whose packing allows any order.
+use mathlib.Core.Path.{_≡_}
 use mathlib.Core.Bool.{Bool, true, _&&_}
 use mathlib.Core.List.{List, [], _∷_, _++_}
 use Prim.Native.Nat.{ℕ, _+_, _*_, _/_}
-use lib.Dec.{leb, ltb}
+use lib.Dec.{T, leb, ltb}
 use lib.ListN.{length}
 use lib.Pow.{areBytes}
 use Rattle.bits.specs.Strings.{msbFirst, byteBits, bytesOf}
@@ -60,3 +61,7 @@ wellFormedBy next ts = ltb (length ts) 64 && arranged next 0 ts
 -- at most 63 transactions, their starts ascending without overlap
 abbrev pub wellFormed : List Transaction → Bool
 wellFormed ts = wellFormedBy behind ts
+
+-- a plan's bytes are the packing of a list that can be packed
+abbrev pub Packs : (ℕ → ℕ) → List ℕ → List Transaction → Type 0
+Packs next plan ts = T (wellFormedBy next ts) × (plan ≡ packed ts)

@@ -1,5 +1,6 @@
 -- A plan's list by its packing and a test. Assumes nothing.
-use mathlib.Core.Path.{_≡_, refl, ap, _∙_, subst}
+use mathlib.Core.Path.{_≡_, refl, sym, ap, _∙_, subst}
+use mathlib.Core.Logic.{_↔_}
 use mathlib.Core.Bool.{Bool, true, false, cond, _&&_}
 use mathlib.Core.List.{List, [], _∷_}
 use Prim.Native.Nat.{ℕ, _<_}
@@ -11,8 +12,8 @@ use Rattle.bus.specs.Transactions.{Transaction, size, end, Every}
 use Rattle.packing.specs.Packing.{encodable, arranged}
 use Rattle.unpacking.specs.Unpacking.{unpackBy}
 use Rattle.unpacking.proofs.Tests.{encodable-facts}
-use Rattle.unpacking.proofs.Exact.{unpacks-packed, in-order, refused-nine}
-use Rattle.playing.specs.Playing.{Call, judgedIf, judged}
+use Rattle.unpacking.proofs.Exact.{unpacks-packed, exact, in-order, refused-nine}
+use Rattle.playing.specs.Playing.{Call, judgedIf, judged, JudgedBy}
 
 module _ (test : List Transaction → Bool) where
   -- what it is judged as, by what the test says
@@ -40,6 +41,17 @@ only-nine c n e = go (unpackBy (c .next) (c .plan)) refl e
     go : (j : Judged (List Transaction)) → unpackBy (c .next) (c .plan) ≡ j → judgedIf (c .takes) j ≡ refused n → 9 ≡ n
     go (accepted ts) p q = by ts (c .takes ts) q
     go (refused m) p q = refused-nine (c .next) (c .plan) m p ∙ cc
+
+-- where the call's test is what it should take, of lists that were unpacked, the plan is judged so
+pub judged-by : (Takes : List Transaction → Type 0) (c : Call)
+    → ((ts : List Transaction) → unpackBy (c .next) (c .plan) ≡ accepted ts → (c .takes ts ≡ true) ↔ Takes ts) → JudgedBy Takes c
+judged-by Takes c agree = record {
+  accepts = λ ts. (
+    λ e. let t = was-taken (c .takes) (unpackBy (c .next) (c .plan)) ts e in (exact (c .next) (c .plan) ts .0 (t .0), agree ts (t .0) .0 (t .1)),
+    λ k. let u = exact (c .next) (c .plan) ts .1 (k .0) in by-test (c .takes) u (agree ts u .1 (k .1)),
+  );
+  refuses = λ n e. sym (only-nine c n e);
+}
 
 -- transactions in an order that the packing demands have data
 all-sized : (next : ℕ → ℕ) (free : ℕ) (ts : List Transaction) → T (arranged next free ts) → Every (λ t. 0 < size t) ts

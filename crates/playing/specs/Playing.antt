@@ -1,6 +1,8 @@
 -- Document 01, "Refusals": playing takes the address used and the chip's own, checks 1, 2 for either, then 9, and answers the image and whether every byte was
 -- acknowledged. A refusal writes nothing. Document 02, P5: a stored byte makes its register known. For any chip, any order of its packing, and whatever lists
 -- a play call takes.
+use mathlib.Core.Path.{_≡_}
+use mathlib.Core.Logic.{_↔_}
 use mathlib.Core.Bool.{Bool, cond, not, _&&_}
 use mathlib.Core.List.{List, [], _∷_}
 use Prim.Native.Nat.{ℕ}
@@ -9,13 +11,14 @@ use lib.ListN.{length}
 use Rattle.refusals.specs.Refusal.{Judged, accepted, refused, refusedBy}
 use Rattle.refusals.specs.Verdict.{Verdict, good, refusedAt}
 use Rattle.refusals.specs.Order.{Place, placesAt, firstOf}
-use Rattle.bus.specs.declared.chip.Event.{Event}
 use Rattle.bus.specs.Transactions.{Transaction}
 use Rattle.bus.specs.Address.{addressRight}
 use Rattle.bus.specs.Chip.{Kind, fresh}
 use Rattle.bus.specs.Run.{run, allAcknowledged, listEvents}
 use Rattle.bus.specs.Known.{knownAfter}
+use Rattle.packing.specs.Packing.{Packs}
 use Rattle.unpacking.specs.Unpacking.{unpackBy}
+use Rattle.unpacking.specs.Listed.{listed}
 
 -- what is handed to a play call: the chip with its own address; by the end of a transaction, where the next one may start in its packing; the lists that the
 -- call takes; the image that the chip holds; the address used; the plan's bytes
@@ -36,6 +39,11 @@ judgedIf takes (refused n) = refused n
 abbrev pub judged : Call → Judged (List Transaction)
 judged c = judgedIf (c .takes) (unpackBy (c .next) (c .plan))
 
+-- what that is in the papers' words: a list is the plan's exactly where the bytes pack it and it is one of those that the call takes; else the refusal is 9
+pub record JudgedBy (Takes : List Transaction → Type 0) (c : Call) : Type 0 where
+  pub accepts : (ts : List Transaction) → (judged c ≡ accepted ts) ↔ (Packs (c .next) (c .plan) ts × Takes ts)
+  pub refuses : (n : ℕ) → judged c ≡ refused n → n ≡ 9
+
 -- row n holds of the call
 unfoldable pub rowPlayed : Call → ℕ → ℕ → Bool
 rowPlayed c n f =
@@ -47,14 +55,9 @@ rowPlayed c n f =
 unfoldable pub playOrder : List Place
 playOrder = placesAt (1 ∷ 2 ∷ 9 ∷ []) 0
 
--- the events of a list's transactions, sent at an address
-abbrev pub eventsOf : ℕ → Judged (List Transaction) → List Event
-eventsOf used (accepted ts) = listEvents used ts
-eventsOf used (refused n) = []
-
 -- whether a fresh chip with the image acknowledges every byte of the plan's
 abbrev pub acknowledged : Call → Bool
-acknowledged c = allAcknowledged (c .kind) (fresh (c .image)) (eventsOf (c .used) (judged c))
+acknowledged c = allAcknowledged (c .kind) (fresh (c .image)) (listEvents (c .used) (listed (judged c)))
 
 -- what playing answers: row n at no field where it is the first of the checking order that holds; else whether every byte is acknowledged
 unfoldable pub playOf : Call → Verdict Bool
@@ -67,8 +70,8 @@ leftBy before after (refusedAt n f) = before
 
 -- the registers that playing leaves: those of the fresh chip after the same events
 unfoldable pub registersLeft : Call → List ℕ
-registersLeft c = leftBy (c .image) (run (c .kind) (fresh (c .image)) (eventsOf (c .used) (judged c)) .registers) (playOf c)
+registersLeft c = leftBy (c .image) (run (c .kind) (fresh (c .image)) (listEvents (c .used) (listed (judged c))) .registers) (playOf c)
 
 -- the registers that are known after it, where those of a map were before
 unfoldable pub knownLeft : Call → ℕ → ℕ
-knownLeft c known = leftBy known (knownAfter (c .kind) (fresh (c .image)) known (eventsOf (c .used) (judged c))) (playOf c)
+knownLeft c known = leftBy known (knownAfter (c .kind) (fresh (c .image)) known (listEvents (c .used) (listed (judged c)))) (playOf c)

@@ -13,7 +13,7 @@ use Rattle.bits.proofs.StringLaws.{msb-length}
 use Rattle.bits.proofs.ByteLaws.{byteBits-bytesOf}
 use Rattle.bus.specs.Transactions.{Transaction, Every, end}
 use Rattle.refusals.specs.Refusal.{Judged, accepted, refused}
-use Rattle.packing.specs.Packing.{listBits, packedBits, packed, encodable, behind, arranged, wellFormedBy}
+use Rattle.packing.specs.Packing.{listBits, packedBits, packed, encodable, behind, arranged, wellFormedBy, Packs}
 use Rattle.packing.proofs.FillLaws.{filled-bytes}
 use Rattle.unpacking.specs.Unpacking.{UnpacksBy, packs, packs-none, number, candidate, unpackBy, unpack}
 use Rattle.bits.proofs.FlagLaws.{both, first, second, same-test, holds}
@@ -73,7 +73,7 @@ module _ (next : ℕ → ℕ) where
       (both (wellFormedBy next ts) (sameBytes (packed ts) (packed ts)) h (subst⁻¹ T (same-self (packed ts)) tt))))
 
   -- packing what was unpacked gives the bytes again
-  pub unpacks-packed : (plan : List ℕ) (ts : List Transaction) → unpackBy next plan ≡ accepted ts → T (wellFormedBy next ts) × (plan ≡ packed ts)
+  pub unpacks-packed : (plan : List ℕ) (ts : List Transaction) → unpackBy next plan ≡ accepted ts → Packs next plan ts
   unfolding unpackBy
   unpacks-packed plan ts e = go (wellFormedBy next us && sameBytes plan (packed us)) refl e
     where
@@ -92,7 +92,7 @@ module _ (next : ℕ → ℕ) where
       go false d f = let z : _≡_ {A = ℕ} 0 1 = cc in absurd (omega arith)
 
   -- the two as one: a plan is accepted with ts exactly when ts is well-formed and the plan is its packing
-  pub exact : (plan : List ℕ) (ts : List Transaction) → (unpackBy next plan ≡ accepted ts) ↔ (T (wellFormedBy next ts) × (plan ≡ packed ts))
+  pub exact : (plan : List ℕ) (ts : List Transaction) → (unpackBy next plan ≡ accepted ts) ↔ Packs next plan ts
   exact plan ts = (unpacks-packed plan ts, λ h. ap (unpackBy next) (h .1) ∙ packed-unpacks ts (h .0))
 
   -- every refusal is 9

@@ -11,12 +11,13 @@ use denote.Ref.{now}
 use Rattle.refusals.specs.Verdict.{Verdict}
 use Rattle.refusals.specs.Order.{Exactly}
 use Rattle.bus.specs.Address.{addressRight}
-use Rattle.playing.specs.Playing.{Call, rowPlayed, playOrder, acknowledged, playOf}
+use Rattle.playing.specs.Playing.{Call, JudgedBy, rowPlayed, playOrder, acknowledged, playOf}
 use Rattle.playing.proofs.Faults.{Left, image-fault, used-fault, own-fault, exactly-played}
 use Rattle.adv7194_bus.specs.Kind.{registerCount}
 use Rattle.adv7194_bus.specs.declared.board.Board.{Board}
 use Rattle.adv7194_bus.specs.Board.{boardOf}
-use Rattle.adv7194_playing.specs.Playing.{takes, callOf, playedBoard}
+use Rattle.adv7194_playing.specs.Playing.{Takes, takes, callOf, playedBoard}
+use Rattle.adv7194_playing.proofs.Rows.{plan-judged}
 use Rattle.adv7194_playing.proofs.WrittenRun.{as-left}
 use Rattle.adv7194_playing.proofs.play.Statement.{statement}
 use Rattle.adv7194_playing.proofs.play.Tie as tie
@@ -33,11 +34,15 @@ abbrev Promised : tie.Start → Verdict Bool → Board → Type 0
 Promised s v after =
     (v ≡ playOf (call s))
     × ((after ≡ playedBoard (takes (s .args .kind)) (board s) (s .args .used) (s .args .own) (now (s .args .plan)))
-    × Exactly (rowPlayed (call s)) playOrder (acknowledged (call s)) v)
+    × (Exactly (rowPlayed (call s)) playOrder (acknowledged (call s)) v × JudgedBy (Takes (s .args .kind)) (call s)))
+
+-- how its plan is judged
+taken : (s : tie.Start) → JudgedBy (Takes (s .args .kind)) (call s)
+taken s = plan-judged (s .args .kind) (board s) (s .args .used) (s .args .own) (now (s .args .plan))
 
 promised : (s : tie.Start) {v : Verdict Bool} {registers : List ℕ} {map : ℕ} → Left (call s) (s .args .known) v registers map
     → Promised s v (boardOf registers map)
-promised s l = let p = as-left l in (p .0, (p .1, exactly-played (call s) (p .0)))
+promised s l = let p = as-left l in (p .0, (p .1, (exactly-played (call s) (p .0), taken s)))
 
 returns : tie.Need-returns
 returns c =
@@ -77,7 +82,8 @@ returns-4 : tie.Need-returns-4
 returns-4 c =
     let p = c .before .before in
     let a = p .play-checked .ensures in
-    (a .0, (a .1, exactly-played (call (start (p .before .before))) (a .0)))
+    let s = start (p .before .before) in
+    (a .0, (a .1, (exactly-played (call s) (a .0), taken s)))
 
 pub play-spec : {M : Type 1} → statement M
 play-spec =

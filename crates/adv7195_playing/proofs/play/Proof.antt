@@ -11,11 +11,12 @@ use denote.Ref.{now}
 use Rattle.refusals.specs.Verdict.{Verdict}
 use Rattle.refusals.specs.Order.{Exactly}
 use Rattle.bus.specs.Address.{addressRight}
-use Rattle.playing.specs.Playing.{Call, rowPlayed, playOrder, acknowledged, playOf, registersLeft}
+use Rattle.playing.specs.Playing.{Call, JudgedBy, rowPlayed, playOrder, acknowledged, playOf, registersLeft}
 use Rattle.playing.proofs.Faults.{Left, image-fault, used-fault, own-fault, exactly-played}
 use Rattle.adv7195_bus.specs.Kind.{registerCount}
-use Rattle.adv7195_playing.specs.Playing.{callOf}
+use Rattle.adv7195_playing.specs.Playing.{Takes, callOf}
 use Rattle.adv7195_playing.proofs.PlayedLaws.{noMap}
+use Rattle.adv7195_playing.proofs.Rows.{plan-judged}
 use Rattle.adv7195_playing.proofs.play.Statement.{statement}
 use Rattle.adv7195_playing.proofs.play.Tie as tie
 
@@ -23,10 +24,17 @@ use Rattle.adv7195_playing.proofs.play.Tie as tie
 abbrev call : tie.Start → Call
 call s = let a = s .args in callOf (now (a .image)) (a .used) (a .own) (now (a .plan))
 
+-- how its plan is judged, where the image has a byte a register
+abbrev Taken : tie.Start → Type 0
+Taken s = length (now (s .args .image)) ≡ registerCount → JudgedBy (Takes (s .args .own) (now (s .args .image))) (call s)
+
+taken : (s : tie.Start) → Taken s
+taken s = plan-judged (now (s .args .image)) (s .args .used) (s .args .own) (now (s .args .plan))
+
 -- all that playing promises of an answer and of the registers that are left
 promised : (s : tie.Start) {v : Verdict Bool} {registers : List ℕ} {map : ℕ} → Left (call s) noMap v registers map
-    → (v ≡ playOf (call s)) × ((registers ≡ registersLeft (call s)) × Exactly (rowPlayed (call s)) playOrder (acknowledged (call s)) v)
-promised s l = (l .answer, (l .stored, exactly-played (call s) (l .answer)))
+    → (v ≡ playOf (call s)) × ((registers ≡ registersLeft (call s)) × (Exactly (rowPlayed (call s)) playOrder (acknowledged (call s)) v × Taken s))
+promised s l = (l .answer, (l .stored, (exactly-played (call s) (l .answer), taken s)))
 
 returns : tie.Need-returns
 returns c = let s = c .before .before .before in promised s (image-fault (call s) noMap (c .if1 .taken))
@@ -64,7 +72,8 @@ returns-4 : tie.Need-returns-4
 returns-4 c =
     let p = c .before .before in
     let a = p .play-checked .ensures in
-    (a .0, (a .1, exactly-played (call (start (p .before .before))) (a .0)))
+    let s = start (p .before .before) in
+    (a .0, (a .1, (exactly-played (call s) (a .0), taken s)))
 
 pub play-spec : {M : Type 1} → statement M
 play-spec =
