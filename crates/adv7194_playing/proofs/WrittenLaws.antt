@@ -100,7 +100,7 @@ module _ (kind : PlanKind) {plan : List ℕ} {map₀ : ℕ} {l₀ : List ℕ} {m
 
     -- its header is taken, so its registers are there
     module _ (long : length l₀ ≡ registerCount) (e : takesHeader kind subaddress count ≡ true) where
-      pub fits : subaddress + count ≤ registerCount
+      fits : subaddress + count ≤ registerCount
       fits = room kind subaddress count (g .some) e
 
       -- its data are written

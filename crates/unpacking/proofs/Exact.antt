@@ -109,20 +109,20 @@ module _ (next : ℕ → ℕ) where
   judges plan = go (unpackBy next plan) refl
     where
       go : (j : Judged (List Transaction)) → unpackBy next plan ≡ j → UnpacksBy next plan j
-      go (accepted ts) e = packs (unpacks-packed plan ts e .0) (unpacks-packed plan ts e .1)
+      go (accepted ts) e = packs (unpacks-packed plan ts e)
       go (refused n) e = subst (λ (m : ℕ). UnpacksBy next plan (refused m)) (refused-nine plan n e)
-          (packs-none (λ ts h p. never ts (exact plan ts .1 (h, p)) e))
+          (packs-none (λ ts h. never ts (exact plan ts .1 h) e))
         where
           never : (ts : List Transaction) → unpackBy next plan ≡ accepted ts → unpackBy next plan ≡ refused n → ⊥
           never ts p q = let z : _≡_ {A = ℕ} 0 1 = cc in omega arith
 
   -- and nothing else
   pub unique : (plan : List ℕ) (j : Judged (List Transaction)) → UnpacksBy next plan j → unpackBy next plan ≡ j
-  unique plan j (packs {ts} h p) = exact plan ts .1 (h, p)
+  unique plan j (packs {ts} h) = exact plan ts .1 h
   unique plan j (packs-none f) = go (unpackBy next plan) refl
     where
       go : (i : Judged (List Transaction)) → unpackBy next plan ≡ i → unpackBy next plan ≡ refused 9
-      go (accepted ts) e = absurd (f ts (exact plan ts .0 e .0) (exact plan ts .0 e .1))
+      go (accepted ts) e = absurd (f ts (exact plan ts .0 e))
       go (refused n) e = e ∙ ap refused (sym (refused-nine plan n e))
 
   -- ---- the reader of the code
