@@ -9,10 +9,11 @@ use lib.Dec.{T, leb, ltb, eqb, leb→le, le→leb, ltb→lt, lt→ltb, eqb→eq}
 use borrow.Author.Tests.{eqb-false}
 use Rattle.bits.proofs.FlagLaws.{both, first, second, either, left, right}
 use Rattle.bus.specs.Registers.{apart}
-use Rattle.bus.specs.Transactions.{Transaction, size, end, Every}
+use Rattle.bus.specs.Transactions.{Transaction, size, end}
 use Rattle.bus.proofs.RegisterLaws.{apart-of, apart?}
 use Rattle.adv7194_bus.specs.Kind.{registerCount}
 use Rattle.adv7194_bus.specs.Rules.{Rules, ruled, keepsRules, allKeepRules}
+use Rattle.bits.specs.Lists.{Every}
 
 -- ---- one transaction
 

@@ -4,7 +4,7 @@ use mathlib.Core.List.{List}
 use Prim.Native.Nat.{ℕ, _≤_, _<_}
 use lib.IntN.{ℤ}
 use lib.ListN.{length, take}
-use Rattle.unpacking.specs.Unpacking.{Counted}
+use Rattle.unpacking.specs.Unpacking.{CountedBy}
 use Rattle.adv7194_bus.specs.declared.board.Board.{Board}
 use Rattle.adv7194_settings.specs.Wanted.{wantedBy}
 use Rattle.adv7194_settings.specs.Demand.{Demanded}
@@ -19,6 +19,7 @@ use Rattle.adv7194_planning.proofs.Clauses.{Clauses}
 use Rattle.answers.specs.declared.plan_numbers.PlanAnswer.{PlanAnswer}
 use Rattle.answers.specs.Answers.{planAnswer}
 use Rattle.answers.proofs.Numbered.{planned, short}
+use Rattle.packing.specs.Packing.{behind}
 
 -- all that planning promises of the numbers answered, and of what it leaves of the lent plan
 abbrev pub Promises : Board → List ℤ → ℕ → ℕ → List ℕ → List ℕ → PlanAnswer → Type 0
@@ -27,7 +28,7 @@ Promises board numbers address limit plan after r =
     let aim = aimOf board numbers limit in
     (r ≡ planAnswer (planningOf board numbers address limit (length plan)))
     × ((after ≡ planLeft board numbers address limit plan)
-    × ((r .refusal ≡ 0 → Counted (take (r .length) after) (r .length) (r .transactions) (r .«bus_bytes»))
+    × ((r .refusal ≡ 0 → CountedBy behind (take (r .length) after) (r .length) (r .transactions) (r .«bus_bytes»))
     × ((r .refusal ≡ 0 → Demanded image numbers (wantedBy image numbers))
     × ((r .refusal ≡ 0 → Played aim (take (r .length) after))
     × ((r .refusal ≡ 0 → Least aim (r .transactions) (r .«bus_bytes»))
@@ -49,7 +50,7 @@ promised board numbers address limit plan after p c =
       (
         c .1 .0,
         (
-          planned (λ l t b. Counted (take l after) l t b) p (rest .0),
+          planned (λ l t b. CountedBy behind (take l after) l t b) p (rest .0),
           (
             planned (λ l t b. Demanded image numbers (wantedBy image numbers)) p (rest .1 .0),
             (

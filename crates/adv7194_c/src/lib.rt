@@ -3,8 +3,9 @@
 ghost use mathlib.Core.Path.{_≡_};
 ghost use Prim.Native.Nat.{_≤_, _<_};
 ghost use lib.ListN.{length, take};
-ghost use Rattle.unpacking.specs.Unpacking.{unpack, Counted};
-ghost use Rattle.unpacking.specs.Indexed.{transactionOf, headerOf, dataAfter};
+ghost use Rattle.packing.specs.Packing.{behind};
+ghost use Rattle.unpacking.specs.Unpacking.{CountedBy, unpack};
+ghost use Rattle.unpacking.specs.Indexed.{headerOf, transactionOf, dataAfter};
 ghost use Rattle.adv7194_bus.specs.Board.{boardOf};
 ghost use Rattle.adv7194_bus.specs.Rules.{allKeepRules};
 ghost use Rattle.adv7194_settings.specs.Wanted.{wantedBy};
@@ -38,8 +39,8 @@ use adv7194_answers::why_numbers::why_answer;
 use adv7194_caption_planning::plan_captions;
 use adv7194_caption_reading::read_captions;
 use adv7194_compare::compare;
-use adv7194_playing::PlanKind;
 use adv7194_playing::play;
+use adv7194_playing::play_captions;
 use adv7194_reading::read;
 use adv7194_reading::read_house;
 use adv7194_reasons::why;
@@ -65,7 +66,7 @@ pub extern "C" fn adv7194_plan(
 ) -> PlanAnswer
     ensures answer { λ r. ⌜ r ≡ planAnswer (planningOf (boardOf (now (image .entry)) known) (now (settings .entry)) address limit (length (now (plan .entry)))) ⌝ }
     ensures memory { λ r. ⌜ now (plan .exit) ≡ planLeft (boardOf (now (image .entry)) known) (now (settings .entry)) address limit (now (plan .entry)) ⌝ }
-    ensures counted { λ r. ⌜ (r .refusal ≡ 0 → Counted (take (r .length) (now (plan .exit))) (r .length) (r .transactions) (r .«bus_bytes»)) ⌝ }
+    ensures counted { λ r. ⌜ (r .refusal ≡ 0 → CountedBy behind (take (r .length) (now (plan .exit))) (r .length) (r .transactions) (r .«bus_bytes»)) ⌝ }
     ensures demanded { λ r. ⌜
         (r .refusal ≡ 0 → Demanded (now (image .entry)) (now (settings .entry)) (wantedBy (now (image .entry)) (now (settings .entry)))) ⌝ }
     ensures played { λ r. ⌜
@@ -99,10 +100,7 @@ pub extern "C" fn adv7194_play(
         (playedBoard allKeepRules (boardOf (now (image .entry)) known) used own (now (plan .entry)) .known) ⌝ }
     ensures memory { λ r. ⌜ boardOf (now (image .exit)) (r .known) ≡ playedBoard allKeepRules (boardOf (now (image .entry)) known) used own (now (plan .entry)) ⌝ }
 {
-    play_answer(
-        play(PlanKind::Settings, image, known, used, own, plan),
-        known,
-    )
+    play_answer(play(image, known, used, own, plan), known)
 }
 
 // Reads an image of which the registers in a map are known into the lent settings.
@@ -127,8 +125,7 @@ pub extern "C" fn adv7194_house(settings: &mut [i32]) -> ReadAnswer
 #[no_mangle]
 pub extern "C" fn adv7194_transaction(plan: &[u8], index: u32, data: &mut [u8]) -> TransactionAnswer
     ensures answer { λ r. ⌜ r ≡ transactionAnswer (headerOf (transactionOf (unpack (now (plan .entry))) index (length (now («data» .entry))))) ⌝ }
-    ensures memory { λ r. ⌜
-        now («data» .exit) ≡ dataAfter (transactionOf (unpack (now (plan .entry))) index (length (now («data» .entry)))) (now («data» .entry)) ⌝ }
+    ensures memory { λ r. ⌜ now («data» .exit) ≡ dataAfter (transactionOf (unpack (now (plan .entry))) index (length (now («data» .entry)))) (now («data» .entry)) ⌝ }
 {
     transaction_answer(transaction(plan, Order::Ascending, index, data))
 }
@@ -173,10 +170,7 @@ pub extern "C" fn adv7194_play_captions(
         (playedBoard areCaptions (boardOf (now (image .entry)) known) used own (now (plan .entry)) .known) ⌝ }
     ensures memory { λ r. ⌜ boardOf (now (image .exit)) (r .known) ≡ playedBoard areCaptions (boardOf (now (image .entry)) known) used own (now (plan .entry)) ⌝ }
 {
-    play_answer(
-        play(PlanKind::Captions, image, known, used, own, plan),
-        known,
-    )
+    play_answer(play_captions(image, known, used, own, plan), known)
 }
 
 // Reads a pair of characters, 0 the extended and 1 the ordinary one, from an image of which the registers in a map are known.

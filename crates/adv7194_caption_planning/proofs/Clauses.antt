@@ -11,7 +11,7 @@ use Rattle.refusals.specs.Verdict.{Verdict, good, refusedAt}
 use Rattle.refusals.specs.Order.{Exactly, placesAt}
 use Rattle.refusals.proofs.OrderLaws.{good-none, exactly}
 use Rattle.packing.specs.Packing.{packed}
-use Rattle.planning.specs.Plan.{Counts, countsOf, leftBy, done}
+use Rattle.planning.specs.Plan.{Counts, countsOf, packedLeft, done}
 use Rattle.planning.proofs.AnswerLaws.{refused-short, left-packed}
 use Rattle.bus.specs.Address.{addressRight}
 use Rattle.adv7194_captions.specs.Pairs.{pairsRight, captionList}
@@ -57,7 +57,7 @@ module _ (extended ordinary : List ℤ) (address : ℕ) (plan after : List ℕ) 
   left l t b e =
       let list = captionList extended ordinary in
       let k = planned extended ordinary address (length plan) (record { length = l; transactions = t; busBytes = b }) (sym answer ∙ e) .0 in
-      left-packed list plan after l t b k (memory ∙ ap (leftBy list plan) (sym answer ∙ e))
+      left-packed list plan after l t b k (memory ∙ ap (packedLeft list plan) (sym answer ∙ e))
 
   -- what the bytes do
   played : (l t b : ℕ) → v ≡ done l t b → CaptionsPlayed extended ordinary (take l after)

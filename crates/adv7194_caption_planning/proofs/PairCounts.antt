@@ -1,7 +1,7 @@
 -- The characters of right pairs, and the transactions and data of their list. Assumes nothing.
 use mathlib.Core.Path.{_≡_, refl, sym, subst⁻¹}
 use mathlib.Core.Bool.{Bool, true, false, not, _&&_, _||_}
-use mathlib.Core.List.{List, [], _∷_, map, append-nil}
+use mathlib.Core.List.{List, [], _∷_, map, append-nil, flatMap}
 use Prim.Native.Nat.{ℕ, _+_, _/_, _≤_, _<_}
 use native.Mathlib.Omega.{arith}
 use lib.Dec.{T, ltb, eqb}
@@ -10,10 +10,11 @@ use lib.ListN.{length, getD}
 use borrow.Author.Tests.{eqb-true, eqb-false, lt-ltb, le-ltb}
 use Rattle.bits.proofs.FlagLaws.{first, second, holds}
 use Rattle.bus.specs.Cost.{dataCount}
-use Rattle.packing.specs.Packing.{transactionBits, listBits}
+use Rattle.packing.specs.Packing.{transactionBits}
+use Rattle.packing.specs.Written.{listBits}
 use Rattle.adv7194_captions.specs.Characters.{isCharacter, captionByte}
 use Rattle.adv7194_captions.specs.Pairs.{pairRight, pairsRight, pairAt, captionList}
-use Rattle.adv7194_captions.proofs.PairLaws.{Right, ordinary-alone, extended-alone, both-given, right}
+use Rattle.adv7194_captions.proofs.PairLaws.{too-many, Right, ordinary-alone, extended-alone, both-given, right}
 
 -- ---- one pair
 
@@ -32,17 +33,17 @@ given (a ∷ b ∷ []) e h =
     let q = isCharacter b in
     let t = subst⁻¹ T e tt in
     record { two = refl; front = holds p (first p q t); back = holds q (second p q t); bytes = refl }
-given (a ∷ b ∷ c ∷ zs) e h = absurd (subst⁻¹ T e tt)
+given (a ∷ b ∷ c ∷ zs) e h = too-many a b c zs e
 
 -- the bits of a pair that is not given
 pub none-bits : (r : ℕ) (zs : List ℤ) → length zs ≡ 0 → listBits (pairAt r zs) ≡ []
-unfolding pairAt listBits
+unfolding pairAt flatMap
 none-bits r [] h = refl
 none-bits r (z ∷ zs) h = absurd (omega arith)
 
 -- and of one that is
 pub pair-bits : (r : ℕ) (zs : List ℤ) → 0 < length zs → listBits (pairAt r zs) ≡ transactionBits (record { subaddress = r; bytes = map captionByte zs })
-unfolding pairAt listBits
+unfolding pairAt flatMap
 pair-bits r [] h = absurd (omega arith)
 pair-bits r (z ∷ zs) h = append-nil (transactionBits (record { subaddress = r; bytes = map captionByte (z ∷ zs) }))
 

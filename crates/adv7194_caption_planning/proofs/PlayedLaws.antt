@@ -15,9 +15,9 @@ use Rattle.bits.proofs.FlagLaws.{holds, fails}
 use Rattle.bits.proofs.ParityLaws.{parity-odd, parity-low}
 use Rattle.refusals.specs.Refusal.{accepted}
 use Rattle.refusals.specs.Verdict.{good}
-use Rattle.bus.specs.Transactions.{Transaction, size, Touches, Touched, Every}
-use Rattle.bus.specs.Chip.{Chip, fresh}
-use Rattle.bus.specs.Run.{allAcknowledged, listEvents, after}
+use Rattle.bus.specs.Transactions.{Transaction, size, Touches, Touched}
+use Rattle.bus.specs.Chip.{Chip}
+use Rattle.bus.specs.Run.{idleAt, allAcknowledged, listEvents, after}
 use Rattle.bus.specs.Known.{knownAfter}
 use Rattle.bus.proofs.Play.{touched-or-same, list-elsewhere}
 use Rattle.bus.proofs.KnownLaws.{touchedBy, touched-agree, known-list, known-elsewhere}
@@ -35,10 +35,10 @@ use Rattle.adv7194_bus.specs.declared.board.Board.{Board}
 use Rattle.adv7194_bus.specs.Board.{knows}
 use Rattle.bus.specs.Address.{addressRight}
 use Rattle.bus.proofs.AddressLaws.{not-read}
-use Rattle.adv7194_captions.specs.Characters.{characterBits, captionByte}
-use Rattle.adv7194_captions.specs.Pairs.{pairsRight, pairAt, captionList}
+use Rattle.adv7194_captions.specs.Characters.{captionByte}
+use Rattle.adv7194_captions.specs.Pairs.{pairsRight, pairAt, captionList, pairRegister}
 use Rattle.adv7194_captions.specs.Plans.{pairSize, areCaptions}
-use Rattle.adv7194_captions.specs.Reading.{pairCount, pairRegister, captionReading}
+use Rattle.adv7194_captions.specs.Reading.{captionReading}
 use Rattle.adv7194_captions.proofs.PairLaws.{Character, Right, ordinary-alone, extended-alone, both-given, right}
 use Rattle.adv7194_captions.proofs.ListLaws.{captions-formed, captions-unpack, captions-some, captions-inside, captions-sized}
 use Rattle.adv7194_captions.proofs.JustThese.{just-these}
@@ -49,6 +49,7 @@ use Rattle.playing.proofs.Judging.{by-test}
 use Rattle.playing.proofs.Faults.{plan-played}
 use Rattle.adv7194_playing.specs.Playing.{callOf}
 use Rattle.adv7194_caption_planning.specs.Demands.{Leaves, ReadsBack, MakesKnown, CaptionsPlayed}
+use Rattle.bits.specs.Lists.{Every}
 
 -- ---- the list
 
@@ -63,16 +64,16 @@ ascends (both-given p q p′ q′) = (omega arith, (omega arith, tt))
 
 module _ (left : Board) (h : length (left .registers) ≡ registerCount) where
   -- a pair's registers, which are known, with the bytes of two characters
-  read-pair : (pair : ℕ) (x y : ℤ) → pair < pairCount → Character x → Character y
+  read-pair : (pair : ℕ) (x y : ℤ) → pair < 2 → Character x → Character y
       → captionByte x ≡ getD (left .registers) (pairRegister pair) 0 → captionByte y ≡ getD (left .registers) (suc (pairRegister pair)) 0
       → knows left (pairRegister pair) ≡ true → knows left (suc (pairRegister pair)) ≡ true
       → captionReading left pair ≡ good (record { first = natAbs x; second = natAbs y })
   read-pair pair x y p u v m n k l =
       odd-ones left pair h p (rw (k, l))
-      (rw (← m, ← n) (rw (parity-odd characterBits (natAbs x) (u .small), parity-odd characterBits (natAbs y) (v .small))))
+      (rw (← m, ← n) (rw (parity-odd 7 (natAbs x) (u .small), parity-odd 7 (natAbs y) (v .small))))
       ∙ ap₂ (λ (m n : ℕ). good (record { first = m; second = n }))
-      (rw (← m) (parity-low characterBits (natAbs x) (u .small)))
-      (rw (← n) (parity-low characterBits (natAbs y) (v .small)))
+      (rw (← m) (parity-low 7 (natAbs x) (u .small)))
+      (rw (← n) (parity-low 7 (natAbs y) (v .small)))
 
   -- registers that hold the list's data, and are known
   read-back : {e o : List ℤ} → Right e o → Every (Holds (λ r. getD (left .registers) r 0)) (captionList e o)
@@ -151,9 +152,9 @@ module _ (extended ordinary : List ℤ) (h : pairsRight extended ordinary ≡ tr
   answer b used own n e f =
       sym (plan-played (callOf areCaptions b used own (packed list)) (b .known) n e f list taken .answer) ∙ ap good (by (eqb used own) refl)
     where
-      by : (t : Bool) → eqb used own ≡ t → allAcknowledged (adv7194 own) (fresh (b .registers)) (listEvents used list) ≡ eqb used own
-      by true p = rw (eqb-true used own p) (acknowledged own (fresh (b .registers)) ∙ sym (eq-eqb own own refl))
-      by false p = unanswered used own (fresh (b .registers)) (eqb-false used own p) e f ∙ sym p
+      by : (t : Bool) → eqb used own ≡ t → allAcknowledged (adv7194 own) (idleAt 0 (b .registers)) (listEvents used list) ≡ eqb used own
+      by true p = rw (eqb-true used own p) (acknowledged own (idleAt 0 (b .registers)) ∙ sym (eq-eqb own own refl))
+      by false p = unanswered used own (idleAt 0 (b .registers)) (eqb-false used own p) e f ∙ sym p
 
   -- what the packed list does
   pub captions-played : CaptionsPlayed extended ordinary (packed list)

@@ -3,17 +3,19 @@
 use mathlib.Core.Path.{_≡_}
 use mathlib.Core.Logic.{_≢_}
 use mathlib.Core.Bool.{true}
-use mathlib.Core.List.{List}
+use mathlib.Core.List.{List, _∷_, _++_}
 use Prim.Native.Nat.{ℕ, _<_}
 use lib.Dec.{eqb}
 use lib.IntN.{ℤ, pos, natAbs}
 use lib.ListN.{length, getD}
 use Rattle.refusals.specs.Verdict.{good}
-use Rattle.bus.specs.Transactions.{Transaction, Touched, Every}
+use Rattle.bus.specs.Transactions.{Transaction, Touched}
 use Rattle.bits.specs.Maps.{has}
-use Rattle.bus.specs.Chip.{Chip}
+use Rattle.bus.specs.declared.chip.Event.{Event}
+use Rattle.bus.specs.declared.chip.Acknowledge.the-variants.{Acknowledged}
+use Rattle.bus.specs.Chip.{Chip, step}
 use Rattle.bus.specs.Known.{knownAfter}
-use Rattle.bus.specs.Run.{run, allAcknowledged, noneAcknowledged, listEvents}
+use Rattle.bus.specs.Run.{run, allAcknowledged, listEvents}
 use Rattle.packing.specs.Packing.{behind, Packs}
 use Rattle.least_cost.specs.Order.{Holds}
 use Rattle.adv7194_bus.specs.Kind.{registerCount, adv7194}
@@ -25,6 +27,7 @@ use Rattle.adv7194_captions.specs.Plans.{areCaptions}
 use Rattle.adv7194_captions.specs.Reading.{captionReading}
 use Rattle.playing.specs.Playing.{playOf}
 use Rattle.adv7194_playing.specs.Playing.{callOf}
+use Rattle.bits.specs.Lists.{Every}
 
 -- the most bytes that a packed plan of captions has
 abbrev pub captionBytes : ℕ
@@ -64,6 +67,7 @@ pub record CaptionsPlayed (extended ordinary : List ℤ) (plan : List ℕ) : Typ
       let left = boardOf (run (adv7194 own) c es .registers) (knownAfter (adv7194 own) c known es) in
       ReadsBack left 0 extended × ReadsBack left 1 ordinary)
   pub elsewhere : (used own : ℕ) (c : Chip) (known : ℕ) → used ≢ own → addressRight used ≡ true → addressRight own ≡ true
-      → (noneAcknowledged (adv7194 own) c (listEvents used (captionList extended ordinary)) ≡ true)
+      → ((before : List Event) (e : Event) (rest : List Event) → listEvents used (captionList extended ordinary) ≡ before ++ (e ∷ rest)
+      → step (adv7194 own) (run (adv7194 own) c before) e .acknowledge ≢ Acknowledged)
       × ((run (adv7194 own) c (listEvents used (captionList extended ordinary)) .registers ≡ c .registers)
       × (knownAfter (adv7194 own) c known (listEvents used (captionList extended ordinary)) ≡ known))

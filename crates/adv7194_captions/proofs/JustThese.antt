@@ -16,9 +16,9 @@ use Rattle.bits.proofs.ParityLaws.{parity-odd, parity-only}
 use Rattle.bus.specs.Transactions.{Transaction, size, end}
 use Rattle.packing.specs.Packing.{encodable, arranged, ascending}
 use Rattle.unpacking.proofs.Tests.{encodable-facts}
-use Rattle.adv7194_captions.specs.Characters.{characterBits, isCharacter, captionByte, isOdd, characterIn}
-use Rattle.adv7194_captions.specs.Pairs.{extendedPair, ordinaryPair, pairRight, pairsRight, pairAt, captionList}
-use Rattle.adv7194_captions.specs.Plans.{pairSize, allOdd, isPair, allPairs, Captions, areCaptions}
+use Rattle.adv7194_captions.specs.Characters.{isCharacter, captionByte, isOdd, characterIn}
+use Rattle.adv7194_captions.specs.Pairs.{pairRight, pairsRight, pairAt, captionList}
+use Rattle.adv7194_captions.specs.Plans.{extendedPair, ordinaryPair, pairSize, allOdd, isPair, allPairs, Captions, areCaptions}
 use Rattle.adv7194_captions.proofs.PairLaws.{Character, Right, ordinary-alone, extended-alone, both-given, right}
 
 -- ---- a transaction that passes the test writes a right pair
@@ -31,11 +31,11 @@ record Byte (b : ℕ) : Type 0 where
 
 byte : (b : ℕ) → b < 2 ^ 8 → T (isOdd b) → Byte b
 byte b h odd =
-    let low : characterIn b < 2 ^ characterBits = mod-lt b (pow-pos characterBits) in
+    let low : characterIn b < 2 ^ 7 = mod-lt b (pow-pos 7) in
     record {
       character = pos (characterIn b);
       is-one = rw (le-leb 0 (characterIn b) (omega arith), le-leb (characterIn b) 127 (omega arith));
-      leaves = sym (parity-only characterBits b h (holds (isOdd b) odd));
+      leaves = sym (parity-only 7 b h (holds (isOdd b) odd));
     }
 
 -- data of two such bytes are those of a right pair
@@ -156,7 +156,7 @@ only (t ∷ ts) o a =
 -- the bytes of a pair have odd counts of ones
 odd-data : (a b : ℤ) → Character a → Character b → allOdd (captionByte a ∷ captionByte b ∷ []) ≡ true
 unfolding allOdd
-odd-data a b p q = rw (parity-odd characterBits (natAbs a) (p .small), parity-odd characterBits (natAbs b) (q .small))
+odd-data a b p q = rw (parity-odd 7 (natAbs a) (p .small), parity-odd 7 (natAbs b) (q .small))
 
 passes : {es os : List ℤ} → Right es os → areCaptions (captionList es os) ≡ true
 unfolding captionList pairAt allPairs

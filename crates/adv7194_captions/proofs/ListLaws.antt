@@ -13,17 +13,18 @@ use lib.Pow.{areBytes}
 use Rattle.bits.proofs.ParityLaws.{parity-fits}
 use Rattle.bits.proofs.FlagLaws.{both}
 use Rattle.refusals.specs.Refusal.{accepted}
-use Rattle.bus.specs.Transactions.{Transaction, size, Touches, Every}
+use Rattle.bus.specs.Transactions.{Transaction, size, Touches}
 use Rattle.bus.specs.Cost.{dataCount}
 use Rattle.packing.specs.Packing.{packed, behind, arranged, wellFormedBy, wellFormed}
 use Rattle.packing.proofs.PackedLaws.{packed-length}
 use Rattle.unpacking.specs.Unpacking.{unpack}
 use Rattle.unpacking.proofs.Exact.{packed-unpacks}
 use Rattle.adv7194_bus.specs.Kind.{registerCount, readOnly}
-use Rattle.adv7194_captions.specs.Characters.{characterBits, captionByte}
-use Rattle.adv7194_captions.specs.Pairs.{extendedPair, ordinaryPair, pairsRight, pairAt, captionList}
-use Rattle.adv7194_captions.specs.Plans.{pairSize}
+use Rattle.adv7194_captions.specs.Characters.{captionByte}
+use Rattle.adv7194_captions.specs.Pairs.{pairsRight, pairAt, captionList}
+use Rattle.adv7194_captions.specs.Plans.{extendedPair, ordinaryPair, pairSize}
 use Rattle.adv7194_captions.proofs.PairLaws.{Character, Right, ordinary-alone, extended-alone, both-given, right}
+use Rattle.bits.specs.Lists.{Every}
 
 -- ---- the transactions of given pairs
 
@@ -57,8 +58,8 @@ dataOf a b = captionByte a ∷ captionByte b ∷ []
 bytes-of : (a b : ℤ) → Character a → Character b → T (areBytes (dataOf a b))
 bytes-of a b p q =
     both (ltb (captionByte a) 256) (ltb (captionByte b) 256 && true)
-    (lt→ltb (captionByte a) 256 (parity-fits characterBits (natAbs a) (p .small)))
-    (both (ltb (captionByte b) 256) true (lt→ltb (captionByte b) 256 (parity-fits characterBits (natAbs b) (q .small))) tt)
+    (lt→ltb (captionByte a) 256 (parity-fits 7 (natAbs a) (p .small)))
+    (both (ltb (captionByte b) 256) true (lt→ltb (captionByte b) 256 (parity-fits 7 (natAbs b) (q .small))) tt)
 
 -- what holds of a pair's transaction at either place holds of each of the list
 each : (P : Transaction → Type 0) → ((r : ℕ) (a b : ℤ) → (r ≡ extendedPair) ⊎ (r ≡ ordinaryPair) → P (record { subaddress = r; bytes = dataOf a b }))

@@ -1,15 +1,16 @@
 -- A pair's test by its length, and what a right pair is. Assumes nothing.
-use mathlib.Core.Path.{_≡_, refl, subst⁻¹}
-use mathlib.Core.Bool.{true, false, _&&_}
+use mathlib.Core.Path.{_≡_, refl, sym, _∙_, subst⁻¹}
+use mathlib.Core.Bool.{true, false, _&&_, false≢true}
 use mathlib.Core.List.{List, [], _∷_}
 use Prim.Native.Nat.{_+_, _^_, _<_}
 use native.Mathlib.Omega.{arith}
+use borrow.Author.Tests.{eq-eqb, ne-eqb}
 use lib.Dec.{T, leb, ltb, leb→le}
 use lib.IntN.{ℤ, pos, negsuc, natAbs}
 use lib.ListN.{length, getD}
 use lib.Signed.{nonNeg}
 use Rattle.bits.proofs.FlagLaws.{first, second, holds}
-use Rattle.adv7194_captions.specs.Characters.{characterBits, isCharacter}
+use Rattle.adv7194_captions.specs.Characters.{isCharacter}
 use Rattle.adv7194_captions.specs.Pairs.{pairRight, pairsRight}
 
 -- ---- one character
@@ -17,7 +18,7 @@ use Rattle.adv7194_captions.specs.Pairs.{pairRight, pairsRight}
 -- a character is a number of seven bits
 pub record Character (z : ℤ) : Type 0 where
   pub sign : T (nonNeg z)
-  pub small : natAbs z < 2 ^ characterBits
+  pub small : natAbs z < 2 ^ 7
 
 pub character : (z : ℤ) → isCharacter z ≡ true → Character z
 character (pos n) e = record { sign = tt; small = omega (arith, leb→le n 127 (second (leb 0 n) (leb n 127) (subst⁻¹ T e tt))) }
@@ -27,15 +28,16 @@ character (negsuc n) e = absurd (subst⁻¹ T e tt)
 
 -- none is right
 pub none-right : (zs : List ℤ) → length zs ≡ 0 → pairRight zs ≡ true
-none-right [] h = refl
-none-right (a ∷ zs) h = absurd (omega arith)
+none-right zs h = rw (eq-eqb (length zs) 0 h)
 
 -- another length than none and two is wrong
 pub length-wrong : (zs : List ℤ) → (length zs ≡ 0 → ⊥) → (length zs ≡ 2 → ⊥) → pairRight zs ≡ false
-length-wrong [] h k = absurd (h refl)
-length-wrong (a ∷ []) h k = refl
-length-wrong (a ∷ b ∷ []) h k = absurd (k refl)
-length-wrong (a ∷ b ∷ c ∷ zs) h k = refl
+length-wrong zs h k = rw (ne-eqb (length zs) 0 h, ne-eqb (length zs) 2 k)
+
+-- three or more are
+pub too-many : {A : Type 0} (a b c : ℤ) (zs : List ℤ) → pairRight (a ∷ b ∷ c ∷ zs) ≡ true → A
+too-many a b c zs e =
+    absurd (false≢true (sym (length-wrong (a ∷ b ∷ c ∷ zs) (λ n. omega arith) (λ n. omega arith)) ∙ e))
 
 -- two numbers are right where they are characters
 pub two-right : (zs : List ℤ) → length zs ≡ 2 → pairRight zs ≡ (isCharacter (getD zs 0 (pos 0)) && isCharacter (getD zs 1 (pos 0)))
@@ -74,7 +76,7 @@ right extended ordinary e =
     go [] [] p q s = absurd s
     go [] (c ∷ []) p q s = absurd (subst⁻¹ T q tt)
     go [] (c ∷ d ∷ []) p q s = let w = characters c d q in ordinary-alone (w .0) (w .1)
-    go [] (c ∷ d ∷ z ∷ zs) p q s = absurd (subst⁻¹ T q tt)
+    go [] (c ∷ d ∷ z ∷ zs) p q s = too-many c d z zs q
     go (a ∷ []) os p q s = absurd (subst⁻¹ T p tt)
     go (a ∷ b ∷ []) [] p q s = let v = characters a b p in extended-alone (v .0) (v .1)
     go (a ∷ b ∷ []) (c ∷ []) p q s = absurd (subst⁻¹ T q tt)
@@ -82,5 +84,5 @@ right extended ordinary e =
         let v = characters a b p in
         let w = characters c d q in
         both-given (v .0) (v .1) (w .0) (w .1)
-    go (a ∷ b ∷ []) (c ∷ d ∷ z ∷ zs) p q s = absurd (subst⁻¹ T q tt)
-    go (a ∷ b ∷ z ∷ zs) os p q s = absurd (subst⁻¹ T p tt)
+    go (a ∷ b ∷ []) (c ∷ d ∷ z ∷ zs) p q s = too-many c d z zs q
+    go (a ∷ b ∷ z ∷ zs) os p q s = too-many a b z zs p

@@ -10,15 +10,15 @@ use borrow.Author.Tests.{eq-eqb, ne-eqb, lt-ltb, le-ltb, leb-true, leb-false}
 use Rattle.refusals.specs.Verdict.{good, refusedAt}
 use Rattle.refusals.specs.Order.{firstOf, placesAt}
 use Rattle.packing.specs.Packing.{packed}
-use Rattle.planning.specs.Plan.{packingOf, leftBy, planAfter}
+use Rattle.planning.specs.Plan.{packingOf, packedLeft, planAfter}
 use Rattle.adv7194_bus.specs.Kind.{registerCount}
 use Rattle.adv7194_bus.specs.declared.board.Board.{Board}
 use Rattle.adv7194_bus.specs.Board.{knows}
 use Rattle.bus.specs.Address.{addressRight}
 use Rattle.adv7194_captions.specs.Characters.{isOdd}
-use Rattle.adv7194_captions.specs.Pairs.{captionField, pairsRight, captionList}
+use Rattle.adv7194_captions.specs.Pairs.{captionField, pairsRight, captionList, pairRegister}
+use Rattle.adv7194_captions.specs.Reading.{captionReadRow, captionReadOrder, charactersIn, captionReading}
 use Rattle.adv7194_captions.specs.Planning.{captionRow, captionOrder, captionPlanning, captionPlanLeft}
-use Rattle.adv7194_captions.specs.Reading.{pairCount, pairRegister, captionReadRow, captionReadOrder, charactersIn, captionReading}
 
 -- ---- planning
 
@@ -52,12 +52,12 @@ module _ (extended ordinary : List ℤ) (address : ℕ) (plan : List ℕ) where
   -- a refusal leaves the lent plan
   pub refused-left : (n f : ℕ) → captionPlanning extended ordinary address (length plan) ≡ refusedAt n f
       → captionPlanLeft extended ordinary address plan ≡ plan
-  refused-left n f v = ap (leftBy (captionList extended ordinary) plan) v
+  refused-left n f v = ap (packedLeft (captionList extended ordinary) plan) v
 
   -- right pairs leave what packing their list does
   pub packed-left : addressRight address ≡ true → pairsRight extended ordinary ≡ true
       → captionPlanLeft extended ordinary address plan ≡ planAfter (captionList extended ordinary) plan
-  packed-left e p = ap (leftBy (captionList extended ordinary) plan) (right-pairs extended ordinary address (length plan) e p)
+  packed-left e p = ap (packedLeft (captionList extended ordinary) plan) (right-pairs extended ordinary address (length plan) e p)
 
 -- ---- reading
 
@@ -77,23 +77,23 @@ module _ (b : Board) (pair : ℕ) where
 
   module _ (h : length (b .registers) ≡ registerCount) where
     -- row 3 at the captions' field: there is no such pair
-    pub wrong-pair : pairCount ≤ pair → captionReading b pair ≡ refusedAt 3 captionField
+    pub wrong-pair : 2 ≤ pair → captionReading b pair ≡ refusedAt 3 captionField
     unfolding captionReading captionReadOrder placesAt firstOf captionReadRow
-    wrong-pair p = rw (eq-eqb (length (b .registers)) registerCount h, le-ltb pair pairCount p)
+    wrong-pair p = rw (eq-eqb (length (b .registers)) registerCount h, le-ltb pair 2 p)
 
-    module _ (p : pair < pairCount) where
+    module _ (p : pair < 2) where
       -- row 11 there: a register of the pair isn't known
       pub unknown-pair : bothKnown b pair ≡ false → captionReading b pair ≡ refusedAt 11 captionField
       unfolding captionReading captionReadOrder placesAt firstOf captionReadRow
-      unknown-pair k = rw (eq-eqb (length (b .registers)) registerCount h, lt-ltb pair pairCount p, k)
+      unknown-pair k = rw (eq-eqb (length (b .registers)) registerCount h, lt-ltb pair 2 p, k)
 
       module _ (k : bothKnown b pair ≡ true) where
         -- row 4 there: an even count of ones
         pub even-ones : bothOdd (b .registers) pair ≡ false → captionReading b pair ≡ refusedAt 4 captionField
         unfolding captionReading captionReadOrder placesAt firstOf captionReadRow
-        even-ones o = rw (eq-eqb (length (b .registers)) registerCount h, lt-ltb pair pairCount p, k, o)
+        even-ones o = rw (eq-eqb (length (b .registers)) registerCount h, lt-ltb pair 2 p, k, o)
 
         -- no row holds
         pub odd-ones : bothOdd (b .registers) pair ≡ true → captionReading b pair ≡ good (charactersIn (b .registers) pair)
         unfolding captionReading captionReadOrder placesAt firstOf captionReadRow
-        odd-ones o = rw (eq-eqb (length (b .registers)) registerCount h, lt-ltb pair pairCount p, k, o)
+        odd-ones o = rw (eq-eqb (length (b .registers)) registerCount h, lt-ltb pair 2 p, k, o)

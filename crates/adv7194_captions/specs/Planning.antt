@@ -9,7 +9,7 @@ use lib.ListN.{length}
 use Rattle.refusals.specs.Verdict.{Verdict}
 use Rattle.refusals.specs.Order.{Place, firstOf, placesAt}
 use Rattle.packing.specs.Packing.{packed}
-use Rattle.planning.specs.Plan.{Counts, countsOf, leftBy}
+use Rattle.planning.specs.Plan.{Counts, countsOf, packedLeft}
 use Rattle.bus.specs.Address.{addressRight}
 use Rattle.adv7194_captions.specs.Pairs.{captionField, pairsRight, captionList}
 
@@ -32,4 +32,4 @@ captionPlanning extended ordinary address room =
 -- the lent plan that it leaves
 abbrev pub captionPlanLeft : List ℤ → List ℤ → ℕ → List ℕ → List ℕ
 captionPlanLeft extended ordinary address plan =
-    leftBy (captionList extended ordinary) plan (captionPlanning extended ordinary address (length plan))
+    packedLeft (captionList extended ordinary) plan (captionPlanning extended ordinary address (length plan))

@@ -8,11 +8,18 @@ use lib.IntN.{ℤ}
 use lib.ListN.{length}
 use Rattle.bus.specs.Transactions.{Transaction, size}
 use Rattle.adv7194_captions.specs.Characters.{isOdd}
-use Rattle.adv7194_captions.specs.Pairs.{extendedPair, ordinaryPair, pairsRight, captionList}
+use Rattle.adv7194_captions.specs.Pairs.{pairRegister, pairsRight, captionList}
 
 -- the data bytes of a pair
 abbrev pub pairSize : ℕ
 pairSize = 2
+
+-- the first register of each pair
+abbrev pub extendedPair : ℕ
+extendedPair = pairRegister 0
+
+abbrev pub ordinaryPair : ℕ
+ordinaryPair = pairRegister 1
 
 -- a subaddress and a data count are a pair's
 abbrev pub atPair : ℕ → ℕ → Bool

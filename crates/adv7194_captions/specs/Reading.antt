@@ -2,7 +2,7 @@
 -- between them: another is 3, field 29. P5: a pair with a register that is not known is 11, field 29, before its ones are counted.
 use mathlib.Core.Bool.{Bool, cond, not, _&&_}
 use mathlib.Core.List.{List, [], _∷_, _++_}
-use Prim.Native.Nat.{ℕ, suc, _+_, _*_}
+use Prim.Native.Nat.{ℕ, suc}
 use lib.Dec.{eqb, ltb}
 use lib.ListN.{length, getD}
 use Rattle.refusals.specs.Verdict.{Verdict}
@@ -11,22 +11,13 @@ use Rattle.adv7194_bus.specs.Kind.{registerCount}
 use Rattle.adv7194_bus.specs.declared.board.Board.{Board}
 use Rattle.adv7194_bus.specs.Board.{knows}
 use Rattle.adv7194_captions.specs.Characters.{isOdd, characterIn}
-use Rattle.adv7194_captions.specs.Pairs.{extendedPair, captionField}
-use Rattle.adv7194_captions.specs.Plans.{pairSize}
+use Rattle.adv7194_captions.specs.Pairs.{pairRegister, captionField}
 
--- how many pairs there are
-abbrev pub pairCount : ℕ
-pairCount = 2
-
--- the first register of a pair, by its number
-abbrev pub pairRegister : ℕ → ℕ
-pairRegister pair = extendedPair + pairSize * pair
-
--- row n holds of the call
+-- row n holds of the call; there are two pairs
 unfoldable pub captionReadRow : Board → ℕ → ℕ → ℕ → Bool
 captionReadRow b pair n f =
     cond (eqb n 1) (not (eqb (length (b .registers)) registerCount))
-    (cond (eqb n 3) (not (ltb pair pairCount))
+    (cond (eqb n 3) (not (ltb pair 2))
     (cond (eqb n 11) (not (knows b (pairRegister pair) && knows b (suc (pairRegister pair))))
     (eqb n 4 && not (isOdd (getD (b .registers) (pairRegister pair) 0) && isOdd (getD (b .registers) (suc (pairRegister pair)) 0)))))
 

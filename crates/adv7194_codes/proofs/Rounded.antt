@@ -9,15 +9,15 @@ use lib.Dec.{T, ltb}
 use lib.IntN.{ℤ, pos, negsuc, negℤ, natAbs, _+ℤ_}
 use lib.Signed.{ltZ, nonNeg}
 use borrow.Author.Tests.{le-ltb, ltb-false}
-use Rattle.refusals.specs.Refusal.{accepted, refused, codeIn}
+use Rattle.refusals.specs.Refusal.{accepted, refused, valueOr}
 use Rattle.rounding.specs.Nearest.{nearest, Nearest, LeastMultiple}
 use Rattle.rounding.proofs.Rounding.{nearest-is, nearest-only, nearestb, nearest-by}
 use Rattle.rounding.proofs.Range.{both-l, both-r, eqZ, eqZ→eq}
 use Rattle.field_table.specs.declared.row.Row.{Row}
 use Rattle.field_table.specs.Coding.{nearestTimes, outside, codeOf, codeBy, encode, has, decode}
 use Rattle.field_table.specs.Walk.{bitsFit}
-use Rattle.adv7194_table.specs.Fields.{hue, inThousandths}
-use Rattle.adv7194_codes.specs.Thousandths.{UpTo}
+use Rattle.adv7194_table.specs.Fields.{hue}
+use Rattle.adv7194_codes.specs.Thousandths.{UpTo, inThousandths}
 use Rattle.field_table.proofs.Judging.{fits-inside, neither-l, neither-r}
 use Rattle.field_table.proofs.Decoding.{NearestZero, has-inside, has-code, code-has, no-code, decode-found, decode-outside}
 
@@ -131,7 +131,7 @@ hue-at (negsuc q) o =
     (decode-found hue (128 - suc q) (leastHue (negsuc q)) (hue-down (128 - suc q) ((900 * suc q + 61) / 512) (omega arith) (rw e (least-hue (suc q)))))
 
 -- the code of a hue is a byte
-pub hue-fits : (z : ℤ) → codeIn (encode hue z) < 2 ^ 8
+pub hue-fits : (z : ℤ) → valueOr 0 (encode hue z) < 2 ^ 8
 hue-fits = fits-inside hue byte
   where
     byte : (z : ℤ) → outside (hue .row) z ≡ false → codeOf hue z < 2 ^ 8
@@ -201,7 +201,7 @@ module _ (r : Row) (to : UpTo 1996 r) where
       none (negsuc m) = no-code (inThousandths r) c (negsuc m) (λ i e. never m i)
 
   -- its code is a byte
-  pub thousandths-fit : (z : ℤ) → codeIn (encode (inThousandths r) z) < 2 ^ r .width
+  pub thousandths-fit : (z : ℤ) → valueOr 0 (encode (inThousandths r) z) < 2 ^ r .width
   unfolding codeBy
   thousandths-fit = fits-inside (inThousandths r) (λ z o. let s = scaled z o in rw (to .width, sym (s .code)) (s .byte))
 

@@ -14,7 +14,7 @@ use Rattle.bits.proofs.CoverLaws.{allMasks, SameUnder, same-number}
 use Rattle.adv7194_bus.specs.Kind.{registerCount, readOnly}
 use Rattle.bits.proofs.Checks.{below, at-below}
 use Rattle.adv7194_table.specs.Fields.{timing, output, picture, dnr}
-use Rattle.adv7194_table.specs.Table.{singles, table}
+use Rattle.adv7194_table.specs.Table.{table}
 use Rattle.adv7194_table.specs.Masks.{maskWhere, ownMask, fieldMask, zeroMask, outsideMask, each}
 use Rattle.adv7194_table.specs.RawCodes.{ownBits, outsideBits}
 use Rattle.adv7194_table.proofs.MaskLaws.{none-read-only}
@@ -29,7 +29,7 @@ masksAt r = outsideMask r ∷ each (λ n. ownMask n r) 1 28
 
 -- all bits, at every register: the one test
 covers-all : T (below registerCount (λ r. eqb (allMasks (masksAt r)) 0xFF))
-unfolding below allMasks outsideMask fieldMask zeroMask ownMask maskWhere table singles timing output picture dnr
+unfolding below allMasks outsideMask fieldMask zeroMask ownMask maskWhere table timing output picture dnr
 covers-all = tt
 
 covers : (r : ℕ) → r < registerCount → allMasks (masksAt r) ≡ 0xFF

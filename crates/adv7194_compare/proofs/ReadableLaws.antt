@@ -6,12 +6,12 @@ use Prim.Native.Nat.{ℕ}
 use lib.Dec.{eqb}
 use lib.IntN.{ℤ}
 use lib.ListN.{length}
-use Rattle.refusals.specs.Verdict.{Verdict, good, refusedAt}
+use Rattle.refusals.specs.Verdict.{Verdict, good, refusedAt, leftBy}
 use Rattle.adv7194_bus.specs.Board.{boardOf, allKnown}
 use Rattle.adv7194_table.specs.Fields.{numberCount}
 use Rattle.adv7194_settings.specs.Held.{settingsHeld}
 use Rattle.adv7194_settings.specs.Rows.{judgeOf}
-use Rattle.adv7194_settings.specs.Reading.{readOf, leftBy, readLeft}
+use Rattle.adv7194_settings.specs.Reading.{readOf, readLeft}
 use Rattle.adv7194_settings.proofs.ReadingLaws.{read-known}
 use Rattle.adv7194_compare.specs.Compare.{isGood, whole, isTaken, takenInto}
 
@@ -27,7 +27,7 @@ taken-good image count = ap isGood (read-known image count) ∙ by (whole image)
     by true false v = refl
 
 -- the settings are left where the answer is good
-left-good : (image : List ℕ) (zs : List ℤ) (v : Verdict (Unit {0})) → leftBy image zs v ≡ cond (isGood v) (settingsHeld image) zs
+left-good : (image : List ℕ) (zs : List ℤ) (v : Verdict (Unit {0})) → leftBy zs (settingsHeld image) v ≡ cond (isGood v) (settingsHeld image) zs
 left-good image zs (good u) = refl
 left-good image zs (refusedAt n f) = refl
 

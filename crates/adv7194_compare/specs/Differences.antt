@@ -2,7 +2,7 @@
 -- compared. Equal images, register 34 excepted, have no difference, and only they do.
 use mathlib.Core.Path.{_≡_}
 use mathlib.Core.Bool.{Bool, not, cond, _&&_}
-use mathlib.Core.List.{List, [], _∷_}
+use mathlib.Core.List.{List, [], _∷_, foldr}
 use Prim.Native.Nat.{ℕ, _+_, _^_, _<_}
 use lib.Dec.{eqb}
 use lib.ListN.{length, getD}
@@ -14,8 +14,7 @@ use Rattle.adv7194_table.specs.RawCodes.{rawCode, outsideBits}
 
 -- those of some numbers that pass a test
 unfoldable pub those : (ℕ → Bool) → List ℕ → List ℕ
-those P [] = []
-those P (n ∷ ns) = cond (P n) (n ∷ those P ns) (those P ns)
+those P ns = foldr (λ n rest. cond (P n) (n ∷ rest) rest) [] ns
 
 -- field n differs: any of its bits does, must-be-zero bits too
 abbrev pub fieldDiffers : List ℕ → List ℕ → ℕ → Bool

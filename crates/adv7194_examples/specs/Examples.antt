@@ -11,6 +11,7 @@ use Rattle.adv7194_gamma.specs.Curve.{curveOf}
 use Rattle.adv7194_subcarrier.specs.declared.Standard.{Standard}
 use Rattle.adv7194_subcarrier.specs.declared.Standard.the-variants.{Ntsc, Pal}
 use Rattle.adv7194_subcarrier.specs.Subcarrier.{wordOf}
+use Rattle.adv7194_subcarrier.specs.Answers.{isPal}
 
 -- a worked example
 pub data Example : Type 0 where
@@ -28,7 +29,7 @@ abbrev pub Holds : Example → Type 0
 Holds (code f s c) = encode f s ≡ accepted c
 Holds (refusal f s n) = encode f s ≡ refused n
 Holds (curve p q bytes) = curveOf (pos p) (pos q) ≡ accepted bytes
-Holds (word standard square w) = wordOf standard square ≡ w
+Holds (word standard square w) = wordOf (isPal standard) square ≡ w
 
 -- every row of a table holds
 infixr 5 _and_

@@ -11,9 +11,10 @@ use lib.ListN.{length, getD}
 use lib.Signed.{nonNeg}
 use Rattle.refusals.specs.Refusal.{accepted, refused}
 use Rattle.rounding.proofs.Range.{both-l, both-r, below-at}
+use Rattle.field_table.specs.Blocks.{between}
 use Rattle.adv7194_gamma.specs.Power.{nearestPower, NearestPower}
-use Rattle.adv7194_gamma.specs.Curve.{places, byteAt, bytesOf, inRatio, curveOf, NearestByte, NearestBytes}
-use Rattle.adv7194_gamma.proofs.Nearest.{nearest-power}
+use Rattle.adv7194_gamma.specs.Curve.{places, bytesOf, curveOf, NearestByte, NearestBytes}
+use Rattle.adv7194_gamma.proofs.Nearest.{byteAt, nearest-power}
 
 -- what a number of 1 to 3 has: no sign, and its magnitude is 1 to 3
 pub record Inside (z : ℤ) : Type 0 where
@@ -21,17 +22,17 @@ pub record Inside (z : ℤ) : Type 0 where
   pub low : 0 < natAbs z
   pub high : natAbs z ≤ 3
 
-inside : (z : ℤ) → T (inRatio z) → Inside z
+inside : (z : ℤ) → T (between 1 3 z) → Inside z
 inside (pos n) t = record { sign = tt; low = leb→le 1 n (both-l (leb 1 n) _ t); high = leb→le n 3 (both-r (leb 1 n) _ t) }
 inside (negsuc n) t = absurd t
 
 -- p and q that both are
-module _ (p q : ℤ) (e : inRatio p && inRatio q ≡ true) where
+module _ (p q : ℤ) (e : between 1 3 p && between 1 3 q ≡ true) where
   pub p-inside : Inside p
-  p-inside = inside p (both-l (inRatio p) _ (subst T (sym e) tt))
+  p-inside = inside p (both-l (between 1 3 p) _ (subst T (sym e) tt))
 
   pub q-inside : Inside q
-  q-inside = inside q (both-r (inRatio p) _ (subst T (sym e) tt))
+  q-inside = inside q (both-r (between 1 3 p) _ (subst T (sym e) tt))
 
 -- an element of a list's images
 at-map : (f : ℕ → ℕ) (l : List ℕ) (k : ℕ) → k < length l → getD (map f l) k 0 ≡ f (getD l k 0)
@@ -47,7 +48,7 @@ nearest-byte p q n h hq =
     record { base = omega arith; nearest = subst (λ (k : ℕ). NearestPower (n - 16) p q k) same (nearest-power (n - 16) p q (omega arith) hq) }
 
 -- the answer where p and q are 1 to 3, from the ratio's bytes
-pub accepting : (p q : ℤ) (bytes : List ℕ) → inRatio p && inRatio q ≡ true → bytes ≡ bytesOf (natAbs p) (natAbs q)
+pub accepting : (p q : ℤ) (bytes : List ℕ) → between 1 3 p && between 1 3 q ≡ true → bytes ≡ bytesOf (natAbs p) (natAbs q)
     → (accepted bytes ≡ curveOf p q) × NearestBytes p q (accepted bytes)
 unfolding curveOf bytesOf
 accepting p q bytes both e = rw e (rw both, nearest)
@@ -58,6 +59,6 @@ accepting p q bytes both e = rw e (rw both, nearest)
         (nearest-byte (natAbs p) (natAbs q) (getD places k 0) (leb→le _ 240 (below-at (λ k. leb (getD places k 0) 240) 7 tt k h)) (q-inside p q both .low))
 
 -- the answer where one of them is not
-pub refusing : (p q : ℤ) → inRatio p && inRatio q ≡ false → refused 3 ≡ curveOf p q
+pub refusing : (p q : ℤ) → between 1 3 p && between 1 3 q ≡ false → refused 3 ≡ curveOf p q
 unfolding curveOf
 refusing p q e = rw e

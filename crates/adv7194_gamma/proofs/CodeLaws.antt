@@ -7,8 +7,9 @@ use native.Mathlib.Omega.{arith}
 use lib.IntN.{ℤ, pos}
 use lib.ListN.{getD, drop}
 use Rattle.refusals.specs.Refusal.{refused}
-use Rattle.field_table.specs.Blocks.{is, bytesFrom}
-use Rattle.adv7194_gamma.specs.Curve.{curveOf, bytesSet, curveCodes}
+use Rattle.field_table.specs.Blocks.{is, slice}
+use Rattle.adv7194_gamma.specs.Curve.{curveOf, curveCodes}
+use Rattle.adv7194_gamma.proofs.ByteLaws.{bytesSet}
 
 -- a ratio
 pub ratio-codes : (zs : List ℤ) → is 0 (getD zs 0 (pos 0)) ≡ true → curveCodes zs ≡ curveOf (getD zs 1 (pos 0)) (getD zs 2 (pos 0))
@@ -27,8 +28,8 @@ no-codes zs ratio bytes = rw (ratio, bytes)
 
 -- seven bytes of an image
 pub seven-from : (image : List ℕ) (r : ℕ)
-    → (let at : ℕ → ℕ = λ k. getD image k 0 in at r ∷ at (r + 1) ∷ at (r + 2) ∷ at (r + 3) ∷ at (r + 4) ∷ at (r + 5) ∷ at (r + 6) ∷ [] ≡ bytesFrom image r 7)
-unfolding bytesFrom
+    → (let at : ℕ → ℕ = λ k. getD image k 0 in at r ∷ at (r + 1) ∷ at (r + 2) ∷ at (r + 3) ∷ at (r + 4) ∷ at (r + 5) ∷ at (r + 6) ∷ [] ≡ slice 0 image r 7)
+unfolding slice
 seven-from image r =
     let e1 : r + 1 ≡ suc r = omega arith in
     let e2 : r + 2 ≡ suc (suc r) = omega arith in

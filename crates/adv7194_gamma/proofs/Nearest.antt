@@ -38,6 +38,10 @@ least : (x p q j : ℕ) → j < nearestPower x p q → belowHalf x p q j ≡ fal
 unfolding nearestPower
 least x p q j h = first-found (belowHalf x p q) 224 .least j (omega arith) h
 
+-- the byte at n of the ratio p/q
+abbrev pub byteAt : ℕ → ℕ → ℕ → ℕ
+byteAt p q n = 16 + nearestPower (n - 16) p q
+
 module _ (x p q : ℕ) (hx : x ≤ 224) (hq : 0 < q) where
   passes : belowHalf x p q (nearestPower x p q) ≡ true
   unfolding nearestPower

@@ -11,11 +11,11 @@ use lib.ListN.{length, getD, drop, length-drop}
 use borrow.Author.Tests.{le-leb}
 use Rattle.refusals.specs.Refusal.{accepted, refused}
 use Rattle.rounding.proofs.First.{flag}
-use Rattle.field_table.specs.Blocks.{is}
-use Rattle.adv7194_gamma.specs.Curve.{places, byteAt, bytesOf, inRatio, curveOf, allBytes, bytesSet, curveCodes, curveNumbers}
-use Rattle.adv7194_gamma.proofs.Nearest.{bounded}
+use Rattle.field_table.specs.Blocks.{is, between}
+use Rattle.adv7194_gamma.specs.Curve.{places, bytesOf, curveOf, allBytes, curveCodes, curveNumbers}
+use Rattle.adv7194_gamma.proofs.Nearest.{byteAt, bounded}
 use Rattle.adv7194_gamma.proofs.Answers.{q-inside}
-use Rattle.adv7194_gamma.proofs.ByteLaws.{Byte, byte-in, bytes-set, bytes-refused}
+use Rattle.adv7194_gamma.proofs.ByteLaws.{Byte, byte-in, bytesSet, bytes-set, bytes-refused}
 use Rattle.adv7194_gamma.proofs.CodeLaws.{ratio-codes, byte-codes, no-codes}
 
 -- seven bytes
@@ -44,9 +44,9 @@ places-low (suc (suc (suc (suc (suc (suc (suc i))))))) = omega arith
 
 ratio-seven : (p q : ℤ) (cs : List ℕ) → curveOf p q ≡ accepted cs → Seven cs
 unfolding curveOf bytesOf
-ratio-seven p q cs e = go (flag (inRatio p && inRatio q))
+ratio-seven p q cs e = go (flag (between 1 3 p && between 1 3 q))
   where
-    go : (inRatio p && inRatio q ≡ true) ⊎ (inRatio p && inRatio q ≡ false) → Seven cs
+    go : (between 1 3 p && between 1 3 q ≡ true) ⊎ (between 1 3 p && between 1 3 q ≡ false) → Seven cs
     go (inl t) =
         let same : map (byteAt (natAbs p) (natAbs q)) places ≡ cs = let c : curveOf p q ≡ accepted (map (byteAt (natAbs p) (natAbs q)) places) = rw t in cc in
         subst Seven same (record { size = refl; small = ratio-small (natAbs p) (natAbs q) (q-inside p q t .low) places places-low })
@@ -97,7 +97,6 @@ curve-seven zs cs h e = by (is 0 (getD zs 0 (pos 0))) (is 1 (getD zs 0 (pos 0)))
 -- ---- the numbers of a curve that is read
 
 read-bytes : (bytes : List ℕ) → ((i : ℕ) → getD bytes i 0 < 256) → allBytes (map pos bytes) ≡ true
-unfolding allBytes
 read-bytes [] small = refl
 read-bytes (b ∷ bs) small = rw (le-leb 0 b (omega arith), le-leb b 255 (omega (arith, small 0))) (read-bytes bs (λ i. small (suc i)))
 
@@ -120,9 +119,9 @@ unfolding curveOf
 curve-refused zs n e = by (is 0 (getD zs 0 (pos 0))) (is 1 (getD zs 0 (pos 0))) refl refl
   where
     of-ratio : (p q : ℤ) → curveOf p q ≡ refused n → n ≡ 3
-    of-ratio p q e = go (flag (inRatio p && inRatio q))
+    of-ratio p q e = go (flag (between 1 3 p && between 1 3 q))
       where
-        go : (inRatio p && inRatio q ≡ true) ⊎ (inRatio p && inRatio q ≡ false) → n ≡ 3
+        go : (between 1 3 p && between 1 3 q ≡ true) ⊎ (between 1 3 p && between 1 3 q ≡ false) → n ≡ 3
         go (inl t) =
             let c : curveOf p q ≡ accepted (bytesOf (natAbs p) (natAbs q)) = rw t in
             let z : _≡_ {A = ℕ} 0 1 = cc in

@@ -7,9 +7,9 @@ ghost use lib.Dec.{leb};
 ghost use lib.IntN.{natAbs};
 ghost use lib.ListN.{length, drop};
 ghost use Rattle.refusals.specs.Refusal.{accepted, refused};
-ghost use Rattle.field_table.specs.Blocks.{bytesFrom};
 ghost use Rattle.adv7194_gamma.specs.Curve.{allBytes, curveCodes};
 ghost use Rattle.adv7194_gamma.specs.Answer.{bytesIn, judged, curveReadAs};
+ghost use Rattle.field_table.specs.Blocks.{slice};
 use crate::Coded;
 use crate::Points;
 use crate::curve;
@@ -84,7 +84,7 @@ pub fn curve_code(numbers: &[i32]) -> Coded
 
 // The curve in the seven registers from this one on, or refusal 1.
 pub fn curve_setting(image: &[u8], register: usize) -> CurveRead
-    ensures answer { λ r. do ⌜ curveReadAs r ≡ cond (leb (register + 7) (← ⟦image.len()⟧ .entry)) (accepted (bytesFrom (now (image .entry)) register 7)) (refused 1) ⌝ }
+    ensures answer { λ r. do ⌜ curveReadAs r ≡ cond (leb (register + 7) (← ⟦image.len()⟧ .entry)) (accepted (slice 0 (now (image .entry)) register 7)) (refused 1) ⌝ }
 {
     if image.len() < BYTE_COUNT {
         return CurveRead::Refused(Refusal::ImageLength);

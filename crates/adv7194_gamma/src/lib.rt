@@ -1,8 +1,9 @@
 // The gamma curves of the ADV7194 that a ratio gives.
 ghost use mathlib.Core.Path.{_≡_};
 ghost use Prim.Native.Nat.{ℕ, _+_, _*_};
+ghost use Rattle.field_table.specs.Blocks.{between};
 ghost use Rattle.adv7194_gamma.specs.Power.{Ratio};
-ghost use Rattle.adv7194_gamma.specs.Curve.{bytesOf, inRatio, curveOf, NearestBytes};
+ghost use Rattle.adv7194_gamma.specs.Curve.{bytesOf, curveOf, NearestBytes};
 ghost use Rattle.adv7194_gamma.specs.Answer.{bytesIn, judged};
 use refusals::Refusal;
 
@@ -76,7 +77,7 @@ fn of_pair(pair: u32) -> Points
 
 // Whether a number is one of 1 to 3.
 fn inside(n: i32) -> bool
-    ensures answer { λ b. ⌜ b ≡ inRatio n ⌝ }
+    ensures answer { λ b. ⌜ b ≡ between 1 3 n ⌝ }
 {
     (FIRST <= n) & (n <= LAST)
 }

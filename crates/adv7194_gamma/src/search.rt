@@ -1,10 +1,9 @@
 // The byte of a gamma curve at one place, found by a search that halves the range of candidate bytes.
 ghost use mathlib.Core.Path.{_≡_};
 ghost use mathlib.Core.Bool.{cond};
-ghost use Prim.Native.Nat.{_^_, _≤_, _<_};
+ghost use Prim.Native.Nat.{_+_, _-_, _^_, _≤_, _<_};
 ghost use lib.Dec.{ltb};
-ghost use Rattle.adv7194_gamma.specs.Power.{belowHalf, Ratio};
-ghost use Rattle.adv7194_gamma.specs.Curve.{byteAt};
+ghost use Rattle.adv7194_gamma.specs.Power.{belowHalf, nearestPower, Ratio};
 
 // The black level, from which a curve's places and bytes count.
 const BLACK: u64 = 16;
@@ -56,7 +55,7 @@ fn choose(first: bool, lower: u32, upper: u32) -> u32
 // budget. A range is one number, and both halves are worked out before one is chosen: so the compiler can work out a whole search whose n, p and q it knows.
 pub fn byte_at(n: u64, p: u64, q: u64) -> u8
     requires { ⌜ (16 ≤ n) × (n ≤ 240) × Ratio p q ⌝ }
-    ensures answer { λ b. ⌜ b ≡ byteAt p q n ⌝ }
+    ensures answer { λ b. ⌜ b ≡ 16 + nearestPower (n - 16) p q ⌝ }
 {
     let x = n - BLACK;
     let mut range = ALL;

@@ -20,10 +20,11 @@ use Rattle.least_cost.proofs.Cheapest.{map-every}
 use Rattle.bus.proofs.After.{length-after}
 use Rattle.adv7194_least.specs.Aim.{Aim, must, compared}
 use Rattle.adv7194_least.specs.Change.{Change}
-use Rattle.adv7194_least.specs.Reaching.{MayHold, Clear, Within, Reaches}
+use Rattle.adv7194_least.specs.Reaching.{MayHold, Reaches}
 use Rattle.adv7194_least.specs.AllKnown.{KnownInFull, EndsIn, AsInFull}
 use Rattle.adv7194_least.proofs.Differing.{same-past}
 use Rattle.adv7194_least.proofs.Costs.{board-held}
+use Rattle.adv7194_least.proofs.Parts.{Clear, Within}
 
 -- a transaction that keeps the rules has no more data than there are registers
 rules-within : (t : Transaction) → Rules t → Within noLimit t

@@ -9,9 +9,9 @@ use lib.Dec.{T}
 use Rattle.rounding.proofs.First.{flag}
 use Rattle.rounding.proofs.Range.{below, below-at, imp, imp→, T→true}
 use Rattle.adv7194_table.specs.Fields.{timing, output, picture, dnr}
-use Rattle.adv7194_table.specs.Table.{singles, table}
+use Rattle.adv7194_table.specs.Table.{table}
 use Rattle.adv7194_table.specs.Masks.{maskWhere, fieldMask, zeroMask}
-use Rattle.bus.specs.Transactions.{Transaction, size, end, Touches, Touched, Every}
+use Rattle.bus.specs.Transactions.{Transaction, size, end, Touches, Touched}
 use Rattle.adv7194_bus.specs.Kind.{registerCount}
 use Rattle.least_cost.proofs.Attained.{Right}
 use Rattle.least_cost.proofs.Near.{near, AllNear, plan-near}
@@ -23,6 +23,7 @@ use Rattle.adv7194_least.proofs.TaskLaws.{need-other}
 use Rattle.adv7194_least.proofs.Differing.{must-settable, permits}
 use Rattle.adv7194_least.proofs.Keeping.{right-fits}
 use Rattle.adv7194_least.proofs.Reached.{task-sound, task-later, plan-right}
+use Rattle.bits.specs.Lists.{Every}
 
 -- ---- the registers that a plan can touch
 
@@ -36,7 +37,7 @@ nextTest r = imp (reachable r && near settable (suc r)) (reachable (suc r))
 
 -- it passes
 steps : T (below nextTest registerCount)
-unfolding reachable settable fieldMask zeroMask maskWhere table singles timing output picture dnr
+unfolding reachable settable fieldMask zeroMask maskWhere table timing output picture dnr
 steps = tt
 
 -- what follows a reachable register in a transaction is reachable

@@ -8,7 +8,7 @@ use Prim.Native.Nat.{ℕ, zero, suc, _^_, _<_}
 use native.Mathlib.Omega.{arith}
 use lib.ListN.{length, getD, set, length-set}
 use lib.Seq.{getD-set-same, getD-set-other}
-use Rattle.bus.specs.Transactions.{Transaction, Touches, Touched, Every, busBytes}
+use Rattle.bus.specs.Transactions.{Transaction, Touches, Touched, busBytes}
 use Rattle.bus.specs.Run.{after, idleAt}
 use Rattle.bus.proofs.Play.{touched-or-same}
 use Rattle.adv7194_bus.specs.Kind.{registerCount, adv7194}
@@ -24,13 +24,15 @@ use Rattle.least_cost.proofs.Spans.{spans-ascending, same-list}
 use Rattle.adv7194_least.specs.Aim.{Aim, must, compared}
 use Rattle.adv7194_least.specs.Change.{Change}
 use Rattle.adv7194_least.specs.Plan.{may, task, byteOf, planOf}
-use Rattle.adv7194_least.specs.Reaching.{MayHold, Clear, Within, Reaches}
+use Rattle.adv7194_least.specs.Reaching.{MayHold, Reaches}
 use Rattle.adv7194_least.specs.Demands.{Least, First}
 use Rattle.adv7194_least.proofs.Registers.{writable-from}
 use Rattle.adv7194_least.proofs.TaskLaws.{rules-writable, allowed, covers-task}
 use Rattle.bus.proofs.RegisterLaws.{not-both}
 use Rattle.adv7194_least.proofs.Differing.{must-settable, must-compared}
 use Rattle.adv7194_least.proofs.Reached.{rules-kept, plan-cheapest, plan-reaches}
+use Rattle.bits.specs.Lists.{Every}
+use Rattle.adv7194_least.proofs.Parts.{Clear, Within}
 
 -- ---- a byte that is not the wanted one
 

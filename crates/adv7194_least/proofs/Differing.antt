@@ -9,7 +9,7 @@ use lib.ListN.{getD, List·getD-eq-default}
 use borrow.Author.Tests.{ltb-true, ltb-false}
 use Rattle.rounding.proofs.Range.{below, below-at, imp, imp→, T→true}
 use Rattle.adv7194_table.specs.Fields.{timing, output, picture, dnr}
-use Rattle.adv7194_table.specs.Table.{singles, table}
+use Rattle.adv7194_table.specs.Table.{table}
 use Rattle.adv7194_table.specs.Masks.{maskWhere, fieldMask, zeroMask}
 use Rattle.bits.proofs.FlagLaws.{both-true}
 use Rattle.bus.specs.Registers.{differs}
@@ -30,7 +30,7 @@ fieldTest r = imp (settable r) (writable r)
 
 -- it passes
 fields-writable : T (below fieldTest registerCount)
-unfolding settable fieldMask zeroMask maskWhere table singles timing output picture dnr
+unfolding settable fieldMask zeroMask maskWhere table timing output picture dnr
 fields-writable = tt
 
 -- a register with a field or a must-be-zero bit may be written

@@ -3,7 +3,6 @@
 use mathlib.Core.Path.{_≡_, refl, _∙_}
 use Prim.Native.Nat.{_<_}
 use native.Mathlib.Omega.{arith}
-use Rattle.bus.specs.Transactions.{Every}
 use Rattle.adv7194_bus.specs.Limit.{noLimit}
 use Rattle.adv7194_bus.proofs.LimitLaws.{right-limit}
 use Rattle.least_cost.specs.Cheapest.{OnlyOne}
@@ -12,10 +11,11 @@ use Rattle.least_cost.proofs.Within.{greedy-within, plan-within, only-within}
 use Rattle.adv7194_least.specs.Aim.{Aim}
 use Rattle.adv7194_least.specs.Change.{Change}
 use Rattle.adv7194_least.specs.Plan.{may, taskFor, task, byteOf, planOf, joinedPlan}
-use Rattle.adv7194_least.specs.Reaching.{Within}
 use Rattle.adv7194_least.specs.Demands.{unlimited, RunsWithin, Only}
 use Rattle.adv7194_least.proofs.Reached.{task-sound, task-limited}
 use Rattle.adv7194_least.proofs.Costs.{reaches-does}
+use Rattle.bits.specs.Lists.{Every}
+use Rattle.adv7194_least.proofs.Parts.{Within}
 
 module _ (a : Aim) (χ : Change a) where
   -- a right limit is some

@@ -1,3 +1,4 @@
+pub mod Parts
 pub mod Registers
 pub mod TaskLaws
 pub mod Differing

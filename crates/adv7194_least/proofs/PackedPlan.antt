@@ -8,9 +8,9 @@ use lib.Dec.{T, leb, le→leb}
 use lib.ListN.{length}
 use Rattle.bits.proofs.FlagLaws.{both}
 use Rattle.refusals.specs.Refusal.{accepted}
-use Rattle.bus.specs.Transactions.{Transaction, end, Every, busBytes}
+use Rattle.bus.specs.Transactions.{Transaction, end, busBytes}
 use Rattle.packing.specs.Packing.{packed, encodable, arranged, ascending, behind, Packs}
-use Rattle.unpacking.specs.Unpacking.{unpack, Counted}
+use Rattle.unpacking.specs.Unpacking.{unpack, CountedBy}
 use Rattle.unpacking.proofs.Tests.{Encodable, encodable-from}
 use Rattle.unpacking.proofs.Exact.{round-trip, unpacks-packed}
 use Rattle.adv7194_bus.specs.Kind.{registerCount}
@@ -22,6 +22,7 @@ use Rattle.adv7194_least.proofs.Differing.{permits}
 use Rattle.adv7194_least.proofs.Keeping.{right-encodable}
 use Rattle.adv7194_least.proofs.Reached.{plan-each, plan-inside}
 use Rattle.adv7194_least.proofs.Costs.{plan-ascending}
+use Rattle.bits.specs.Lists.{Every}
 
 -- encodable transactions that ascend pass the packing's test
 ascends : (free : ℕ) (ts : List Transaction) → Ascending free ts → Every Encodable ts → T (ascending free ts)
@@ -46,5 +47,5 @@ module _ (a : Aim) (χ : Change a) where
   plan-packs = unpacks-packed behind (packed (planOf a)) (planOf a) plan-unpacks
 
   -- its numbers are the plan's
-  pub plan-counted : (let ts = planOf a in Counted (packed ts) (length (packed ts)) (length ts) (busBytes ts))
+  pub plan-counted : (let ts = planOf a in CountedBy behind (packed ts) (length (packed ts)) (length ts) (busBytes ts))
   plan-counted = record { list = planOf a; packs = plan-packs; size-is = refl; transactions-are = refl; bytes-are = refl }

@@ -8,7 +8,7 @@ use Prim.Native.Nat.{ℕ, _≤_, _<_}
 use native.Mathlib.Omega.{arith}
 use lib.ListN.{getD}
 use borrow.Author.Tests.{ne-eqb}
-use Rattle.bus.specs.Transactions.{Transaction, end, Touched, Every}
+use Rattle.bus.specs.Transactions.{Transaction, end, Touched}
 use Rattle.bus.specs.Run.{allAcknowledged, listEvents, after, idleAt}
 use Rattle.bus.proofs.Acknowledged.{Fits, acknowledged-list}
 use Rattle.adv7194_bus.specs.Kind.{registerCount, readOnly, adv7194}
@@ -24,12 +24,14 @@ use Rattle.least_cost.proofs.Ends.{Kept, ends-in}
 use Rattle.adv7194_least.specs.Aim.{Aim, must, compared}
 use Rattle.adv7194_least.specs.Change.{Change}
 use Rattle.adv7194_least.specs.Plan.{writable, may, taskFor, task, byteOf, planOf}
-use Rattle.adv7194_least.specs.Reaching.{MayHold, AsWanted, Clear, Within, Reaches}
+use Rattle.adv7194_least.specs.Reaching.{MayHold, AsWanted, Reaches}
 use Rattle.bits.proofs.FlagLaws.{both-true}
 use Rattle.adv7194_least.proofs.TaskLaws.{must-needed, sound, limited}
 use Rattle.bus.proofs.RegisterLaws.{differs-or-same}
 use Rattle.adv7194_least.proofs.Differing.{permits}
 use Rattle.adv7194_least.proofs.Keeping.{right-may, right-within, right-rules, right-fits}
+use Rattle.bits.specs.Lists.{Every}
+use Rattle.adv7194_least.proofs.Parts.{Clear, Within}
 
 -- what keeps the rules writes to registers that keep a byte
 pub rules-kept : (own : ℕ) (t : Transaction) → Rules t → Kept (adv7194 own) t

@@ -13,13 +13,14 @@ use Rattle.bits.proofs.FlagLaws.{first, second, holds, both-true}
 use Rattle.rounding.proofs.First.{flag}
 use Rattle.rounding.proofs.Range.{below, below-at, imp, imp→}
 use Rattle.adv7194_table.specs.Fields.{timing, output, picture, dnr}
-use Rattle.adv7194_table.specs.Table.{singles, table}
+use Rattle.adv7194_table.specs.Table.{table}
 use Rattle.adv7194_table.specs.Masks.{maskWhere, fieldMask, zeroMask}
-use Rattle.bus.specs.Transactions.{Transaction, size, end, Touches, Every, busBytes}
+use Rattle.bus.specs.Transactions.{Transaction, size, end, Touches, busBytes}
 use Rattle.bus.specs.Cost.{dataCount}
 use Rattle.bus.proofs.CostLaws.{bytes-count}
 use Rattle.bus.proofs.KnownLaws.{touchedBy, touched-agree}
-use Rattle.packing.specs.Packing.{packedBits, packed}
+use Rattle.packing.specs.Packing.{packed}
+use Rattle.packing.specs.Written.{packedBits}
 use Rattle.packing.proofs.PackedLaws.{packedBits-length, packed-length}
 use Rattle.adv7194_bus.specs.Kind.{registerCount}
 use Rattle.adv7194_bus.specs.Limit.{leastLimit}
@@ -32,13 +33,14 @@ use Rattle.adv7194_least.specs.Aim.{Aim, must, compared}
 use Rattle.adv7194_least.specs.Change.{settable, Change, Told}
 use Rattle.bus.specs.Registers.{among}
 use Rattle.adv7194_least.specs.Plan.{planOf}
-use Rattle.adv7194_least.specs.Reaching.{Clear, Within}
 use Rattle.adv7194_least.specs.Demands.{mostBits, mostBytes, wideLimit, wideBits, wideBytes}
 use Rattle.bus.proofs.RegisterLaws.{among-true}
 use Rattle.adv7194_least.proofs.Differing.{must-settable}
 use Rattle.adv7194_least.proofs.Reached.{plan-inside}
 use Rattle.adv7194_least.proofs.Bridges.{reachable, Reachable, plan-reachable}
 use Rattle.adv7194_least.proofs.Costs.{touching-no-dearer, plan-ascending}
+use Rattle.bits.specs.Lists.{Every}
+use Rattle.adv7194_least.proofs.Parts.{Clear, Within}
 
 -- the most data of a plan
 abbrev mostData : ℕ
@@ -82,7 +84,7 @@ count-span f a (suc m) h =
 
 -- so many registers can be touched
 most-data : count reachable registerCount ≡ mostData
-unfolding count reachable settable fieldMask zeroMask maskWhere table singles timing output picture dnr
+unfolding count reachable settable fieldMask zeroMask maskWhere table timing output picture dnr
 most-data = refl
 
 -- an ascending list of transactions that touch only such registers has no more data than there are
@@ -102,11 +104,11 @@ data-below (t ∷ ts) i h e r a =
 
 -- 1A and 1B can be set
 settable-1a : settable 0x1a ≡ true
-unfolding settable fieldMask zeroMask maskWhere table singles timing output picture dnr
+unfolding settable fieldMask zeroMask maskWhere table timing output picture dnr
 settable-1a = refl
 
 settable-1b : settable 0x1b ≡ true
-unfolding settable fieldMask zeroMask maskWhere table singles timing output picture dnr
+unfolding settable fieldMask zeroMask maskWhere table timing output picture dnr
 settable-1b = refl
 
 -- a transaction of zeros
@@ -146,19 +148,19 @@ record Serves (m : ℕ) (kind : ℕ → Bool) (ts : List Transaction) : Type 0 w
 
 -- so do these
 short-settable : Serves leastLimit settable (short 3)
-unfolding short allKeepRules keepsRules settable fieldMask zeroMask maskWhere table singles timing output picture dnr
+unfolding short allKeepRules keepsRules settable fieldMask zeroMask maskWhere table timing output picture dnr
 short-settable = record { rules = tt; sizes = tt; inside = tt; all = tt }
 
 short-plain : Serves leastLimit plain (short 1)
-unfolding short plain allKeepRules keepsRules settable fieldMask zeroMask maskWhere table singles timing output picture dnr
+unfolding short plain allKeepRules keepsRules settable fieldMask zeroMask maskWhere table timing output picture dnr
 short-plain = record { rules = tt; sizes = tt; inside = tt; all = tt }
 
 long-settable : Serves wideLimit settable (long 3)
-unfolding long allKeepRules keepsRules settable fieldMask zeroMask maskWhere table singles timing output picture dnr
+unfolding long allKeepRules keepsRules settable fieldMask zeroMask maskWhere table timing output picture dnr
 long-settable = record { rules = tt; sizes = tt; inside = tt; all = tt }
 
 long-plain : Serves wideLimit plain (long 1)
-unfolding long plain allKeepRules keepsRules settable fieldMask zeroMask maskWhere table singles timing output picture dnr
+unfolding long plain allKeepRules keepsRules settable fieldMask zeroMask maskWhere table timing output picture dnr
 long-plain = record { rules = tt; sizes = tt; inside = tt; all = tt }
 
 -- a list of transactions so long keeps any limit from there on

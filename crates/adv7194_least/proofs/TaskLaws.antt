@@ -9,7 +9,7 @@ use native.Mathlib.Omega.{arith}
 use lib.Dec.{ltb}
 use borrow.Author.Tests.{ltb-true, lt-ltb, not-false}
 use Rattle.rounding.proofs.First.{flag}
-use Rattle.bus.specs.Transactions.{Transaction, size, end, Touches, Touched, Every}
+use Rattle.bus.specs.Transactions.{Transaction, size, end, Touches, Touched}
 use Rattle.adv7194_bus.specs.Limit.{leastLimit}
 use Rattle.adv7194_bus.specs.Rules.{Rules}
 use Rattle.least_cost.specs.Task.{Allowed, Covers, Stop, Sound, Limited}
@@ -19,6 +19,7 @@ use Rattle.adv7194_least.specs.Plan.{writable, wordIn, withWord, taskFor
 use Rattle.bus.proofs.RegisterLaws.{among-true, among-in, among-out, among?}
 use Rattle.bits.proofs.FlagLaws.{both-true}
 use Rattle.adv7194_least.proofs.Registers.{Writable, writable-facts}
+use Rattle.bits.specs.Lists.{Every}
 
 -- the registers of a transaction that keeps the rules may be written
 pub rules-writable : (t : Transaction) → Rules t → (x : ℕ) → Touches t x → Writable x

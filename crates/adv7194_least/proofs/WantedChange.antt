@@ -18,13 +18,13 @@ use Rattle.adv7194_bus.specs.Board.{knows}
 use Rattle.adv7194_bus.specs.Limit.{limitRight}
 use Rattle.adv7194_table.specs.Blocks.{signalling}
 use Rattle.adv7194_table.specs.Fields.{timing, output, picture, dnr}
-use Rattle.adv7194_table.specs.Table.{signals, singles, table}
+use Rattle.adv7194_table.specs.Table.{signals, table}
 use Rattle.adv7194_table.specs.Masks.{maskWhere, fieldMask, zeroMask}
 use Rattle.adv7194_table.specs.Registers.{fieldCount}
-use Rattle.adv7194_settings.specs.Codes.{blockCodes, codesIn}
+use Rattle.adv7194_settings.specs.Codes.{blockCodes}
 use Rattle.adv7194_settings.specs.Wanted.{writesOf, wantedBy}
 use Rattle.adv7194_settings.specs.Demand.{fixedMask}
-use Rattle.adv7194_settings.specs.Known.{fixesSome, unknown, partlyFixed}
+use Rattle.adv7194_settings.specs.Known.{fixesSome, partlyFixed}
 use Rattle.adv7194_settings.proofs.FitLaws.{tableTest, settings-fit, wanted-bytes, wanted-length}
 use Rattle.adv7194_settings.proofs.FixedLaws.{none-fixed, found-byte, none-partly}
 use Rattle.adv7194_least.specs.Aim.{must, aimOf}
@@ -32,12 +32,14 @@ use Rattle.adv7194_least.specs.Change.{settable, Image, Change, Told}
 use Rattle.bus.specs.Registers.{among}
 use Rattle.adv7194_least.specs.Plan.{inWord}
 use Rattle.bus.proofs.RegisterLaws.{among-true, no-difference}
+use Rattle.refusals.specs.Refusal.{valueOr}
+use Rattle.adv7194_settings.proofs.Names.{unknown}
 
 -- ---- what is written
 
 -- the table's registers have such bits: a test over the masks
 table-settable : T (tableTest settable table)
-unfolding settable fieldMask zeroMask maskWhere table singles timing output picture dnr
+unfolding settable fieldMask zeroMask maskWhere table timing output picture dnr
 table-settable = tt
 
 -- ---- what is fixed
@@ -60,7 +62,7 @@ fixedTest cs r = imp (full cs r) (settable r) && (imp (inWord r) (full cs r) && 
 
 -- tests over the masks
 fixed-tests : (cs : List ℕ) → T (below (fixedTest cs) registerCount)
-unfolding fixedMask settable fieldMask zeroMask maskWhere table singles timing output picture dnr
+unfolding fixedMask settable fieldMask zeroMask maskWhere table timing output picture dnr
 fixed-tests [] = tt
 fixed-tests (c ∷ cs) = tt
 
@@ -110,7 +112,7 @@ module _ (cs : List ℕ) where
 
 -- the codes of field 11
 abbrev signalCodes : List ℤ → List ℕ
-signalCodes zs = codesIn (blockCodes zs signals signalling)
+signalCodes zs = valueOr [] (blockCodes zs signals signalling)
 
 module _ (b : Board) (zs : List ℤ) (limit : ℕ) (i : Image (b .registers)) where
   -- the wanted image of any settings, with a right limit

@@ -6,7 +6,7 @@ use mathlib.Core.Bool.{true}
 use mathlib.Core.List.{List}
 use Prim.Native.Nat.{ℕ, _<_}
 use Rattle.bus.specs.Registers.{differs}
-use Rattle.bus.specs.Transactions.{Transaction, Every}
+use Rattle.bus.specs.Transactions.{Transaction}
 use Rattle.bus.specs.Run.{run, listEvents, idleAt}
 use Rattle.adv7194_bus.specs.declared.board.Board.{Board}
 use Rattle.adv7194_bus.specs.Board.{knows}
@@ -14,6 +14,7 @@ use Rattle.adv7194_bus.specs.Kind.{registerCount, adv7194}
 use Rattle.adv7194_bus.specs.Rules.{Rules}
 use Rattle.adv7194_least.specs.Aim.{Aim, must, compared}
 use Rattle.adv7194_least.specs.Reaching.{Reaches}
+use Rattle.bits.specs.Lists.{Every}
 
 -- all of a board's registers are known
 abbrev pub KnownInFull : Board → Type 0

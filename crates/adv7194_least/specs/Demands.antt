@@ -6,12 +6,13 @@ use mathlib.Core.Logic.{_⊎_}
 use mathlib.Core.List.{List}
 use Prim.Native.Nat.{ℕ, _≤_, _<_}
 use lib.ListN.{length}
-use Rattle.bus.specs.Transactions.{Transaction, Every, busBytes}
+use Rattle.bus.specs.Transactions.{Transaction, busBytes, size}
 use Rattle.least_cost.specs.Order.{NoDearer, Ascending, IsPlan}
 use Rattle.adv7194_bus.specs.Limit.{noLimit}
 use Rattle.adv7194_least.specs.Aim.{Aim}
 use Rattle.adv7194_least.specs.Plan.{planOf}
-use Rattle.adv7194_least.specs.Reaching.{Within, Reaches}
+use Rattle.adv7194_least.specs.Reaching.{Reaches}
+use Rattle.bits.specs.Lists.{Every}
 
 -- demand 3: no list that keeps the rules and ends in the wanted image has fewer bus bytes, or as many and fewer transactions
 unfoldable pub Least : Aim → ℕ → ℕ → Type 0
@@ -30,7 +31,7 @@ unlimited a = record { board = a .board; wanted = a .wanted; fixes = a .fixes; l
 
 -- no run of registers is longer than the limit: the plan without a limit keeps it
 abbrev pub RunsWithin : Aim → Type 0
-RunsWithin a = Every (Within (a .limit)) (planOf (unlimited a))
+RunsWithin a = Every (λ (t : Transaction). size t ≤ a .limit) (planOf (unlimited a))
 
 -- where no run is longer than the limit, and so with 54, every ascending one that costs no more is the list
 pub record Only (a : Aim) (ts : List Transaction) : Type 0 where

@@ -6,13 +6,14 @@ use mathlib.Core.Bool.{true}
 use mathlib.Core.List.{List}
 use Prim.Native.Nat.{ℕ, _≤_, _<_, _^_}
 use lib.ListN.{length, getD}
-use Rattle.bus.specs.Transactions.{Transaction, size, Touches, Every}
+use Rattle.bus.specs.Transactions.{Transaction, size, Touches}
 use Rattle.bus.specs.Run.{idleAt, run, listEvents}
 use Rattle.adv7194_bus.specs.declared.board.Board.{Board}
 use Rattle.adv7194_bus.specs.Board.{knows}
 use Rattle.adv7194_bus.specs.Kind.{registerCount, adv7194}
 use Rattle.adv7194_bus.specs.Rules.{Rules}
 use Rattle.adv7194_least.specs.Aim.{Aim, compared}
+use Rattle.bits.specs.Lists.{Every}
 
 -- what a chip may hold of which a board is known: a byte a register, and the board's in those that are known
 pub record MayHold (b : Board) (image : List ℕ) : Type 0 where
@@ -24,18 +25,10 @@ pub record MayHold (b : Board) (image : List ℕ) : Type 0 where
 abbrev pub AsWanted : Aim → List ℕ → Type 0
 AsWanted a registers = (r : ℕ) → r < registerCount → compared a r ≡ true → getD registers r 0 ≡ getD (a .wanted) r 0
 
--- a transaction touches no unknown register that isn't needed
-abbrev pub Clear : Aim → Transaction → Type 0
-Clear a t = (r : ℕ) → Touches t r → compared a r ≡ true
-
--- a transaction has no more data than a limit
-abbrev pub Within : ℕ → Transaction → Type 0
-Within limit t = size t ≤ limit
-
 -- a list keeps the three rules and the limit, touches no unknown register that isn't needed and, written to the chip's own address, ends in the wanted
 -- registers, whatever the unknown ones held
 pub record Reaches (own pointer : ℕ) (a : Aim) (ts : List Transaction) : Type 0 where
   pub rules : Every Rules ts
-  pub limited : Every (Within (a .limit)) ts
-  pub clear : Every (Clear a) ts
+  pub limited : Every (λ (t : Transaction). size t ≤ a .limit) ts
+  pub clear : Every (λ (t : Transaction). (r : ℕ) → Touches t r → compared a r ≡ true) ts
   pub ends : (image : List ℕ) → MayHold (a .board) image → AsWanted a (run (adv7194 own) (idleAt pointer image) (listEvents own ts) .registers)

@@ -1,7 +1,7 @@
 -- Laws of signalling's and curves' text: the templates that the kinds choose, filled, are the texts. Assumes nothing.
 use mathlib.Core.Path.{_≡_, refl, ap, ap₂, _∙_}
 use mathlib.Core.Bool.{Bool, true, false, cond}
-use mathlib.Core.List.{List, [], _++_, append-nil}
+use mathlib.Core.List.{List, [], _++_, append-nil, flatMap}
 use Prim.Native.Nat.{ℕ, zero, suc, _+_, _≤_}
 use native.Mathlib.Nat.{add-zero}
 use native.Mathlib.Omega.{arith}
@@ -9,7 +9,7 @@ use lib.IntN.{ℤ, pos}
 use lib.ListN.{getD, drop}
 use lib.Seq.{getD-drop, drop-drop}
 use Rattle.text.specs.Text.{space, signed}
-use Rattle.field_table.specs.Blocks.{is}
+use Rattle.field_table.specs.Blocks.{is, slice}
 use Rattle.writing.specs.Ascii.{ascii}
 use Rattle.writing.specs.Codes.{code}
 use Rattle.template.specs.Columns.{columnIn}
@@ -17,7 +17,7 @@ use Rattle.template.specs.Template.{standsFor, filled, widths}
 use Rattle.adv7194_names.specs.Widths.{signallingWidth, curveWidth}
 use Rattle.adv7194_names.specs.Values.{number}
 use Rattle.adv7194_lines.specs.declared.kinds.Template.{Template}
-use Rattle.adv7194_lines.specs.Kinds.{numberAt, cgmsText, signallingText, ratioText, bytesText, sevenText, curveText}
+use Rattle.adv7194_lines.specs.Kinds.{numberAt, cgmsText, signallingText, curveText}
 use Rattle.adv7194_lines.specs.Templates.{signallingTable, signallingTemplate, curveTable, curveTemplate}
 
 -- a template
@@ -38,8 +38,8 @@ abbrev bytesOf : List ℤ → ℕ → List ℕ
 bytesOf ys zero = []
 bytesOf ys (suc n) = space ++ code (getD ys 0 (pos 0)) ++ bytesOf (drop 1 ys) n
 
-bytes-from : (zs : List ℤ) (n k : ℕ) → bytesOf (drop k zs) n ≡ bytesText zs k n
-unfolding bytesText
+bytes-from : (zs : List ℤ) (n k : ℕ) → bytesOf (drop k zs) n ≡ flatMap (λ z. space ++ code z) (slice (pos 0) zs k n)
+unfolding flatMap slice
 bytes-from zs zero k = refl
 bytes-from zs (suc n) k =
     let one : k + 1 ≡ suc k = omega arith in
@@ -49,6 +49,13 @@ bytes-from zs (suc n) k =
 -- ---- the templates filled
 
 module _ (zs : List ℤ) (k : ℕ) where
+  -- a curve's ratio, and its seven bytes
+  abbrev ratioText : List ℕ
+  ratioText = number "ratio " (numberAt zs (k + 1)) ++ number "/" (numberAt zs (k + 2))
+
+  abbrev sevenText : List ℕ
+  sevenText = code (numberAt zs (k + 3)) ++ flatMap (λ z. space ++ code z) (slice (pos 0) zs (k + 4) 6)
+
   plain : filled (ascii "%") (drop (k + 0) zs) ≡ signed (numberAt zs k)
   unfolding filled standsFor
   plain = append-nil (signed (getD (drop (k + 0) zs) 0 (pos 0))) ∙ ap signed (first-of zs (k + 0) ∙ ap (numberAt zs) (add-zero k))
@@ -57,15 +64,15 @@ module _ (zs : List ℤ) (k : ℕ) where
   unfolding filled standsFor
   wss = ap (λ (t : List ℕ). ascii "WSS " ++ t) (append-nil (signed (getD (drop (k + 1) zs) 0 (pos 0))) ∙ ap signed (first-of zs (k + 1)))
 
-  ratio : filled (ascii "ratio %/%") (drop (k + 1) zs) ≡ ratioText zs k
-  unfolding filled standsFor ratioText
+  ratio : filled (ascii "ratio %/%") (drop (k + 1) zs) ≡ ratioText
+  unfolding filled standsFor
   ratio =
       let two : k + 1 + 1 ≡ k + 2 = omega arith in
       ap₂ (λ (x y : List ℕ). (ascii "ratio " ++ x) ++ (ascii "/" ++ y)) (ap signed (first-of zs (k + 1)))
       (append-nil (signed (getD (drop 1 (drop (k + 1) zs)) 0 (pos 0))) ∙ ap signed (next-of zs (k + 1) (k + 2) two))
 
-  seven : filled (ascii "# # # # # # #") (drop (k + 3) zs) ≡ sevenText zs k
-  unfolding filled standsFor sevenText
+  seven : filled (ascii "# # # # # # #") (drop (k + 3) zs) ≡ sevenText
+  unfolding filled standsFor
   seven =
       let four : k + 3 + 1 ≡ k + 4 = omega arith in
       ap₂ (λ (z : ℤ) (t : List ℕ). code z ++ t) (first-of zs (k + 3))
@@ -95,7 +102,7 @@ module _ (zs : List ℤ) (k : ℕ) where
   curve-filled = split (is 0 (numberAt zs k)) (is 1 (numberAt zs k))
     where
       split : (a b : Bool) → (let t = cond a (chosen 0 1) (cond b (chosen 1 3) (chosen 2 0)) in
-          filled (columnIn curveTable (t .column)) (drop (k + t .skipped) zs) ≡ cond a (ratioText zs k) (cond b (sevenText zs k) (signed (numberAt zs k))))
+          filled (columnIn curveTable (t .column)) (drop (k + t .skipped) zs) ≡ cond a ratioText (cond b sevenText (signed (numberAt zs k))))
       split true b = ratio
       split false true = seven
       split false false = plain

@@ -1,6 +1,6 @@
 -- Laws of lines: their parts in a row, which entries of the table have one, and the lines of rows that are packed in numbers. Assumes nothing.
 use mathlib.Core.Path.{_≡_, refl, sym, ap, ap₂, _∙_}
-use mathlib.Core.List.{List, [], _∷_, _++_, append-assoc, append-nil}
+use mathlib.Core.List.{List, [], _∷_, _++_, append-assoc, append-nil, map, flatMap}
 use Prim.Native.Nat.{ℕ, zero, suc, _+_, _≤_, _<_}
 use native.Mathlib.Numerals.{add-one}
 use native.Mathlib.Omega.{arith}
@@ -15,14 +15,14 @@ use Rattle.field_table.specs.Coding.{Field, plainOf, plainFields}
 use Rattle.field_table.specs.Walk.{given}
 use Rattle.adv7194_table.specs.Fields.{numberCount, timing, pedestal, output, picture, dnr}
 use Rattle.adv7194_table.specs.Blocks.{signalling, curveA, curveB, word}
-use Rattle.adv7194_table.specs.Table.{Entry, single, whole, signals, curve, subcarrier, singles, table, singleFields, rowsIn, rowsOf}
+use Rattle.adv7194_table.specs.Table.{Entry, single, whole, signals, curve, subcarrier, table, singleFields, rowsIn, rowsOf}
 use Rattle.writing.specs.Put.{Put}
 use Rattle.writing.proofs.Putting.{more, wider}
 use Rattle.adv7194_names.specs.Names.{named}
 use Rattle.adv7194_names.specs.Values.{numberText}
 use Rattle.adv7194_names.specs.Widths.{curveWidth, labelWidth, lineWidth}
 use Rattle.adv7194_lines.specs.Lines.{labelText}
-use Rattle.adv7194_lines.specs.Lines.{lineOf, linesOf}
+use Rattle.adv7194_lines.specs.Lines.{lineOf}
 
 -- a line in its four parts: number and name, a space, the setting, the line end
 pub composed : {n : ℕ} {line : List ℕ} {at : ℕ} {label value l1 l2 l3 l4 : List ℕ} {p1 p2 p3 p4 : ℕ} → Put labelWidth line at label l1 p1
@@ -47,32 +47,33 @@ module _ (zs : List ℤ) {r : Row} (s : Row) (e : r ≡ s) where
 
 -- one row more
 row-more : (zs : List ℤ) (ps : List ℕ) (p : ℕ)
-    → linesOf zs (singles (plainFields ps) []) ++ lineOf zs (single (plainOf (rowOf p))) ≡ linesOf zs (singles (plainFields (ps ++ (p ∷ []))) [])
-unfolding linesOf singles plainFields
+    → flatMap (lineOf zs) (map single (plainFields ps)) ++ lineOf zs (single (plainOf (rowOf p)))
+    ≡ flatMap (lineOf zs) (map single (plainFields (ps ++ (p ∷ []))))
+unfolding flatMap plainFields
 row-more zs [] p = sym (append-nil (lineOf zs (single (plainOf (rowOf p)))))
 row-more zs (q ∷ ps) p =
-    append-assoc (lineOf zs (single (plainOf (rowOf q)))) (linesOf zs (singles (plainFields ps) [])) (lineOf zs (single (plainOf (rowOf p))))
+    append-assoc (lineOf zs (single (plainOf (rowOf q)))) (flatMap (lineOf zs) (map single (plainFields ps))) (lineOf zs (single (plainOf (rowOf p))))
     ∙ ap (λ (t : List ℕ). lineOf zs (single (plainOf (rowOf q))) ++ t) (row-more zs ps p)
 
 pub rows-more : (zs : List ℤ) (ps : List ℕ) (i : ℕ) → i < length ps
-    → linesOf zs (singles (plainFields (take i ps)) []) ++ lineOf zs (single (plainOf (rowOf (getD ps i 0))))
-    ≡ linesOf zs (singles (plainFields (take (i + 1) ps)) [])
+    → flatMap (lineOf zs) (map single (plainFields (take i ps))) ++ lineOf zs (single (plainOf (rowOf (getD ps i 0))))
+    ≡ flatMap (lineOf zs) (map single (plainFields (take (i + 1) ps)))
 rows-more zs ps i h =
     row-more zs (take i ps) (getD ps i 0)
-    ∙ ap (λ (qs : List ℕ). linesOf zs (singles (plainFields qs) [])) (sym (take-suc ps i 0 h) ∙ ap (λ (j : ℕ). take j ps) (sym (add-one i)))
+    ∙ ap (λ (qs : List ℕ). flatMap (lineOf zs) (map single (plainFields qs))) (sym (take-suc ps i 0 h) ∙ ap (λ (j : ℕ). take j ps) (sym (add-one i)))
 
 -- ---- the lines of the table
 
 -- a line is its row's alone: packed rows have the lines of fields with the same rows
 same-lines : (zs : List ℤ) (fs : List Field) (ps : List ℕ) (es : List Entry) → rowsOf ps ≡ rowsIn fs
-    → linesOf zs (singles fs es) ≡ linesOf zs (singles (plainFields ps) []) ++ linesOf zs es
-unfolding linesOf singles plainFields rowsOf rowsIn
+    → flatMap (lineOf zs) (map single fs ++ es) ≡ flatMap (lineOf zs) (map single (plainFields ps)) ++ flatMap (lineOf zs) es
+unfolding flatMap plainFields rowsOf rowsIn
 same-lines zs [] [] es e = refl
 same-lines zs (f ∷ fs) (p ∷ ps) es e =
     let first : f .row ≡ rowOf p = cc in
     let rest : rowsOf ps ≡ rowsIn fs = cc in
     ap₂ (λ (r : Row) (t : List ℕ). lineOf zs (single (plainOf r)) ++ t) first (same-lines zs fs ps es rest)
-    ∙ sym (append-assoc (lineOf zs (single (plainOf (rowOf p)))) (linesOf zs (singles (plainFields ps) [])) (linesOf zs es))
+    ∙ sym (append-assoc (lineOf zs (single (plainOf (rowOf p)))) (flatMap (lineOf zs) (map single (plainFields ps))) (flatMap (lineOf zs) es))
 same-lines zs [] (p ∷ ps) es e = cc
 same-lines zs (f ∷ fs) [] es e = cc
 
@@ -104,28 +105,29 @@ back = picture ++ dnr
 
 -- the table, in its parts
 in-parts : table
-    ≡ singles front (whole signals signalling ∷ singles back (whole curve curveA ∷ whole curve curveB ∷ whole subcarrier word ∷ []))
-unfolding table singles front back timing output picture dnr
+    ≡ map single front ++ (whole signals signalling ∷ (map single back ++ (whole curve curveA ∷ whole curve curveB ∷ whole subcarrier word ∷ [])))
+unfolding table front back timing output picture dnr
 in-parts = refl
 
 front-rows : take 10 (rowsIn (singleFields table)) ≡ rowsIn front
-unfolding table singles singleFields rowsIn front back timing output picture dnr
+unfolding table singleFields rowsIn front back timing output picture dnr
 front-rows = refl
 
 back-rows : take 16 (drop 10 (rowsIn (singleFields table))) ≡ rowsIn back
-unfolding table singles singleFields rowsIn front back timing output picture dnr
+unfolding table singleFields rowsIn front back timing output picture dnr
 back-rows = refl
 
 -- the lines of the table are those of its parts, one after the other
 pub table-lines : (zs : List ℤ) (ps : List ℕ) → rowsOf ps ≡ rowsIn (singleFields table)
-    → linesOf zs (singles (plainFields (take 10 ps)) []) ++ lineOf zs (whole signals signalling) ++ linesOf zs (singles (plainFields (take 16 (drop 10 ps))) [])
+    → flatMap (lineOf zs) (map single (plainFields (take 10 ps))) ++ lineOf zs (whole signals signalling)
+    ++ flatMap (lineOf zs) (map single (plainFields (take 16 (drop 10 ps))))
     ++ lineOf zs (whole curve curveA) ++ lineOf zs (whole curve curveB)
-    ≡ linesOf zs table
-unfolding linesOf
+    ≡ flatMap (lineOf zs) table
+unfolding flatMap
 table-lines zs ps e =
-    let f = linesOf zs (singles (plainFields (take 10 ps)) []) in
+    let f = flatMap (lineOf zs) (map single (plainFields (take 10 ps))) in
     let s = lineOf zs (whole signals signalling) in
-    let b = linesOf zs (singles (plainFields (take 16 (drop 10 ps))) []) in
+    let b = flatMap (lineOf zs) (map single (plainFields (take 16 (drop 10 ps)))) in
     let a = lineOf zs (whole curve curveA) in
     let c = lineOf zs (whole curve curveB) in
     let first : rowsOf (take 10 ps) ≡ rowsIn front = take-rows 10 ps ∙ ap (take 10) e ∙ front-rows in
@@ -135,5 +137,5 @@ table-lines zs ps e =
     let regroup : f ++ s ++ b ++ a ++ c ≡ f ++ (s ++ (b ++ (a ++ (c ++ [])))) = simp (append-assoc, append-nil) in
     regroup
     ∙ ap (λ (t : List ℕ). f ++ (s ++ t)) (sym (same-lines zs back (take 16 (drop 10 ps)) curves second))
-    ∙ sym (same-lines zs front (take 10 ps) (whole signals signalling ∷ singles back curves) first)
-    ∙ ap (linesOf zs) (sym in-parts)
+    ∙ sym (same-lines zs front (take 10 ps) (whole signals signalling ∷ (map single back ++ curves)) first)
+    ∙ ap (flatMap (lineOf zs)) (sym in-parts)

@@ -1,12 +1,12 @@
 -- Document 01, "Fields, in their fixed order": how the setting of any field is written, those that have kinds too.
 use mathlib.Core.Bool.{cond}
-use mathlib.Core.List.{List, [], _++_}
-use Prim.Native.Nat.{ℕ, zero, suc, _+_}
+use mathlib.Core.List.{List, [], _++_, flatMap}
+use Prim.Native.Nat.{ℕ, _+_}
 use lib.IntN.{ℤ, pos}
 use lib.ListN.{getD}
 use Rattle.text.specs.Text.{space, signed}
 use Rattle.field_table.specs.Walk.{given}
-use Rattle.field_table.specs.Blocks.{is}
+use Rattle.field_table.specs.Blocks.{is, slice}
 use Rattle.adv7194_table.specs.Table.{Content, signals, curve, subcarrier, Entry, single, whole}
 use Rattle.writing.specs.Ascii.{ascii}
 use Rattle.adv7194_names.specs.Names.{named}
@@ -34,24 +34,12 @@ signallingText zs k =
 
 -- ---- a gamma curve: ten numbers from index k on
 
--- a ratio
-unfoldable pub ratioText : List ℤ → ℕ → List ℕ
-ratioText zs k = number "ratio " (numberAt zs (k + 1)) ++ number "/" (numberAt zs (k + 2))
-
--- n bytes from index k on, each after a space
-unfoldable pub bytesText : List ℤ → ℕ → ℕ → List ℕ
-bytesText zs k zero = []
-bytesText zs k (suc n) = space ++ code (numberAt zs k) ++ bytesText zs (suc k) n
-
--- seven bytes
-unfoldable pub sevenText : List ℤ → ℕ → List ℕ
-sevenText zs k = code (numberAt zs (k + 3)) ++ bytesText zs (k + 4) 6
-
--- a ratio or seven bytes
+-- a ratio, or seven bytes with a space between
 unfoldable pub curveText : List ℤ → ℕ → List ℕ
 curveText zs k =
-    cond (is 0 (numberAt zs k)) (ratioText zs k)
-    (cond (is 1 (numberAt zs k)) (sevenText zs k) (signed (numberAt zs k)))
+    cond (is 0 (numberAt zs k)) (number "ratio " (numberAt zs (k + 1)) ++ number "/" (numberAt zs (k + 2)))
+    (cond (is 1 (numberAt zs k)) (code (numberAt zs (k + 3)) ++ flatMap (λ z. space ++ code z) (slice (pos 0) zs (k + 4) 6))
+    (signed (numberAt zs k)))
 
 -- ---- any field
 

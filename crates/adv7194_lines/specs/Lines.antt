@@ -1,7 +1,7 @@
 -- Document 01, "What the build must be and follow": the base lists settings. A line a field: the number, the name and the setting in its own unit, one space
 -- between.
 use mathlib.Core.Bool.{Bool, cond}
-use mathlib.Core.List.{List, [], _∷_, _++_}
+use mathlib.Core.List.{List, [], _++_}
 use Prim.Native.Nat.{ℕ}
 use lib.Dec.{ltb}
 use lib.IntN.{ℤ}
@@ -24,8 +24,3 @@ listed (whole c b) = ltb 0 (b .numbers)
 -- its line
 abbrev pub lineOf : List ℤ → Entry → List ℕ
 lineOf zs e = cond (listed e) (labelText (fieldOf e) ++ space ++ valueText zs e ++ lineEnd) []
-
--- the lines of some entries
-unfoldable pub linesOf : List ℤ → List Entry → List ℕ
-linesOf zs [] = []
-linesOf zs (e ∷ es) = lineOf zs e ++ linesOf zs es

@@ -13,19 +13,19 @@ use field_table::given;
 use field_table::row::row_of;
 use text::put;
 use writing::put_decimal;
-ghost use mathlib.Core.List.{[], _++_};
+ghost use mathlib.Core.List.{_++_, map, flatMap};
 ghost use Prim.Native.Nat.{_+_, _*_, _≤_};
 ghost use lib.ListN.{length};
 ghost use Rattle.text.specs.Text.{space, lineEnd};
 ghost use Rattle.field_table.specs.Rows.{rowOf};
 ghost use Rattle.field_table.specs.Coding.{plainOf, plainFields};
 ghost use Rattle.adv7194_table.specs.Blocks.{blockOf, signalling};
-ghost use Rattle.adv7194_table.specs.Table.{single, whole, singles, signals, table};
+ghost use Rattle.adv7194_table.specs.Table.{single, whole, signals, table};
 ghost use Rattle.writing.specs.Put.{Put};
 ghost use Rattle.adv7194_names.specs.Widths.{labelWidth, lineWidth, textWidth};
 ghost use Rattle.adv7194_lines.specs.Kinds.{curveText};
 ghost use Rattle.adv7194_lines.specs.Lines.{labelText};
-ghost use Rattle.adv7194_lines.specs.Lines.{lineOf, linesOf};
+ghost use Rattle.adv7194_lines.specs.Lines.{lineOf};
 
 // How many numbers the settings have; must-be-zero bits have an index past them.
 pub const NUMBERS: usize = 49;
@@ -63,7 +63,7 @@ fn row_line(line: &mut [u8], at: usize, numbers: &[i32], packed: u64) -> usize
 // Writes the lines of some rows.
 fn row_lines(line: &mut [u8], at: usize, numbers: &[i32], rows: &[u64]) -> usize
     requires { ⌜ at + lineWidth * length (now rows) ≤ length (now line) ⌝ }
-    ensures written { λ r. ⌜ Put (lineWidth * length (now (rows .entry))) (now (line .entry)) at (linesOf (now (numbers .entry)) (singles (plainFields (now (rows .entry))) [])) (now (line .exit)) r ⌝ }
+    ensures written { λ r. ⌜ Put (lineWidth * length (now (rows .entry))) (now (line .entry)) at (flatMap (lineOf (now (numbers .entry))) (map single (plainFields (now (rows .entry))))) (now (line .exit)) r ⌝ }
 {
     let mut place = at;
     let mut i: usize = 0;
@@ -101,7 +101,7 @@ fn curve_line(line: &mut [u8], at: usize, numbers: &[i32], packed: u64) -> usize
 // Writes the lines of all settings, in the table's order.
 pub fn setting_lines(line: &mut [u8], numbers: &[i32]) -> usize
     requires { ⌜ textWidth ≤ length (now line) ⌝ }
-    ensures written { λ r. ⌜ Put textWidth (now (line .entry)) 0 (linesOf (now (numbers .entry)) table) (now (line .exit)) r ⌝ }
+    ensures written { λ r. ⌜ Put textWidth (now (line .entry)) 0 (flatMap (lineOf (now (numbers .entry))) table) (now (line .exit)) r ⌝ }
 {
     let table = rows();
     let front = row_lines(line, 0, numbers, &table[0..FRONT]);

@@ -19,14 +19,14 @@ use Rattle.refusals.specs.Refusal.{numberOf}
 use Rattle.field_table.specs.declared.row.Row.{Row}
 use Rattle.field_table.specs.Rows.{rowOf}
 use Rattle.adv7194_table.specs.Fields.{timing, output, picture, dnr}
-use Rattle.adv7194_table.specs.Table.{singles, table, singleFields, rowsIn, rowsOf}
+use Rattle.adv7194_table.specs.Table.{table, singleFields, rowsIn, rowsOf}
 use Rattle.adv7194_listing.specs.Faults.{rowAt, fieldRow}
 
 -- ---- the row of a field
 
 -- the table has 26 rows
 all-rows : length (rowsIn (singleFields table)) ≡ 26
-unfolding table singles singleFields rowsIn timing output picture dnr
+unfolding table singleFields rowsIn timing output picture dnr
 all-rows = refl
 
 as-many : (ps : List ℕ) → length (rowsOf ps) ≡ length ps
@@ -68,7 +68,7 @@ bitsIn [] = true
 bitsIn (r ∷ rs) = leb (r .bit + r .width) 8 && bitsIn rs
 
 table-bits : bitsIn (rowsIn (singleFields table)) ≡ true
-unfolding bitsIn table singles singleFields rowsIn timing output picture dnr
+unfolding bitsIn table singleFields rowsIn timing output picture dnr
 table-bits = refl
 
 both : (a b : Bool) → (a && b) ≡ true → (a ≡ true) × (b ≡ true)

@@ -1,15 +1,15 @@
 -- Laws of the words of faults: each refusal's words are its template filled, and any has room. Assumes nothing.
 use mathlib.Core.Path.{_≡_, refl, sym, ap}
 use mathlib.Core.Bool.{Bool, true, false, cond}
-use mathlib.Core.List.{List, _++_, append-assoc}
+use mathlib.Core.List.{List, _++_, append-assoc, append-nil, flatMap}
 use Prim.Native.Nat.{ℕ, _≤_, _<_}
 use native.Mathlib.Omega.{arith}
 use lib.Dec.{eqb}
 use lib.ListN.{length, getD}
-use Rattle.text.specs.Text.{lineEnd, signed, decimal}
-use Rattle.refusals.specs.Refusal.{Judged, accepted, refused}
-use Rattle.adv7194_signalling.specs.Kind.{Signalling, off, cgms, wss, kindOf}
-use Rattle.field_table.specs.Blocks.{bytesFrom}
+use Rattle.text.specs.Text.{lineEnd, signed, decimal, hexText}
+use Rattle.bits.specs.Maps.{has}
+use Rattle.adv7194_signalling.proofs.KindLaws.{sent}
+use Rattle.field_table.specs.Walk.{held}
 use Rattle.writing.specs.Ascii.{ascii}
 use Rattle.template.specs.Columns.{columnIn}
 use Rattle.template.specs.Template.{standsFor, filled, widths}
@@ -18,8 +18,9 @@ use Rattle.template.proofs.TemplateLaws.{byte-code}
 use Rattle.adv7194_names.specs.Names.{named}
 use Rattle.adv7194_names.specs.Widths.{wordsWidth}
 use Rattle.adv7194_lines.specs.Lines.{labelText}
-use Rattle.adv7194_listing.specs.Faults.{fieldRow, hexText, reservedText, conflictText, faultWords, faultText}
+use Rattle.adv7194_listing.specs.Faults.{fieldRow, reservedText, conflictText, faultWords, faultText}
 use Rattle.adv7194_listing.specs.Words.{words, wordTable, reservedWords, conflictWords, wordsOf, shownNumbers}
+use Rattle.field_table.specs.Blocks.{slice}
 
 -- the table's column k is word k
 clean-words : cleanWords words ≡ true
@@ -47,22 +48,23 @@ module _ (image : List ℕ) (f : ℕ) where
 
   -- row 4
   reserved : ((r : ℕ) → getD image r 0 < 256) → Tells image f (reservedWords f) (reservedText image f)
-  unfolding reservedWords reservedText shownNumbers filled standsFor words signed widths hexText bytesFrom
+  unfolding reservedWords reservedText shownNumbers filled standsFor words signed widths hexText flatMap slice
   reserved small =
       pick (eqb f 11)
       (record {
         same = rw (byte-code (getD image 0x19 0) (small 0x19), byte-code (getD image 0x1a 0) (small 0x1a), byte-code (getD image 0x1b 0) (small 0x1b));
         room = omega arith;
       })
-      (pick (eqb (fieldRow f .outside) 3) (record { same = refl; room = omega arith }) (record { same = refl; room = omega arith }))
+      (pick (eqb (fieldRow f .outside) 3) (record { same = refl; room = omega arith })
+      (record { same = ap (λ (t : List ℕ). ascii ": reserved code " ++ t) (append-nil (decimal (held image (fieldRow f)))); room = omega arith }))
 
   -- row 7
-  conflict : (k : Judged Signalling) → Tells image f (conflictWords k) (conflictText k)
+  conflict : (r19 : ℕ) → Tells image f (conflictWords r19) (conflictText r19)
   unfolding filled standsFor words widths
-  conflict (accepted off) = record { same = refl; room = omega arith }
-  conflict (accepted cgms) = record { same = refl; room = omega arith }
-  conflict (accepted wss) = record { same = refl; room = omega arith }
-  conflict (refused n) = record { same = refl; room = omega arith }
+  conflict r19 =
+      pick (has r19 7) (pick (sent r19) (record { same = refl; room = omega arith }) (record { same = refl; room = omega arith }))
+      (pick (sent r19) (record { same = refl; room = omega arith })
+      (pick (has r19 4) (record { same = refl; room = omega arith }) (record { same = refl; room = omega arith })))
 
   -- row n, but for row 1
   pub told : ((r : ℕ) → getD image r 0 < 256) → (n : ℕ) → eqb n 1 ≡ false → Tells image f (wordsOf n f (getD image 0x19 0)) (faultWords image n f)
@@ -73,7 +75,7 @@ module _ (image : List ℕ) (f : ℕ) where
       (pick (eqb n 4) (reserved small)
       (pick (eqb n 5) (record { same = refl; room = omega arith })
       (pick (eqb n 6) (record { same = refl; room = omega arith })
-      (pick (eqb n 7) (conflict (kindOf (getD image 0x19 0)))
+      (pick (eqb n 7) (conflict (getD image 0x19 0))
       (pick (eqb n 8) (pick (eqb f 28) (record { same = refl; room = omega arith }) (record { same = refl; room = omega arith }))
       (pick (eqb n 11) (record { same = refl; room = omega arith }) (record { same = refl; room = omega arith }))))))))
 

@@ -2,21 +2,19 @@
 use mathlib.Core.Bool.{cond}
 use mathlib.Core.List.{List, [], _∷_, _++_}
 use Prim.Native.Nat.{ℕ}
-use Prim.Native.String.{String}
 use lib.Dec.{eqb}
 use lib.IntN.{pos}
 use lib.ListN.{length, getD}
-use Rattle.text.specs.Text.{space, lineEnd, decimal, hexByte}
-use Rattle.refusals.specs.Refusal.{Judged, accepted, refused}
+use Rattle.text.specs.Text.{lineEnd, decimal, hexText}
 use Rattle.field_table.specs.declared.row.Row.{Row}
 use Rattle.field_table.specs.Walk.{held}
-use Rattle.field_table.specs.Blocks.{bytesFrom}
 use Rattle.adv7194_table.specs.Blocks.{signalling, word}
 use Rattle.adv7194_table.specs.Table.{table, singleFields, rowsIn}
-use Rattle.adv7194_signalling.specs.Kind.{Signalling, off, cgms, wss, kindOf}
+use Rattle.adv7194_signalling.specs.Kind.{byKind}
 use Rattle.writing.specs.Ascii.{ascii}
 use Rattle.adv7194_names.specs.Names.{named}
 use Rattle.adv7194_lines.specs.Lines.{labelText}
+use Rattle.field_table.specs.Blocks.{slice}
 
 -- the first of some rows that is field f's; one of no bits where there is none
 unfoldable pub rowAt : ℕ → List Row → Row
@@ -27,42 +25,26 @@ rowAt f (r ∷ rs) = cond (eqb f (r .field)) r (rowAt f rs)
 abbrev pub fieldRow : ℕ → Row
 fieldRow f = rowAt f (rowsIn (singleFields table))
 
--- a number among words
-abbrev pub counted : String → ℕ → String → List ℕ
-counted before n after = ascii before ++ decimal n ++ ascii after
-
--- bytes, each after a space
-unfoldable pub hexText : List ℕ → List ℕ
-hexText [] = []
-hexText (b ∷ bs) = space ++ hexByte b ++ hexText bs
-
 -- row 4: signalling's bytes, or a field's code; a field whose codes are refused by row 3 is refused by 4 for its must-be-zero bits
 unfoldable pub reservedText : List ℕ → ℕ → List ℕ
 reservedText image f =
-    cond (eqb f (signalling .field)) (ascii "reserved code" ++ hexText (bytesFrom image (signalling .register) (signalling .registers)))
-    (cond (eqb (fieldRow f .outside) 3) (ascii "must-be-zero bits set") (counted "reserved code " (held image (fieldRow f)) ""))
+    cond (eqb f (signalling .field)) (ascii "reserved code" ++ hexText (slice 0 image (signalling .register) (signalling .registers)))
+    (cond (eqb (fieldRow f .outside) 3) (ascii "must-be-zero bits set") (ascii "reserved code " ++ decimal (held image (fieldRow f))))
 
 -- row 7: the kind that register 19 holds doesn't go with the standard, or is both
-abbrev pub conflictText : Judged Signalling → List ℕ
-conflictText (accepted off) = []
-conflictText (accepted cgms) = ascii "CGMS with PAL"
-conflictText (accepted wss) = ascii "WSS with NTSC"
-conflictText (refused n) = ascii "CGMS and WSS at once"
+abbrev pub conflictText : ℕ → List ℕ
+conflictText r19 = byKind r19 (ascii "CGMS and WSS at once") (ascii "WSS with NTSC") (ascii "CGMS with PAL") (ascii "CGMS and WSS at once") []
 
--- row 8: the subcarrier word or CGMS's check bits
-abbrev pub disagreementText : ℕ → List ℕ
-disagreementText f = cond (eqb f (word .field)) (ascii "doesn't agree with standard and square pixel") (ascii "check bits don't agree")
-
--- the words of row n at field f; the other rows are none of an image's
+-- the words of row n at field f, row 8's by whether it is the subcarrier word or CGMS's check bits; the other rows are none of an image's
 unfoldable pub faultWords : List ℕ → ℕ → ℕ → List ℕ
 faultWords image n f =
-    cond (eqb n 1) (counted "" (length image) " bytes, not 54")
-    (cond (eqb n 3) (counted "code " (held image (fieldRow f)) " out of range")
+    cond (eqb n 1) (decimal (length image) ++ ascii " bytes, not 54")
+    (cond (eqb n 3) (ascii "code " ++ decimal (held image (fieldRow f)) ++ ascii " out of range")
     (cond (eqb n 4) (reservedText image f)
     (cond (eqb n 5) (ascii "with square pixel")
     (cond (eqb n 6) (ascii "with PAL")
-    (cond (eqb n 7) (conflictText (kindOf (getD image (signalling .register) 0)))
-    (cond (eqb n 8) (disagreementText f)
+    (cond (eqb n 7) (conflictText (getD image (signalling .register) 0))
+    (cond (eqb n 8) (cond (eqb f (word .field)) (ascii "doesn't agree with standard and square pixel") (ascii "check bits don't agree"))
     (cond (eqb n 11) (ascii "not known") [])))))))
 
 -- the line: `23 DNR input: reserved code 0`; at field 0 it has no number

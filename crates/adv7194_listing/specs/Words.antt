@@ -6,9 +6,8 @@ use Prim.Native.String.{String}
 use lib.Dec.{eqb}
 use lib.IntN.{ℤ, pos}
 use lib.ListN.{getD}
-use Rattle.refusals.specs.Refusal.{Judged, accepted, refused}
 use Rattle.field_table.specs.Walk.{held}
-use Rattle.adv7194_signalling.specs.Kind.{Signalling, off, cgms, wss, kindOf}
+use Rattle.adv7194_signalling.specs.Kind.{byKind}
 use Rattle.template.specs.Columns.{wordsText}
 use Rattle.adv7194_listing.specs.Faults.{fieldRow}
 
@@ -39,11 +38,8 @@ unfoldable pub reservedWords : ℕ → ℕ
 reservedWords f = cond (eqb f 11) 2 (cond (eqb (fieldRow f .outside) 3) 3 1)
 
 -- row 7: by the kind
-abbrev pub conflictWords : Judged Signalling → ℕ
-conflictWords (accepted off) = 12
-conflictWords (accepted cgms) = 6
-conflictWords (accepted wss) = 7
-conflictWords (refused n) = 8
+abbrev pub conflictWords : ℕ → ℕ
+conflictWords r19 = byKind r19 8 7 6 8 12
 
 -- the words of row n at field f, where register 19 holds a byte; none for row 1, whose words have a count
 unfoldable pub wordsOf : ℕ → ℕ → ℕ → ℕ
@@ -52,7 +48,7 @@ wordsOf n f r19 =
     (cond (eqb n 4) (reservedWords f)
     (cond (eqb n 5) 4
     (cond (eqb n 6) 5
-    (cond (eqb n 7) (conflictWords (kindOf r19))
+    (cond (eqb n 7) (conflictWords r19)
     (cond (eqb n 8) (cond (eqb f 28) 9 10)
     (cond (eqb n 11) 11 12))))))
 

@@ -20,7 +20,6 @@ ghost use Prim.Native.Nat.{_+_, _≤_};
 ghost use lib.Dec.{eqb};
 ghost use lib.ListN.{length, getD};
 ghost use Rattle.refusals.specs.Refusal.{numberOf};
-ghost use Rattle.adv7194_signalling.specs.Kind.{kindOf};
 ghost use Rattle.writing.specs.Ascii.{ascii};
 ghost use Rattle.adv7194_names.specs.Names.{named};
 ghost use Rattle.writing.specs.Put.{Put};
@@ -119,7 +118,7 @@ fn reserved_words(field: u8) -> usize
 
 // Which words tell the kind of signalling that is at fault.
 fn conflict_words(r19: u8) -> usize
-    ensures answer { λ r. ⌜ r ≡ conflictWords (kindOf r19) ⌝ }
+    ensures answer { λ r. ⌜ r ≡ conflictWords r19 ⌝ }
 {
     let found = kind(r19);
     match found {

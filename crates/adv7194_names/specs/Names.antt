@@ -11,69 +11,44 @@ pub record Named : Type 0 where
   pub one : String
   pub unit : String
 
--- a field whose settings 0 and 1 are written in words
-abbrev choice : String → String → String → Named
-choice n a b = record { name = n; zero = a; one = b; unit = "" }
+-- a row by its four columns
+abbrev row : String → String → String → String → Named
+row n a b u = record { name = n; zero = a; one = b; unit = u }
 
--- a yes/no
-abbrev yesNo : String → Named
-yesNo n = choice n "no" "yes"
-
--- a number with its unit
-abbrev amount : String → String → Named
-amount n u = record { name = n; zero = ""; one = ""; unit = u }
-
--- a number that has no unit; a field whose setting is several numbers
-abbrev plain : String → Named
-plain n = amount n ""
-
--- fields 1 to 10
-abbrev front : List Named → List Named
-front rest =
-    choice "standard" "NTSC" "PAL"
-    ∷ yesNo "square pixel"
-    ∷ yesNo "4x oversampling"
-    ∷ yesNo "pedestal"
-    ∷ choice "Y level" "Betacam" "SMPTE"
-    ∷ plain "UV level"
-    ∷ yesNo "RGB sync"
-    ∷ amount "clamp delay" " clocks"
-    ∷ yesNo "clamp in back porch"
-    ∷ plain "subcarrier phase"
-    ∷ rest
-
--- fields 11 to 17
-abbrev middle : List Named → List Named
-middle rest =
-    plain "signalling"
-    ∷ amount "contrast" " thousandths"
-    ∷ amount "U scale" " thousandths"
-    ∷ amount "V scale" " thousandths"
-    ∷ amount "hue" " tenths of a degree"
-    ∷ amount "brightness" " tenths of an IRE"
-    ∷ amount "sharpness" " steps"
-    ∷ rest
-
--- fields 18 to 28
-abbrev back : List Named
-back =
-    plain "DNR border gain"
-    ∷ plain "DNR data gain"
-    ∷ plain "DNR threshold"
-    ∷ yesNo "DNR border area"
-    ∷ yesNo "DNR block size"
-    ∷ plain "DNR input"
-    ∷ yesNo "DNR mode"
-    ∷ plain "DNR block offset"
-    ∷ plain "gamma curve A"
-    ∷ plain "gamma curve B"
-    ∷ plain "subcarrier word"
-    ∷ []
-
--- the table
+-- the table, fields 1 to 28 after the image
 unfoldable pub names : List Named
-names = plain "image" ∷ front (middle back)
+names =
+    row "image" "" "" ""
+    ∷ row "standard" "NTSC" "PAL" ""
+    ∷ row "square pixel" "no" "yes" ""
+    ∷ row "4x oversampling" "no" "yes" ""
+    ∷ row "pedestal" "no" "yes" ""
+    ∷ row "Y level" "Betacam" "SMPTE" ""
+    ∷ row "UV level" "" "" ""
+    ∷ row "RGB sync" "no" "yes" ""
+    ∷ row "clamp delay" "" "" " clocks"
+    ∷ row "clamp in back porch" "no" "yes" ""
+    ∷ row "subcarrier phase" "" "" ""
+    ∷ row "signalling" "" "" ""
+    ∷ row "contrast" "" "" " thousandths"
+    ∷ row "U scale" "" "" " thousandths"
+    ∷ row "V scale" "" "" " thousandths"
+    ∷ row "hue" "" "" " tenths of a degree"
+    ∷ row "brightness" "" "" " tenths of an IRE"
+    ∷ row "sharpness" "" "" " steps"
+    ∷ row "DNR border gain" "" "" ""
+    ∷ row "DNR data gain" "" "" ""
+    ∷ row "DNR threshold" "" "" ""
+    ∷ row "DNR border area" "no" "yes" ""
+    ∷ row "DNR block size" "no" "yes" ""
+    ∷ row "DNR input" "" "" ""
+    ∷ row "DNR mode" "no" "yes" ""
+    ∷ row "DNR block offset" "" "" ""
+    ∷ row "gamma curve A" "" "" ""
+    ∷ row "gamma curve B" "" "" ""
+    ∷ row "subcarrier word" "" "" ""
+    ∷ []
 
 -- the row of field f; a number that is no field's has no name
 abbrev pub named : ℕ → Named
-named f = getD names f (plain "")
+named f = getD names f (row "" "" "" "")

@@ -1,7 +1,7 @@
 -- What planning answers and leaves, case by case in the checking order. Assumes nothing.
 use mathlib.Core.Path.{_≡_, refl, sym, ap, _∙_}
 use mathlib.Core.Bool.{Bool, true, false, cond, not, _&&_}
-use mathlib.Core.List.{List, [], _∷_, _++_}
+use mathlib.Core.List.{List, [], _∷_, _++_, flatMap}
 use Prim.Native.Nat.{ℕ, _≤_, _<_}
 use lib.Dec.{T, eqb, ltb}
 use lib.IntN.{ℤ}
@@ -9,27 +9,28 @@ use lib.ListN.{length, drop}
 use borrow.Author.Tests.{eq-eqb, ne-eqb, lt-ltb, le-ltb, not-true}
 use Rattle.bits.proofs.FlagLaws.{first, second, holds, both-true}
 use Rattle.refusals.specs.Verdict.{Verdict, good, refusedAt, after}
-use Rattle.refusals.specs.Order.{Place, firstOf, placesAt, placesOver}
+use Rattle.refusals.specs.Order.{Place, firstOf, placesAt, placesIn}
 use Rattle.refusals.proofs.OrderLaws.{first-append}
 use Rattle.refusals.proofs.PlaceLaws.{allPass, same-first}
 use Rattle.packing.specs.Packing.{packed}
-use Rattle.planning.specs.Plan.{Counts, countsOf, leftBy}
+use Rattle.planning.specs.Plan.{Counts, countsOf, packedLeft}
 use Rattle.adv7194_bus.specs.Kind.{registerCount}
 use Rattle.bus.specs.Address.{addressRight}
 use Rattle.adv7194_bus.specs.Limit.{limitRight}
 use Rattle.adv7194_bus.specs.declared.board.Board.{Board}
 use Rattle.adv7194_table.specs.Fields.{numberCount, timing, output, picture, dnr}
-use Rattle.adv7194_table.specs.Table.{singles, table, orderOf}
+use Rattle.adv7194_table.specs.Table.{table, orderOf}
 use Rattle.adv7194_table.specs.Registers.{fieldAmong, lowestIn, lowestField}
-use Rattle.adv7194_settings.specs.Known.{fixesSome, unknown}
-use Rattle.adv7194_settings.specs.Order.{placesOf, order}
+use Rattle.adv7194_settings.specs.Known.{fixesSome}
+use Rattle.adv7194_settings.specs.Order.{order}
 use Rattle.adv7194_settings.specs.Rows.{rowHolds, checkOf}
 use Rattle.adv7194_planning.specs.Rows.{listOf, rowPlanned, planOrder}
 use Rattle.adv7194_planning.specs.Planning.{planningOf, planLeft}
+use Rattle.adv7194_settings.proofs.Names.{unknown}
 
 -- what is checked after the settings: row 11 at each field, then the room
 abbrev pub lastChecks : List Place
-lastChecks = placesOver 11 (orderOf table) ++ placesAt (10 ∷ []) 0
+lastChecks = placesIn (λ f. 11 ∷ []) (orderOf table) ++ placesAt (10 ∷ []) 0
 
 -- ---- the settings' rows
 
@@ -39,7 +40,7 @@ bySettings n f = not (eqb n 10) && (not (eqb n 11) && not (eqb f 0))
 
 -- those of the settings' checking order are such
 pub order-by-settings : allPass bySettings order ≡ true
-unfolding order placesOf placesAt orderOf table singles timing output picture dnr
+unfolding order placesIn placesAt orderOf table timing output picture dnr flatMap
 order-by-settings = refl
 
 -- ---- the unknown registers' row
@@ -59,7 +60,7 @@ allFields (f ∷ fs) = not (eqb f 0) && allFields fs
 
 -- those of the table are
 pub table-fields : T (allFields (orderOf table))
-unfolding orderOf table singles timing output picture dnr
+unfolding orderOf table timing output picture dnr
 table-fields = tt
 
 module _ (b : Board) (zs : List ℤ) (address limit room : ℕ) where
@@ -77,8 +78,8 @@ module _ (b : Board) (zs : List ℤ) (address limit room : ℕ) where
 
   -- row 11 is given at the lowest field that has such a register
   pub by-register : (fs : List ℕ) → T (allFields fs) → (let f = lowestIn (unfixed b zs) fs in
-      firstOf (rowPlanned b zs address limit room) (placesOver 11 fs) (tt {0}) ≡ cond (eqb f 0) (good tt) (refusedAt 11 f))
-  unfolding firstOf placesOver rowPlanned lowestIn
+      firstOf (rowPlanned b zs address limit room) (placesIn (λ f. 11 ∷ []) fs) (tt {0}) ≡ cond (eqb f 0) (good tt) (refusedAt 11 f))
+  unfolding firstOf placesIn placesAt rowPlanned lowestIn flatMap
   by-register [] t = refl
   by-register (f ∷ fs) t =
       by (fieldAmong (unfixed b zs) f) refl (not-true (eqb f 0) (holds (not (eqb f 0)) (first (not (eqb f 0)) (allFields fs) t)))
@@ -86,9 +87,9 @@ module _ (b : Board) (zs : List ℤ) (address limit room : ℕ) where
     where
       by : (x : Bool) → fieldAmong (unfixed b zs) f ≡ x → eqb f 0 ≡ false
           → (let g = lowestIn (unfixed b zs) fs in
-          firstOf (rowPlanned b zs address limit room) (placesOver 11 fs) (tt {0}) ≡ cond (eqb g 0) (good tt) (refusedAt 11 g))
+          firstOf (rowPlanned b zs address limit room) (placesIn (λ f. 11 ∷ []) fs) (tt {0}) ≡ cond (eqb g 0) (good tt) (refusedAt 11 g))
           → (let g = lowestIn (unfixed b zs) (f ∷ fs) in
-          firstOf (rowPlanned b zs address limit room) (placesOver 11 (f ∷ fs)) (tt {0}) ≡ cond (eqb g 0) (good tt) (refusedAt 11 g))
+          firstOf (rowPlanned b zs address limit room) (placesIn (λ f. 11 ∷ []) (f ∷ fs)) (tt {0}) ≡ cond (eqb g 0) (good tt) (refusedAt 11 g))
       by true p e ih = rw (p, e)
       by false p e ih = rw (p, e) ih
 
@@ -105,7 +106,7 @@ module _ (b : Board) (zs : List ℤ) (address limit room : ℕ) where
   last-is : lastVerdict ≡ after (cond (eqb (lowestUnfixed b zs) 0) (good (tt {0})) (refusedAt 11 (lowestUnfixed b zs))) byRoom
   unfolding firstOf rowPlanned placesAt
   last-is =
-      first-append (rowPlanned b zs address limit room) (placesOver 11 (orderOf table)) (placesAt (10 ∷ []) 0) (countsOf (listOf b zs limit))
+      first-append (rowPlanned b zs address limit room) (placesIn (λ f. 11 ∷ []) (orderOf table)) (placesAt (10 ∷ []) 0) (countsOf (listOf b zs limit))
       ∙ ap (λ (v : Verdict (Unit {0})). after v byRoom) (by-register (orderOf table) table-fields)
 
   -- row 11: an unknown register is fixed only in part
@@ -173,9 +174,9 @@ module _ (b : Board) (zs : List ℤ) (address limit room : ℕ) where
 module _ (b : Board) (zs : List ℤ) (address limit : ℕ) (plan : List ℕ) where
   -- a refusal leaves the lent plan
   pub refuse : (n f : ℕ) → planningOf b zs address limit (length plan) ≡ refusedAt n f → plan ≡ planLeft b zs address limit plan
-  refuse n f e = sym (ap (leftBy (listOf b zs limit) plan) e)
+  refuse n f e = sym (ap (packedLeft (listOf b zs limit) plan) e)
 
   -- a plan leaves its packed bytes and what was past them
   pub accept : planningOf b zs address limit (length plan) ≡ good (countsOf (listOf b zs limit))
       → planLeft b zs address limit plan ≡ packed (listOf b zs limit) ++ drop (length (packed (listOf b zs limit))) plan
-  accept e = ap (leftBy (listOf b zs limit) plan) e
+  accept e = ap (packedLeft (listOf b zs limit) plan) e

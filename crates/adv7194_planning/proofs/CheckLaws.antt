@@ -9,7 +9,7 @@ use lib.IntN.{ℤ}
 use lib.ListN.{length}
 use borrow.Author.Tests.{eq-eqb, ne-eqb, eqb-true, eqb-false}
 use Rattle.refusals.specs.Verdict.{Verdict, good, refusedAt, after}
-use Rattle.refusals.specs.Order.{Place, firstOf, placesAt, placesOver}
+use Rattle.refusals.specs.Order.{Place, firstOf, placesAt, placesIn}
 use Rattle.refusals.proofs.OrderLaws.{first-append}
 use Rattle.planning.specs.Plan.{countsOf, packingOf}
 use Rattle.planning.proofs.AnswerLaws.{by-room}
@@ -53,7 +53,7 @@ module _ (b : Board) (zs : List ℤ) (address limit room : ℕ) where
 
   -- what row 11 answers
   abbrev pub unknownVerdict : Verdict (Unit {0})
-  unknownVerdict = firstOf row (placesOver 11 (orderOf table)) (tt {0})
+  unknownVerdict = firstOf row (placesIn (λ f. 11 ∷ []) (orderOf table)) (tt {0})
 
   -- the limit
   pub check-limit : limitRight limit ≡ false → verdict ≡ refusedAt 3 0
@@ -61,9 +61,9 @@ module _ (b : Board) (zs : List ℤ) (address limit room : ℕ) where
   check-limit l = rw l
 
   -- the settings' rows, and then row 11
-  settings-then : firstOf row (order ++ placesOver 11 (orderOf table)) (tt {0}) ≡ after (checkOf zs) unknownVerdict
+  settings-then : firstOf row (order ++ placesIn (λ f. 11 ∷ []) (orderOf table)) (tt {0}) ≡ after (checkOf zs) unknownVerdict
   settings-then =
-      first-append row order (placesOver 11 (orderOf table)) (tt {0})
+      first-append row order (placesIn (λ f. 11 ∷ []) (orderOf table)) (tt {0})
       ∙ ap (λ (v : Verdict (Unit {0})). after v unknownVerdict) (same-check b zs address limit room)
 
   module _ (l : limitRight limit ≡ true) where
@@ -108,7 +108,7 @@ module _ (b : Board) (zs : List ℤ) (address limit room : ℕ) where
   unfolding checks placesAt
   then-room =
       ap (λ (ps : List Place). firstOf row (placesAt (3 ∷ []) 0 ++ ps) (countsOf (listOf b zs limit)))
-      (sym (append-assoc order (placesOver 11 (orderOf table)) (placesAt (10 ∷ []) 0)))
+      (sym (append-assoc order (placesIn (λ f. 11 ∷ []) (orderOf table)) (placesAt (10 ∷ []) 0)))
       ∙ first-append row checks (placesAt (10 ∷ []) 0) (countsOf (listOf b zs limit)) ∙ ap (after verdict) room-is
 
   -- so planning answers what the checks do, and where they find no fault what packing does

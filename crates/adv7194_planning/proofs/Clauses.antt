@@ -11,9 +11,9 @@ use Rattle.refusals.specs.Verdict.{Verdict, refusedAt}
 use Rattle.refusals.specs.Order.{Exactly}
 use Rattle.refusals.proofs.OrderLaws.{exactly}
 use Rattle.bus.specs.Transactions.{busBytes}
-use Rattle.packing.specs.Packing.{packed}
-use Rattle.unpacking.specs.Unpacking.{Counted}
-use Rattle.planning.specs.Plan.{Counts, countsOf, leftBy, done}
+use Rattle.packing.specs.Packing.{packed, behind}
+use Rattle.unpacking.specs.Unpacking.{CountedBy}
+use Rattle.planning.specs.Plan.{Counts, countsOf, packedLeft, done}
 use Rattle.planning.proofs.AnswerLaws.{left-packed}
 use Rattle.adv7194_bus.specs.declared.board.Board.{Board}
 use Rattle.adv7194_settings.specs.Wanted.{wantedBy}
@@ -39,7 +39,7 @@ abbrev pub Clauses : Board → List ℤ → ℕ → ℕ → List ℕ → List �
 Clauses board zs address limit plan after v =
     (v ≡ planningOf board zs address limit (length plan))
     × ((after ≡ planLeft board zs address limit plan)
-    × (((l t b : ℕ) → v ≡ done l t b → Counted (take l after) l t b)
+    × (((l t b : ℕ) → v ≡ done l t b → CountedBy behind (take l after) l t b)
     × (((l t b : ℕ) → v ≡ done l t b → Demanded (board .registers) zs (wantedBy (board .registers) zs))
     × (((l t b : ℕ) → v ≡ done l t b → Played (aimOf board zs limit) (take l after))
     × (((l t b : ℕ) → v ≡ done l t b → Least (aimOf board zs limit) t b)
@@ -85,13 +85,13 @@ module _ (board : Board) (zs : List ℤ) (limit : ℕ) (bytes : (r : ℕ) → ge
       left : take l after ≡ packed (listOf board zs limit)
       left =
           let list = listOf board zs limit in
-          left-packed list plan after l t b (answered .1) (memory ∙ ap (leftBy list plan) (sym answer ∙ e))
+          left-packed list plan after l t b (answered .1) (memory ∙ ap (packedLeft list plan) (sym answer ∙ e))
 
       -- the numbers are those of the list that the bytes unpack to
-      pub counted : Counted (take l after) l t b
+      pub counted : CountedBy behind (take l after) l t b
       unfolding listOf
       counted =
-          subst (λ (n : Counts). Counted (take l after) (n .length) (n .transactions) (n .busBytes)) (answered .1)
+          subst (λ (n : Counts). CountedBy behind (take l after) (n .length) (n .transactions) (n .busBytes)) (answered .1)
           (rw left (plan-counted (aimOf board zs limit) (change (answered .0))))
 
       -- demand 2: the wanted image, bit by bit

@@ -18,7 +18,7 @@ use Rattle.planning.specs.Registers.{differsIn}
 use Rattle.planning.proofs.ShiftLaws.{has-past, has-shl, has-below}
 use Rattle.adv7194_bus.specs.Kind.{registerCount}
 use Rattle.adv7194_table.specs.Fields.{timing, output, picture, dnr}
-use Rattle.adv7194_table.specs.Table.{singles, table}
+use Rattle.adv7194_table.specs.Table.{table}
 use Rattle.adv7194_table.specs.Masks.{maskWhere, fieldMask, zeroMask, fieldMasks}
 use Rattle.adv7194_least.specs.Change.{settable}
 use Rattle.adv7194_planning.specs.Aims.{Comparable}
@@ -92,7 +92,7 @@ abbrev comparedTest : ℕ → Bool
 comparedTest r = imp (settable r) (inHalf r && hasField r)
 
 settable-compared : T (below comparedTest registerCount)
-unfolding settable fieldMasks fieldMask zeroMask maskWhere table singles timing output picture dnr
+unfolding settable fieldMasks fieldMask zeroMask maskWhere table timing output picture dnr
 settable-compared = tt
 
 -- what is true only where a bit is and in a half is true in one of them

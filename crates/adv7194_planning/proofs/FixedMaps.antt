@@ -9,19 +9,19 @@ use lib.Dec.{T, eqb, lit<}
 use lib.IntN.{ℤ}
 use Rattle.bits.proofs.Checks.{agrees, below, map-is}
 use Rattle.bits.specs.Maps.{has}
-use Rattle.refusals.specs.Refusal.{Judged, accepted, refused}
+use Rattle.refusals.specs.Refusal.{Judged, accepted, refused, valueOr}
 use Rattle.refusals.specs.Verdict.{Verdict, good, refusedAt, after, faultOf, faultWhere}
 use Rattle.field_table.specs.Walk.{given}
 use Rattle.field_table.specs.Blocks.{is}
 use Rattle.adv7194_table.specs.Fields.{standard, timing, output, picture, dnr}
 use Rattle.adv7194_table.specs.Blocks.{signalling}
-use Rattle.adv7194_table.specs.Table.{singles, table, signals}
+use Rattle.adv7194_table.specs.Table.{table, signals}
 use Rattle.adv7194_table.specs.Masks.{maskWhere, fieldMask, zeroMask}
 use Rattle.adv7194_signalling.specs.Signalling.{numberOf, signallingCodes, signallingConflict}
 use Rattle.adv7194_signalling.proofs.CgmsReadLaws as cgms
 use Rattle.adv7194_signalling.proofs.WssLaws as wss
 use Rattle.adv7194_signalling.proofs.CodeLaws.{off-codes, cgms-codes, wss-codes, no-codes}
-use Rattle.adv7194_settings.specs.Codes.{numbersIn, blockCodes, codesIn}
+use Rattle.adv7194_settings.specs.Codes.{numbersIn, blockCodes}
 use Rattle.adv7194_settings.specs.Demand.{fixedMask}
 use Rattle.adv7194_settings.specs.Known.{fixesAll, fixesSome}
 use Rattle.adv7194_settings.proofs.FixedLaws.{none-fixed}
@@ -45,19 +45,19 @@ fixed-is m cs test none small same =
     map-is m (λ i. test (fixedMask cs i)) small same (λ i h. ap test (none-fixed cs i (omega arith)) ∙ none)
 
 all-off : (i : ℕ) → has 0xF_FFFF_E001_F020 i ≡ allFixed [] i
-unfolding below agrees fixedMask fieldMask zeroMask maskWhere table singles timing output picture dnr
+unfolding below agrees fixedMask fieldMask zeroMask maskWhere table timing output picture dnr
 all-off = fixed-is 0xF_FFFF_E001_F020 [] (λ m. eqb m 0xFF) refl (lit< tt) tt
 
 all-sent : (c : ℕ) (cs : List ℕ) (i : ℕ) → has 0xF_FFFF_EE01_F020 i ≡ allFixed (c ∷ cs) i
-unfolding below agrees fixedMask fieldMask zeroMask maskWhere table singles timing output picture dnr
+unfolding below agrees fixedMask fieldMask zeroMask maskWhere table timing output picture dnr
 all-sent c cs = fixed-is 0xF_FFFF_EE01_F020 (c ∷ cs) (λ m. eqb m 0xFF) refl (lit< tt) tt
 
 some-off : (i : ℕ) → has 0x200_0007 i ≡ someFixed [] i
-unfolding below agrees fixedMask fieldMask zeroMask maskWhere table singles timing output picture dnr
+unfolding below agrees fixedMask fieldMask zeroMask maskWhere table timing output picture dnr
 some-off = fixed-is 0x200_0007 [] (λ m. not (eqb m 0) && not (eqb m 0xFF)) refl (lit< tt) tt
 
 some-sent : (c : ℕ) (cs : List ℕ) (i : ℕ) → has 0x7 i ≡ someFixed (c ∷ cs) i
-unfolding below agrees fixedMask fieldMask zeroMask maskWhere table singles timing output picture dnr
+unfolding below agrees fixedMask fieldMask zeroMask maskWhere table timing output picture dnr
 some-sent c cs = fixed-is 0x7 (c ∷ cs) (λ m. not (eqb m 0) && not (eqb m 0xFF)) refl (lit< tt) tt
 
 -- ---- the codes of field 11 of settings that pass the check
@@ -72,7 +72,7 @@ good-before (good tt) v b e = refl
 good-before (refusedAt n f) v b e = let z : _≡_ {A = ℕ} 0 1 = cc in absurd (omega arith)
 
 -- a coding that is no fault is accepted
-no-fault : (f : ℕ) (j : Judged (List ℕ)) → faultOf f j ≡ good tt → j ≡ accepted (codesIn j)
+no-fault : (f : ℕ) (j : Judged (List ℕ)) → faultOf f j ≡ good tt → j ≡ accepted (valueOr [] j)
 no-fault f (accepted cs) e = refl
 no-fault f (refused n) e = let z : _≡_ {A = ℕ} 0 1 = cc in absurd (omega arith)
 
@@ -81,7 +81,7 @@ abbrev conflictFault : List ℤ → Verdict (Unit {0})
 conflictFault zs = faultWhere (signallingConflict (given zs (standard .row)) (numbersIn zs signalling)) 7 11
 
 -- they are accepted
-coded : (zs : List ℤ) → Passing zs → (let j = signallingCodes (numbersIn zs signalling) in j ≡ accepted (codesIn j))
+coded : (zs : List ℤ) → Passing zs → (let j = signallingCodes (numbersIn zs signalling) in j ≡ accepted (valueOr [] j))
 coded zs p =
     let whole = good-after (faultIn zs firstPart) (faultIn zs secondPart) tt (check-parts zs ∙ p .passes) in
     let signal = good-before (signalFault zs) _ tt (sym (second-part zs (p .size)) ∙ whole) in
@@ -112,13 +112,13 @@ sent-some ns cs off e = by (is 1 (numberOf ns 0)) (is 2 (numberOf ns 0)) refl re
 module _ (zs : List ℤ) (p : Passing zs) where
   -- field 11's codes and its kind
   abbrev codes : List ℕ
-  codes = codesIn (blockCodes zs signals signalling)
+  codes = valueOr [] (blockCodes zs signals signalling)
 
   abbrev off : Bool
   off = is 0 (numberOf (numbersIn zs signalling) 0)
 
   none : off ≡ true → [] ≡ codes
-  none e = sym (ap codesIn (off-codes (numbersIn zs signalling) e))
+  none e = sym (ap (valueOr []) (off-codes (numbersIn zs signalling) e))
 
   some : off ≡ false → Some codes
   some e = sent-some (numbersIn zs signalling) codes e (coded zs p)

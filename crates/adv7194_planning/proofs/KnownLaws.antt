@@ -13,16 +13,18 @@ use Rattle.adv7194_bus.specs.declared.board.Board.{Board}
 use Rattle.adv7194_bus.specs.Board.{knows}
 use Rattle.adv7194_table.specs.Fields.{timing, output, picture, dnr}
 use Rattle.adv7194_table.specs.Blocks.{signalling}
-use Rattle.adv7194_table.specs.Table.{Entry, singles, signals, table, fieldOf, orderOf}
+use Rattle.adv7194_table.specs.Table.{Entry, signals, table, fieldOf, orderOf}
 use Rattle.adv7194_table.specs.Masks.{bitsOf, maskWhere, fieldMask, zeroMask, ownMask}
 use Rattle.adv7194_table.specs.Registers.{hasBits, fieldAmong, lowestField, fieldCount}
 use Rattle.adv7194_table.proofs.RegisterLaws.{one-below, none-below, none-lowest}
-use Rattle.adv7194_settings.specs.Codes.{blockCodes, codesIn}
+use Rattle.adv7194_settings.specs.Codes.{blockCodes}
 use Rattle.adv7194_settings.specs.Demand.{fixedMask}
-use Rattle.adv7194_settings.specs.Known.{fixedBits, fixesAll, unknown}
+use Rattle.adv7194_settings.specs.Known.{fixedBits, fixesAll}
 use Rattle.adv7194_settings.proofs.FixedLaws.{none-fixed}
 use Rattle.adv7194_planning.proofs.CaseLaws.{unfixed, lowestUnfixed}
 use Rattle.adv7194_planning.proofs.Outcomes.{none-among}
+use Rattle.refusals.specs.Refusal.{valueOr}
+use Rattle.adv7194_settings.proofs.Names.{unknown}
 
 -- the field of the first entry that has a bit of register r
 abbrev fieldAt : List Entry → ℕ → ℕ
@@ -35,7 +37,7 @@ fieldTest r = let f = fieldAt table r in hasBits f r && (ltb 0 f && ltb f fieldC
 
 -- where a bit is fixed: a test over the table, whether field 11 is off or not
 with-field : (cs : List ℕ) → T (below (λ r. imp (not (eqb (fixedMask cs r) 0)) (fieldTest r)) registerCount)
-unfolding fixedMask fieldMask zeroMask ownMask maskWhere table singles timing output picture dnr
+unfolding fixedMask fieldMask zeroMask ownMask maskWhere table timing output picture dnr
 with-field [] = tt
 with-field (c ∷ cs) = tt
 
@@ -50,7 +52,7 @@ module _ (b : Board) (zs : List ℤ) (known : lowestField (unknown b) ≡ 0) whe
 
       test : T (fieldTest r)
       test =
-          let cs = codesIn (blockCodes zs signals signalling) in
+          let cs = valueOr [] (blockCodes zs signals signalling) in
           imp→ (not (eqb (fixedMask cs r) 0)) (fieldTest r)
           (below-at (λ x. imp (not (eqb (fixedMask cs x) 0)) (fieldTest x)) registerCount (with-field cs) r h) (rw e)
 
@@ -74,7 +76,7 @@ module _ (b : Board) (zs : List ℤ) (known : lowestField (unknown b) ≡ 0) whe
       by : (x : Bool) → ltb r registerCount ≡ x → knows b r ≡ true
       by true p = some-known r (ltb-true r registerCount p) (some e)
       by false p =
-          let z = none-fixed (codesIn (blockCodes zs signals signalling)) r (ltb-false r registerCount p) in
+          let z = none-fixed (valueOr [] (blockCodes zs signals signalling)) r (ltb-false r registerCount p) in
           absurd (false≢true (sym (rw z) ∙ e))
 
   -- and no unknown one is fixed only in part

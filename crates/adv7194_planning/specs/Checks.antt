@@ -6,7 +6,7 @@ use Prim.Native.Nat.{ℕ}
 use lib.Dec.{eqb}
 use lib.IntN.{ℤ}
 use lib.ListN.{length}
-use Rattle.refusals.specs.Order.{Place, placesAt, placesOver}
+use Rattle.refusals.specs.Order.{Place, placesAt, placesIn}
 use Rattle.adv7194_bus.specs.Limit.{limitRight}
 use Rattle.adv7194_table.specs.Fields.{numberCount}
 use Rattle.adv7194_table.specs.Table.{table, orderOf}
@@ -15,7 +15,7 @@ use Rattle.adv7194_settings.specs.Wanted.{wantedBy}
 
 -- the places that are checked, in order
 unfoldable pub checks : List Place
-checks = placesAt (3 ∷ []) 0 ++ (order ++ placesOver 11 (orderOf table))
+checks = placesAt (3 ∷ []) 0 ++ (order ++ placesIn (λ f. 11 ∷ []) (orderOf table))
 
 -- what checking leaves in a lent image: what the settings want over it, where the limit and the count are right
 abbrev pub checkedImage : List ℕ → List ℤ → ℕ → List ℕ

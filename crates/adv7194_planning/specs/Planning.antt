@@ -6,7 +6,7 @@ use lib.IntN.{ℤ}
 use lib.ListN.{length}
 use Rattle.refusals.specs.Verdict.{Verdict}
 use Rattle.refusals.specs.Order.{firstOf}
-use Rattle.planning.specs.Plan.{Counts, countsOf, leftBy}
+use Rattle.planning.specs.Plan.{Counts, countsOf, packedLeft}
 use Rattle.adv7194_bus.specs.declared.board.Board.{Board}
 use Rattle.adv7194_planning.specs.Rows.{listOf, rowPlanned, planOrder}
 
@@ -16,4 +16,4 @@ planningOf b zs address limit room = firstOf (rowPlanned b zs address limit room
 
 -- the lent plan that planning leaves
 abbrev pub planLeft : Board → List ℤ → ℕ → ℕ → List ℕ → List ℕ
-planLeft b zs address limit plan = leftBy (listOf b zs limit) plan (planningOf b zs address limit (length plan))
+planLeft b zs address limit plan = packedLeft (listOf b zs limit) plan (planningOf b zs address limit (length plan))

@@ -8,7 +8,7 @@ use Prim.Native.Nat.{ℕ}
 use lib.Dec.{eqb, ltb}
 use lib.IntN.{ℤ}
 use lib.ListN.{length}
-use Rattle.refusals.specs.Order.{Place, placesAt, placesOver}
+use Rattle.refusals.specs.Order.{Place, placesAt, placesIn}
 use Rattle.bus.specs.Transactions.{Transaction}
 use Rattle.packing.specs.Packing.{packed}
 use Rattle.adv7194_bus.specs.Kind.{registerCount}
@@ -27,19 +27,16 @@ use Rattle.adv7194_least.specs.Plan.{planOf}
 unfoldable pub listOf : Board → List ℤ → ℕ → List Transaction
 listOf b zs limit = planOf (aimOf b zs limit)
 
--- row n holds of the call, at no field: the image's length, the address, the limit or the count of numbers, a lent plan of that many bytes
-abbrev pub callRow : Board → List ℤ → ℕ → ℕ → ℕ → ℕ → Bool
-callRow b zs address limit room n =
-    cond (eqb n 1) (not (eqb (length (b .registers)) registerCount))
-    (cond (eqb n 2) (not (addressRight address))
-    (cond (eqb n 3) (not (limitRight limit) || not (eqb (length zs) numberCount))
-    (eqb n 10 && ltb room (length (packed (listOf b zs limit))))))
-
--- row n holds at field f of what is handed to planning
+-- row n holds at field f of what is handed to planning; at no field: the image's length, the address, the limit or the count of numbers, a lent plan of that
+-- many bytes
 unfoldable pub rowPlanned : Board → List ℤ → ℕ → ℕ → ℕ → ℕ → ℕ → Bool
 rowPlanned b zs address limit room n f =
-    cond (eqb f 0) (callRow b zs address limit room n) (cond (eqb n 11) (partlyFixed b zs f) (rowHolds zs n f))
+    cond (eqb f 0)
+    (cond (eqb n 1) (not (eqb (length (b .registers)) registerCount))
+    (cond (eqb n 2) (not (addressRight address))
+    (cond (eqb n 3) (not (limitRight limit) || not (eqb (length zs) numberCount)) (eqb n 10 && ltb room (length (packed (listOf b zs limit)))))))
+    (cond (eqb n 11) (partlyFixed b zs f) (rowHolds zs n f))
 
 -- the checking order of planning: after the settings row 11 at each field, then the room
 unfoldable pub planOrder : List Place
-planOrder = placesAt (1 ∷ 2 ∷ 3 ∷ []) 0 ++ (order ++ (placesOver 11 (orderOf table) ++ placesAt (10 ∷ []) 0))
+planOrder = placesAt (1 ∷ 2 ∷ 3 ∷ []) 0 ++ (order ++ (placesIn (λ f. 11 ∷ []) (orderOf table) ++ placesAt (10 ∷ []) 0))

@@ -1,9 +1,9 @@
 // What is checked before a change is planned: the limit, the settings, and the registers that aren't known.
 ghost use mathlib.Core.Path.{_≡_};
-ghost use mathlib.Core.List.{List};
+ghost use mathlib.Core.List.{List, [], _∷_};
 ghost use Prim.Native.Nat.{ℕ};
 ghost use lib.ListN.{length};
-ghost use Rattle.refusals.specs.Order.{placesOver, firstOf};
+ghost use Rattle.refusals.specs.Order.{firstOf, placesIn};
 ghost use Rattle.field_table.specs.Answers.{checkedAs};
 ghost use Rattle.adv7194_bus.specs.Kind.{registerCount};
 ghost use Rattle.adv7194_bus.specs.Board.{boardOf};
@@ -24,7 +24,7 @@ use refusals::Refusal;
 // Checks settings that pass the check against the known registers: an unknown one that they fix only in part is refused by the lowest field.
 fn check_known(known: u64, numbers: &[i32]) -> Checked
     requires { ⌜ Passing (now numbers) ⌝ }
-    ensures answer { λ r. ⌜ ((image : List ℕ) (address limit room : ℕ) → checkedAs r ≡ firstOf (rowPlanned (boardOf image known) (now (numbers .entry)) address limit room) (placesOver 11 (orderOf table)) tt) ⌝ }
+    ensures answer { λ r. ⌜ ((image : List ℕ) (address limit room : ℕ) → checkedAs r ≡ firstOf (rowPlanned (boardOf image known) (now (numbers .entry)) address limit room) (placesIn (λ f. 11 ∷ []) (orderOf table)) tt) ⌝ }
 {
     let unfixed = unfixed_registers(partly_fixed_registers(numbers), known);
     let field = lowest_field(unfixed);

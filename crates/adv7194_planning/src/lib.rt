@@ -4,7 +4,7 @@ ghost use Prim.Native.Nat.{ℕ, _≤_, _<_};
 ghost use lib.ListN.{length, take};
 ghost use Rattle.refusals.specs.Verdict.{refusedAt};
 ghost use Rattle.refusals.specs.Order.{Exactly};
-ghost use Rattle.unpacking.specs.Unpacking.{Counted};
+ghost use Rattle.unpacking.specs.Unpacking.{CountedBy};
 ghost use Rattle.planning.specs.Plan.{countsOf, packingOf, planAfter, done, answerOf};
 ghost use Rattle.adv7194_bus.specs.Board.{boardOf};
 ghost use Rattle.adv7194_settings.specs.Wanted.{wantedBy};
@@ -17,6 +17,7 @@ ghost use Rattle.adv7194_least.specs.Demands.{Least, First, Only, mostBytes, wi
 ghost use Rattle.adv7194_planning.specs.Aims.{aimBy};
 ghost use Rattle.adv7194_planning.specs.Rows.{listOf, rowPlanned, planOrder};
 ghost use Rattle.adv7194_planning.specs.Planning.{planningOf, planLeft};
+ghost use Rattle.packing.specs.Packing.{behind};
 use crate::registers::fixed_registers;
 use crate::registers::register_maps;
 use adv7194_bus::REGISTERS;
@@ -63,7 +64,7 @@ pub fn plan(
 ) -> Planned
     ensures answer { λ r. ⌜ answerOf r ≡ planningOf (boardOf (now (image .entry)) known) (now (numbers .entry)) address limit (length (now (plan .entry))) ⌝ }
     ensures memory { λ r. ⌜ now (plan .exit) ≡ planLeft (boardOf (now (image .entry)) known) (now (numbers .entry)) address limit (now (plan .entry)) ⌝ }
-    ensures counted { λ r. ⌜ ((l t b : ℕ) → answerOf r ≡ done l t b → Counted (take l (now (plan .exit))) l t b) ⌝ }
+    ensures counted { λ r. ⌜ ((l t b : ℕ) → answerOf r ≡ done l t b → CountedBy behind (take l (now (plan .exit))) l t b) ⌝ }
     ensures demanded { λ r. ⌜ ((l t b : ℕ) → answerOf r ≡ done l t b → Demanded (now (image .entry)) (now (numbers .entry)) (wantedBy (now (image .entry)) (now (numbers .entry)))) ⌝ }
     ensures played { λ r. ⌜ ((l t b : ℕ) → answerOf r ≡ done l t b → Played (aimOf (boardOf (now (image .entry)) known) (now (numbers .entry)) limit) (take l (now (plan .exit)))) ⌝ }
     ensures least { λ r. ⌜ ((l t b : ℕ) → answerOf r ≡ done l t b → Least (aimOf (boardOf (now (image .entry)) known) (now (numbers .entry)) limit) t b) ⌝ }

@@ -14,7 +14,7 @@ use borrow.Author.Tests.{leb-true, le-leb, lt-ltb, ne-eqb}
 use Rattle.bits.specs.Maps.{has}
 use Rattle.bits.proofs.FlagLaws.{first, second, either}
 use Rattle.bits.proofs.SetLaws.{none-has}
-use Rattle.bus.specs.Transactions.{Transaction, size, Every}
+use Rattle.bus.specs.Transactions.{Transaction, size}
 use Rattle.bus.specs.Known.{marks, marksOf}
 use Rattle.bus.proofs.Play.{Kept}
 use Rattle.bus.proofs.KnownLaws.{has-marks}
@@ -23,12 +23,12 @@ use Rattle.adv7194_bus.specs.Kind.{registerCount, readOnly, adv7194}
 use Rattle.adv7194_bus.specs.Rules.{keepsRules, allKeepRules}
 use Rattle.adv7194_bus.proofs.RuleLaws.{agree}
 use Rattle.adv7194_captions.specs.Characters.{isOdd}
-use Rattle.adv7194_captions.specs.Pairs.{extendedPair, ordinaryPair}
-use Rattle.adv7194_captions.specs.Plans.{pairSize, atPair, allOdd, allPairs}
+use Rattle.adv7194_captions.specs.Plans.{extendedPair, ordinaryPair, pairSize, atPair, allOdd, allPairs}
 use Rattle.adv7194_playing.specs.declared.PlanKind.{PlanKind}
 use Rattle.adv7194_playing.specs.declared.PlanKind.the-variants.{Settings, Captions}
 use Rattle.adv7194_playing.specs.Kinds.{needsTransaction, takesHeader, takesData, pairFrom, PairThere}
 use Rattle.adv7194_playing.specs.Playing.{takes}
+use Rattle.bits.specs.Lists.{Every}
 
 -- ---- lists
 

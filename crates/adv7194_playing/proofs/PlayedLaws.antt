@@ -10,9 +10,8 @@ use lib.Dec.{T}
 use lib.ListN.{length, getD}
 use Rattle.refusals.specs.Refusal.{accepted}
 use Rattle.refusals.specs.Verdict.{good}
-use Rattle.bus.specs.Transactions.{Transaction, Touched, Every}
-use Rattle.bus.specs.Chip.{fresh}
-use Rattle.bus.specs.Run.{after}
+use Rattle.bus.specs.Transactions.{Transaction, Touched}
+use Rattle.bus.specs.Run.{idleAt, after}
 use Rattle.bus.proofs.Play.{Kept, touched-or-same}
 use Rattle.bus.proofs.WrittenRun.{run-written}
 use Rattle.bus.proofs.KnownLaws.{touchedBy, touched-agree, has-marks-of}
@@ -29,6 +28,7 @@ use Rattle.bus.specs.Written.{allWritten}
 use Rattle.adv7194_playing.specs.Written.{boardWritten}
 use Rattle.adv7194_playing.proofs.KindLaws.{all-kept}
 use Rattle.adv7194_playing.proofs.WrittenRun.{own-list}
+use Rattle.bits.specs.Lists.{Every}
 
 -- a register that is touched by data for registers that the chip keeps is one of the chip's
 touched-inside : (own : ℕ) (ts : List Transaction) (r : ℕ) → Every (Kept (adv7194 own)) ts → Touched ts r → r < registerCount
@@ -50,14 +50,14 @@ module _ (kind : PlanKind) (b : Board) (own : ℕ) (plan : List ℕ) (ts : List 
   played-registers = ap (λ (x : Board). x .registers) played-board
 
   -- which are those of the chip after the list's events
-  pub played-run : playedBoard (takes kind) b own own plan .registers ≡ after (adv7194 own) (fresh (b .registers)) ts .registers
-  played-run = played-registers ∙ sym (run-written (adv7194 own) ts (fresh (b .registers)) (all-kept own kind ts taken))
+  pub played-run : playedBoard (takes kind) b own own plan .registers ≡ after (adv7194 own) (idleAt 0 (b .registers)) ts .registers
+  played-run = played-registers ∙ sym (run-written (adv7194 own) ts (idleAt 0 (b .registers)) (all-kept own kind ts taken))
 
   -- a register that isn't touched holds what it held
   pub played-untouched : (r : ℕ) → (Touched ts r → ⊥) → getD (playedBoard (takes kind) b own own plan .registers) r 0 ≡ getD (b .registers) r 0
   played-untouched r u =
       ap (λ (l : List ℕ). getD l r 0) played-run
-      ∙ ⊎-elim (λ v. absurd (u v)) (λ v. v) (touched-or-same (adv7194 own) ts (fresh (b .registers)) r)
+      ∙ ⊎-elim (λ v. absurd (u v)) (λ v. v) (touched-or-same (adv7194 own) ts (idleAt 0 (b .registers)) r)
 
   -- exactly the registers that were known or are touched are known
   pub played-knows : (r : ℕ) → knows (playedBoard (takes kind) b own own plan) r ≡ (knows b r || touchedBy ts r)

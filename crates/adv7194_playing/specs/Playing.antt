@@ -6,7 +6,7 @@ use mathlib.Core.List.{List}
 use Prim.Native.Nat.{ℕ}
 use Rattle.refusals.specs.Refusal.{numberOf}
 use Rattle.refusals.specs.Verdict.{Verdict, good, refusedAt}
-use Rattle.bus.specs.Transactions.{Transaction, Every}
+use Rattle.bus.specs.Transactions.{Transaction}
 use Rattle.packing.specs.Packing.{behind}
 use Rattle.playing.specs.Playing.{Call, registersLeft, knownLeft}
 use Rattle.adv7194_bus.specs.Kind.{adv7194}
@@ -18,6 +18,7 @@ use Rattle.adv7194_playing.specs.declared.PlanKind.{PlanKind}
 use Rattle.adv7194_playing.specs.declared.PlanKind.the-variants.{Settings, Captions}
 use Rattle.adv7194_playing.specs.declared.Played.{Played}
 use Rattle.adv7194_playing.specs.declared.Played.the-variants.{Done, Refused}
+use Rattle.bits.specs.Lists.{Every}
 
 -- the lists that a play call takes: those that keep the three rules, or those of captions
 abbrev pub Takes : PlanKind → List Transaction → Type 0

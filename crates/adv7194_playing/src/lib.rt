@@ -6,12 +6,15 @@ ghost use Rattle.refusals.specs.Order.{Exactly};
 ghost use Rattle.unpacking.specs.Unpacking.{unpack, counted};
 ghost use Rattle.adv7194_bus.specs.Kind.{registerCount};
 ghost use Rattle.adv7194_bus.specs.Board.{boardOf};
+ghost use Rattle.adv7194_bus.specs.Rules.{Rules, allKeepRules};
+ghost use Rattle.adv7194_captions.specs.Plans.{Captions, areCaptions};
 ghost use Rattle.bus.specs.Address.{addressRight};
 ghost use Rattle.bus.specs.Known.{marks};
 ghost use Rattle.adv7194_playing.specs.Kinds.{needsTransaction, takesHeader, takesData, pairFrom, PairThere};
 ghost use Rattle.playing.specs.Playing.{judgedIf, JudgedBy, rowPlayed, playOrder, acknowledged, playOf};
 ghost use Rattle.adv7194_playing.specs.Playing.{Takes, takes, callOf, playedBoard, answerOf, knownOf};
 ghost use Rattle.adv7194_playing.specs.Written.{Written, countOf, mapOf};
+ghost use Rattle.bits.specs.Lists.{Every};
 use adv7194_bus::REGISTERS;
 use adv7194_bus::image::copied;
 use adv7194_captions::at_pair;
@@ -175,7 +178,7 @@ fn play_checked(
 
 // Plays a packed plan of this kind, sent at the address used, against a fresh chip of its own address that holds the image, of which the registers in
 // the map are known.
-pub fn play(
+fn play_kind(
     kind: PlanKind,
     image: &mut [u8],
     known: u64,
@@ -200,4 +203,27 @@ pub fn play(
         return Played::Refused(Refusal::BusAddress);
     }
     play_checked(kind, image, known, used, own, plan)
+}
+
+// Plays a packed plan of settings, sent at the address used, against a fresh chip of its own address that holds the image, of which the registers in the
+// map are known.
+pub fn play(image: &mut [u8], known: u64, used: u32, own: u32, plan: &[u8]) -> Played
+    ensures answer { λ r. ⌜ answerOf r ≡ playOf (callOf allKeepRules (boardOf (now (image .entry)) known) used own (now (plan .entry))) ⌝ }
+    ensures memory { λ r. ⌜ boardOf (now (image .exit)) (knownOf known r) ≡ playedBoard allKeepRules (boardOf (now (image .entry)) known) used own (now (plan .entry)) ⌝ }
+    ensures exactly { λ r. ⌜ Exactly (rowPlayed (callOf allKeepRules (boardOf (now (image .entry)) known) used own (now (plan .entry)))) playOrder
+        (acknowledged (callOf allKeepRules (boardOf (now (image .entry)) known) used own (now (plan .entry)))) (answerOf r) ⌝ }
+    ensures taken { λ r. ⌜ JudgedBy (Every Rules) (callOf allKeepRules (boardOf (now (image .entry)) known) used own (now (plan .entry))) ⌝ }
+{
+    play_kind(PlanKind::Settings, image, known, used, own, plan)
+}
+
+// Plays a packed plan of captions, as `play` plays one of settings.
+pub fn play_captions(image: &mut [u8], known: u64, used: u32, own: u32, plan: &[u8]) -> Played
+    ensures answer { λ r. ⌜ answerOf r ≡ playOf (callOf areCaptions (boardOf (now (image .entry)) known) used own (now (plan .entry))) ⌝ }
+    ensures memory { λ r. ⌜ boardOf (now (image .exit)) (knownOf known r) ≡ playedBoard areCaptions (boardOf (now (image .entry)) known) used own (now (plan .entry)) ⌝ }
+    ensures exactly { λ r. ⌜ Exactly (rowPlayed (callOf areCaptions (boardOf (now (image .entry)) known) used own (now (plan .entry)))) playOrder
+        (acknowledged (callOf areCaptions (boardOf (now (image .entry)) known) used own (now (plan .entry)))) (answerOf r) ⌝ }
+    ensures taken { λ r. ⌜ JudgedBy Captions (callOf areCaptions (boardOf (now (image .entry)) known) used own (now (plan .entry))) ⌝ }
+{
+    play_kind(PlanKind::Captions, image, known, used, own, plan)
 }

@@ -7,12 +7,13 @@ use lib.Dec.{eqb, ltb}
 use lib.IntN.{ℤ}
 use lib.ListN.{length}
 use borrow.Author.Tests.{ne-eqb, lt-ltb, le-ltb}
-use Rattle.refusals.specs.Verdict.{Verdict, good, refusedAt}
+use Rattle.refusals.specs.Verdict.{Verdict, good, refusedAt, leftBy}
 use Rattle.refusals.specs.Order.{Exactly}
 use Rattle.refusals.proofs.OrderLaws.{exactly}
 use Rattle.adv7194_bus.specs.declared.board.Board.{Board}
-use Rattle.adv7194_settings.specs.Reading.{rowRead, readOrder, readOf, leftBy, readLeft, withUnknown}
+use Rattle.adv7194_settings.specs.Reading.{rowRead, readOrder, readOf, readLeft, withUnknown}
 use Rattle.adv7194_settings.proofs.ReadingLaws.{all-judged}
+use Rattle.adv7194_settings.specs.Held.{settingsHeld}
 
 abbrev Found : Type 0
 Found = Verdict (Unit {0})
@@ -45,7 +46,7 @@ module _ {u : ℕ} (h : u ≡ 0 → ⊥) where
 -- ---- all that is ensured
 
 -- from the answer and what it leaves
-pub answered : (b : Board) (zs : List ℤ) {v : Found} {l : List ℤ} → v ≡ readOf b (length zs) → l ≡ leftBy (b .registers) zs v
+pub answered : (b : Board) (zs : List ℤ) {v : Found} {l : List ℤ} → v ≡ readOf b (length zs) → l ≡ leftBy zs (settingsHeld (b .registers)) v
     → (v ≡ readOf b (length zs)) × ((l ≡ readLeft b zs) × Exactly (rowRead b (length zs)) readOrder tt v)
 unfolding readOf
-answered b zs e h = (e, (h ∙ ap (leftBy (b .registers) zs) e, exactly (rowRead b (length zs)) readOrder tt e))
+answered b zs e h = (e, (h ∙ ap (leftBy zs (settingsHeld (b .registers))) e, exactly (rowRead b (length zs)) readOrder tt e))

@@ -1,19 +1,19 @@
 -- What the rows of each field say of an image is what its reading says. Assumes nothing.
 use mathlib.Core.Path.{_≡_, refl, ap, ap₂, _∙_}
-use mathlib.Core.List.{List, [], _∷_, _++_}
+use mathlib.Core.List.{List, [], _∷_, _++_, flatMap}
 use Prim.Native.Nat.{ℕ}
 use lib.ListN.{take}
 use Rattle.refusals.specs.Verdict.{Verdict, after, faultWhere}
-use Rattle.refusals.specs.Order.{firstOf, placesAt}
+use Rattle.refusals.specs.Order.{firstOf, placesAt, placesIn}
 use Rattle.refusals.proofs.VerdictLaws.{after-assoc}
 use Rattle.refusals.proofs.OrderLaws.{first-append}
 use Rattle.field_table.specs.Rows.{rowOf}
 use Rattle.field_table.specs.Coding.{Field, plainOf}
 use Rattle.field_table.specs.Walk.{readingOf, readingFault, judgeOf}
 use Rattle.adv7194_table.specs.Fields.{standard, squarePixel, oversampling, pedestal, timing, output, picture, dnr, brightness, sharpness}
-use Rattle.adv7194_table.specs.Table.{singles, table}
+use Rattle.adv7194_table.specs.Table.{table}
 use Rattle.adv7194_settings.specs.Held.{settingsHeld}
-use Rattle.adv7194_settings.specs.Order.{rowsAt, placesOf}
+use Rattle.adv7194_settings.specs.Order.{rowsAt}
 use Rattle.adv7194_settings.specs.Rows.{squareWithOversampling, pedestalWithPal, someOf, rowHeld}
 use Rattle.adv7194_reading.specs.Steps.{faultIn}
 use Rattle.adv7194_reading.proofs.RowLaws.{aloneRows, alone, alone-with, with-zero-bits, reading-small, reading-only}
@@ -29,8 +29,8 @@ fieldFault image f = firstOf (rowHeld image) (placesAt (rowsAt f) f) tt
 
 -- one field before others
 pub field-first : (image : List ℕ) (f : ℕ) (fs : List ℕ) → faultIn image (f ∷ fs) ≡ after (fieldFault image f) (faultIn image fs)
-unfolding placesOf
-field-first image f fs = first-append (rowHeld image) (placesAt (rowsAt f) f) (placesOf fs) tt
+unfolding placesIn flatMap
+field-first image f fs = first-append (rowHeld image) (placesAt (rowsAt f) f) (placesIn rowsAt fs) tt
 
 -- the faults of some readings, before others
 abbrev pub inTurn : List ℕ → List Field → Found → Found
@@ -70,12 +70,12 @@ sharpnessZero = plainOf (rowOf 0x11_FF_22_44_000_000_04)
 
 -- 16 and 17, each with its must-be-zero bits
 brightness-fault : (image : List ℕ) → fieldFault image 16 ≡ after (readingFault image brightness) (readingFault image brightnessZero)
-unfolding firstOf placesAt rowHeld someOf table singles timing output picture dnr
+unfolding firstOf placesAt rowHeld someOf table timing output picture dnr
 brightness-fault image =
     with-zero-bits 16 (readingOf image brightness) (readingOf image brightnessZero) (reading-only image brightness) (reading-only image brightnessZero)
 
 sharpness-fault : (image : List ℕ) → fieldFault image 17 ≡ after (readingFault image sharpness) (readingFault image sharpnessZero)
-unfolding firstOf placesAt rowHeld someOf table singles timing output picture dnr
+unfolding firstOf placesAt rowHeld someOf table timing output picture dnr
 sharpness-fault image =
     with-zero-bits 17 (readingOf image sharpness) (readingOf image sharpnessZero) (reading-only image sharpness) (reading-only image sharpnessZero)
 
@@ -89,18 +89,18 @@ zero-first image n f z gs e =
 module _ (image : List ℕ) (gs : List ℕ) where
   -- 3: 4x oversampling, and row 5
   oversampling-fault : fieldFault image 3 ≡ after (readingFault image oversampling) (faultWhere (squareWithOversampling (settingsHeld image)) 5 3)
-  unfolding firstOf placesAt rowHeld someOf table singles timing output picture dnr
+  unfolding firstOf placesAt rowHeld someOf table timing output picture dnr
   oversampling-fault = alone-with 3 5 (squareWithOversampling (settingsHeld image)) (readingOf image oversampling) (reading-small image oversampling)
 
   -- 4: pedestal, and row 6
   pedestal-fault : fieldFault image 4 ≡ after (readingFault image pedestal) (faultWhere (pedestalWithPal (settingsHeld image)) 6 4)
-  unfolding firstOf placesAt rowHeld someOf table singles timing output picture dnr
+  unfolding firstOf placesAt rowHeld someOf table timing output picture dnr
   pedestal-fault = alone-with 4 6 (pedestalWithPal (settingsHeld image)) (readingOf image pedestal) (reading-small image pedestal)
 
   -- 1 to 3
   pub timing-first : faultIn image (1 ∷ 2 ∷ 3 ∷ gs)
       ≡ inTurn image timing (after (faultWhere (squareWithOversampling (settingsHeld image)) 5 3) (faultIn image gs))
-  unfolding firstOf placesAt rowHeld someOf table singles timing output picture dnr
+  unfolding firstOf placesAt rowHeld someOf table timing output picture dnr
   timing-first =
       group image (standard ∷ squarePixel ∷ []) (3 ∷ gs) (refl, (refl, tt))
       ∙ ap (inTurn image (standard ∷ squarePixel ∷ [])) (field-first image 3 gs ∙ ap (λ (v : Found). after v (faultIn image gs)) oversampling-fault
@@ -115,12 +115,12 @@ module _ (image : List ℕ) (gs : List ℕ) where
 
   -- 5 to 10
   pub output-first : faultIn image (5 ∷ 6 ∷ 7 ∷ 8 ∷ 9 ∷ 10 ∷ gs) ≡ inTurn image output (faultIn image gs)
-  unfolding firstOf placesAt rowHeld someOf table singles timing output picture dnr
+  unfolding firstOf placesAt rowHeld someOf table timing output picture dnr
   output-first = group image output gs (refl, (refl, (refl, (refl, (refl, (refl, tt))))))
 
   -- 12 to 17
   pub picture-first : faultIn image (12 ∷ 13 ∷ 14 ∷ 15 ∷ 16 ∷ 17 ∷ gs) ≡ inTurn image picture (faultIn image gs)
-  unfolding firstOf placesAt rowHeld someOf table singles timing output picture dnr
+  unfolding firstOf placesAt rowHeld someOf table timing output picture dnr
   picture-first =
       group image (take 4 picture) (16 ∷ 17 ∷ gs) (refl, (refl, (refl, (refl, tt))))
       ∙ ap (inTurn image (take 4 picture))
@@ -129,5 +129,5 @@ module _ (image : List ℕ) (gs : List ℕ) where
 
   -- 18 to 25
   pub dnr-first : faultIn image (18 ∷ 19 ∷ 20 ∷ 21 ∷ 22 ∷ 23 ∷ 24 ∷ 25 ∷ gs) ≡ inTurn image dnr (faultIn image gs)
-  unfolding firstOf placesAt rowHeld someOf table singles timing output picture dnr
+  unfolding firstOf placesAt rowHeld someOf table timing output picture dnr
   dnr-first = group image dnr gs (refl, (refl, (refl, (refl, (refl, (refl, (refl, (refl, tt))))))))

@@ -1,36 +1,28 @@
 -- The judgement of an image is what the groups of fields say, one after the other. Assumes nothing.
-use mathlib.Core.Path.{_≡_, refl, sym, ap, _∙_}
-use mathlib.Core.List.{List, [], _∷_, _++_, append-assoc}
+use mathlib.Core.Path.{_≡_, sym, ap, _∙_}
+use mathlib.Core.List.{List, [], _∷_, flatMap}
 use Prim.Native.Nat.{ℕ}
 use Rattle.refusals.specs.Verdict.{good, after, faultWhere}
-use Rattle.refusals.specs.Order.{Place, firstOf, placesAt}
+use Rattle.refusals.specs.Order.{Place, firstOf, placesIn}
 use Rattle.refusals.proofs.VerdictLaws.{after-good}
-use Rattle.refusals.proofs.OrderLaws.{first-append}
+use Rattle.refusals.proofs.OrderLaws.{places-append, first-append}
 use Rattle.field_table.specs.Walk.{readingFault, judgeOf as fieldsJudged}
 use Rattle.adv7194_table.specs.Fields.{pedestal, timing, output, picture, dnr}
-use Rattle.adv7194_table.specs.Table.{singles, table, orderOf}
+use Rattle.adv7194_table.specs.Table.{table, orderOf}
 use Rattle.adv7194_settings.specs.Held.{settingsHeld}
-use Rattle.adv7194_settings.specs.Order.{rowsAt, placesOf, order}
+use Rattle.adv7194_settings.specs.Order.{rowsAt, order}
 use Rattle.adv7194_settings.specs.Rows.{squareWithOversampling, pedestalWithPal, rowHeld, judgeOf}
 use Rattle.adv7194_reading.specs.Steps.{firstFields, lastFields, faultIn}
 use Rattle.adv7194_reading.proofs.FieldLaws.{Found, inTurn, judged-turn, timing-first, pedestal-first, output-first, picture-first, dnr-first}
 use Rattle.adv7194_reading.proofs.BlockLaws.{conflictHeld, signallingFault, wordFault, signalling-first, curves-and-word}
 
--- the places of some fields before those of others
-places-append : (fs gs : List ℕ) → placesOf (fs ++ gs) ≡ placesOf fs ++ placesOf gs
-unfolding placesOf
-places-append [] gs = refl
-places-append (f ∷ fs) gs =
-    ap (λ (l : List Place). placesAt (rowsAt f) f ++ l) (places-append fs gs)
-    ∙ sym (append-assoc (placesAt (rowsAt f) f) (placesOf fs) (placesOf gs))
-
 module _ (image : List ℕ) where
   -- the judgement is that of the first fields and then that of the last
   pub judged-parts : judgeOf image ≡ after (faultIn image firstFields) (faultIn image lastFields)
-  unfolding judgeOf order orderOf table singles timing output picture dnr
+  unfolding judgeOf order orderOf table timing output picture dnr
   judged-parts =
-      ap (λ (ps : List Place). firstOf (rowHeld image) ps tt) (places-append firstFields lastFields)
-      ∙ first-append (rowHeld image) (placesOf firstFields) (placesOf lastFields) tt
+      ap (λ (ps : List Place). firstOf (rowHeld image) ps tt) (places-append rowsAt firstFields lastFields)
+      ∙ first-append (rowHeld image) (placesIn rowsAt firstFields) (placesIn rowsAt lastFields) tt
 
   -- rows 5 and 6
   abbrev pub squareHeld : Found
@@ -42,7 +34,7 @@ module _ (image : List ℕ) where
   -- 1 to 10
   pub first-judged : faultIn image firstFields
       ≡ after (fieldsJudged image timing) (after squareHeld (after (readingFault image pedestal) (after pedestalHeld (fieldsJudged image output))))
-  unfolding firstOf placesOf orderOf table singles timing output picture dnr
+  unfolding firstOf placesIn orderOf table timing output picture dnr flatMap
   first-judged =
       let rest = after squareHeld (after (readingFault image pedestal) (after pedestalHeld (fieldsJudged image output))) in
       timing-first image (4 ∷ 5 ∷ 6 ∷ 7 ∷ 8 ∷ 9 ∷ 10 ∷ [])
@@ -55,7 +47,7 @@ module _ (image : List ℕ) where
   -- 11 to 28
   pub last-judged : faultIn image lastFields
       ≡ after (conflictHeld image) (after (signallingFault image) (after (fieldsJudged image picture) (after (fieldsJudged image dnr) (wordFault image))))
-  unfolding firstOf placesOf orderOf table singles timing output picture dnr
+  unfolding firstOf placesIn orderOf table timing output picture dnr flatMap
   last-judged =
       let fromCurves : List ℕ = 26 ∷ 27 ∷ 28 ∷ [] in
       let fromDnr : List ℕ = 18 ∷ 19 ∷ 20 ∷ 21 ∷ 22 ∷ 23 ∷ 24 ∷ 25 ∷ fromCurves in

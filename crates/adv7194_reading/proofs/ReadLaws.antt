@@ -6,11 +6,11 @@ use lib.IntN.{ℤ}
 use Rattle.refusals.specs.Verdict.{Verdict, good, after, faultOf, faultWhere}
 use Rattle.refusals.proofs.VerdictLaws.{after-good, after-assoc}
 use Rattle.field_table.specs.Walk.{given, readingFault, judgeOf, store, numbersOf}
-use Rattle.field_table.specs.Blocks.{numbersFrom, storeFrom}
+use Rattle.field_table.specs.Blocks.{storeFrom, slice}
 use Rattle.adv7194_table.specs.Fields.{standard, squarePixel, pedestal, timing, output, picture, dnr}
 use Rattle.adv7194_table.specs.Blocks.{signalling, curveA, curveB, word}
-use Rattle.adv7194_table.specs.Table.{signals, curve, whole, singles, table}
-use Rattle.adv7194_settings.specs.Held.{settingHeld, bytesIn, blockReading, storeEntry, storeEntries, noNumbers, settingsHeld}
+use Rattle.adv7194_table.specs.Table.{signals, curve, whole, table}
+use Rattle.adv7194_settings.specs.Held.{settingHeld, bytesIn, blockReading, storeEntry, noNumbers, settingsHeld}
 use Rattle.adv7194_settings.specs.Rows.{squareWithOversampling, pedestalWithPal}
 use Rattle.adv7194_reading_blocks.specs.Blocks.{wordReading}
 use Rattle.adv7194_reading_blocks.proofs.SignalLaws.{conflictBy}
@@ -27,16 +27,16 @@ Found = Verdict (Unit {0})
 module _ (image : List ℕ) where
   -- the settings read so far are those that count
   square-so-far : squareWithOversampling (numbersOf image noNumbers timing) ≡ squareWithOversampling (settingsHeld image)
-  unfolding settingsHeld storeEntries storeFrom numbersFrom numbersOf table singles timing output picture dnr
+  unfolding settingsHeld storeFrom slice numbersOf table timing output picture dnr
   square-so-far = refl
 
   pedestal-so-far : pedestalWithPal (store image (numbersOf image noNumbers timing) pedestal) ≡ pedestalWithPal (settingsHeld image)
-  unfolding settingsHeld storeEntries storeFrom numbersFrom numbersOf table singles timing output picture dnr
+  unfolding settingsHeld storeFrom slice numbersOf table timing output picture dnr
   pedestal-so-far = refl
 
   -- the numbers
   pub first-numbers : numbersOf image (store image (numbersOf image noNumbers timing) pedestal) output ≡ firstNumbers image
-  unfolding firstNumbers storeEntries numbersOf table singles timing output picture dnr
+  unfolding firstNumbers numbersOf table timing output picture dnr
   first-numbers = refl
 
   -- the verdict and the numbers of the steps
@@ -70,7 +70,7 @@ module _ (image : List ℕ) where
 module _ (image : List ℕ) where
   -- what the last fields depend on is read
   standard-read : given (firstNumbers image) (standard .row) ≡ settingHeld image standard
-  unfolding firstNumbers storeEntries table singles timing output picture dnr
+  unfolding firstNumbers table timing output picture dnr
   standard-read = refl
 
   abbrev afterSignals : List ℤ → List ℤ
@@ -81,15 +81,15 @@ module _ (image : List ℕ) where
       storeEntry image (storeEntry image (numbersOf image (numbersOf image (afterSignals zs) picture) dnr) (whole curve curveA)) (whole curve curveB)
 
   last-numbers : afterCurves (firstNumbers image) ≡ settingsHeld image
-  unfolding firstNumbers settingsHeld storeEntries numbersOf storeFrom numbersFrom table singles timing output picture dnr
+  unfolding firstNumbers settingsHeld numbersOf storeFrom slice table timing output picture dnr
   last-numbers = refl
 
   standard-held : given (settingsHeld image) (standard .row) ≡ settingHeld image standard
-  unfolding settingsHeld storeEntries storeFrom numbersFrom table singles timing output picture dnr
+  unfolding settingsHeld storeFrom slice table timing output picture dnr
   standard-held = refl
 
   square-held : given (settingsHeld image) (squarePixel .row) ≡ settingHeld image squarePixel
-  unfolding settingsHeld storeEntries storeFrom numbersFrom table singles timing output picture dnr
+  unfolding settingsHeld storeFrom slice table timing output picture dnr
   square-held = refl
 
   module _ {zs n1 n2 n3 n4 n5 : List ℤ} (e0 : zs ≡ firstNumbers image) (e1 : n1 ≡ storeEntry image zs (whole signals signalling))

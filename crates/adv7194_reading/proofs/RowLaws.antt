@@ -15,7 +15,6 @@ use Rattle.refusals.proofs.VerdictLaws.{after-good}
 use Rattle.field_table.specs.Rows.{refusalOutside}
 use Rattle.field_table.specs.Coding.{Field, hasAt, settingAt, leastMagnitude, decode}
 use Rattle.field_table.specs.Walk.{held, readingOf}
-use Rattle.adv7194_settings.specs.Held.{oneNumber}
 
 abbrev Found : Type 0
 Found = Verdict (Unit {0})
@@ -83,20 +82,20 @@ tried n f j v = cond (refusedBy n j || false) (refusedAt n f) v
 
 -- the rows of a field of one number, a test of another row among them
 pub alone-with : (f k : ℕ) (b : Bool) (j : Judged ℤ) → T (small j)
-    → tried 3 f (oneNumber j) (tried 4 f (oneNumber j) (cond b (refusedAt k f) (tried 8 f (oneNumber j) (good tt)))) ≡ after (faultOf f j) (faultWhere b k f)
+    → tried 3 f j (tried 4 f j (cond b (refusedAt k f) (tried 8 f j (good tt)))) ≡ after (faultOf f j) (faultWhere b k f)
 alone-with f k b (accepted z) h = refl
 alone-with f k b (refused n) h = ⊎-elim (λ e. rw e) (λ e. rw e) (three-four n h)
 
 -- none among them
 abbrev pub aloneRows : ℕ → Judged ℤ → Found
-aloneRows f j = tried 3 f (oneNumber j) (tried 4 f (oneNumber j) (tried 8 f (oneNumber j) (good tt)))
+aloneRows f j = tried 3 f j (tried 4 f j (tried 8 f j (good tt)))
 
 pub alone : (f : ℕ) (j : Judged ℤ) → T (small j) → aloneRows f j ≡ faultOf f j
 alone f j h = alone-with f 5 false j h ∙ after-good (faultOf f j)
 
 -- the rows of a field of one number that has must-be-zero bits
 abbrev pub triedTwo : ℕ → ℕ → Judged ℤ → Judged ℤ → Found → Found
-triedTwo n f j k v = cond (refusedBy n (oneNumber j) || (refusedBy n (oneNumber k) || false)) (refusedAt n f) v
+triedTwo n f j k v = cond (refusedBy n j || (refusedBy n k || false)) (refusedAt n f) v
 
 pub with-zero-bits : (f : ℕ) (j k : Judged ℤ) → T (only 3 j) → T (only 4 k)
     → triedTwo 3 f j k (triedTwo 4 f j k (triedTwo 8 f j k (good tt))) ≡ after (faultOf f j) (faultOf f k)

@@ -9,7 +9,7 @@ use lib.IntN.{ℤ, pos}
 use lib.ListN.{length, set, length-set}
 use borrow.Author.Tests.{le-leb}
 use Rattle.refusals.specs.Refusal.{Judged, accepted, refused}
-use Rattle.field_table.specs.Blocks.{numbersFrom, storeFrom, bytesFrom}
+use Rattle.field_table.specs.Blocks.{storeFrom, slice}
 use Rattle.adv7194_table.specs.declared.blocks.Block.{Block}
 use Rattle.adv7194_table.specs.Table.{curve, whole}
 use Rattle.adv7194_gamma.specs.Curve.{curveNumbers}
@@ -49,9 +49,9 @@ kept-curve zs k bs ea eb ec e =
     cc
 
 -- a block's numbers are those of its bytes
-pub kept-block : (image : List ℕ) (zs : List ℤ) (b : Block) {l : List ℤ} {bs : List ℕ} → CurveSize b → bs ≡ bytesFrom image (b .register) 7
+pub kept-block : (image : List ℕ) (zs : List ℤ) (b : Block) {l : List ℤ} {bs : List ℕ} → CurveSize b → bs ≡ slice 0 image (b .register) 7
     → l ≡ storeFrom zs (b .index) (curveNumbers bs) → l ≡ storeEntry image zs (whole curve b)
-unfolding numbersFrom bytesFrom
+unfolding slice
 kept-block image zs b size e h =
     h ∙ ap (λ (x : List ℕ). storeFrom zs (b .index) (curveNumbers x)) e
     ∙ rw (size .registers, size .numbers)

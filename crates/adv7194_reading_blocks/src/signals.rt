@@ -1,7 +1,6 @@
 // Field 11, signalling: its registers judged and read, its five numbers stored.
 ghost use mathlib.Core.Path.{_≡_};
-ghost use mathlib.Core.Bool.{_||_};
-ghost use Rattle.refusals.specs.Refusal.{refusedBy};
+ghost use mathlib.Core.List.{[], _∷_};
 ghost use Rattle.refusals.specs.Verdict.{after, faultOf, faultWhere};
 ghost use Rattle.field_table.specs.Walk.{given as givenOf};
 ghost use Rattle.field_table.specs.Blocks.{storeFrom};
@@ -10,8 +9,7 @@ ghost use Rattle.adv7194_table.specs.Fields.{standard};
 ghost use Rattle.adv7194_table.specs.Blocks.{signalling};
 ghost use Rattle.adv7194_table.specs.Table.{signals, whole};
 ghost use Rattle.adv7194_signalling.specs.Word.{threeBytes};
-ghost use Rattle.adv7194_signalling.specs.Kind.{kindOf};
-ghost use Rattle.adv7194_signalling.specs.Signalling.{noSignalling, kindConflict, heldConflict};
+ghost use Rattle.adv7194_signalling.specs.Signalling.{noSignalling, heldConflict};
 ghost use Rattle.adv7194_signalling.specs.Answers.{numbersOf, readAs};
 ghost use Rattle.adv7194_settings.specs.Held.{bytesIn, blockReading, storeEntry};
 use crate::places::byte;
@@ -62,7 +60,7 @@ fn registers(image: &[u8]) -> Registers
 
 // The fault that the kind in register 19 is with the standard read before.
 fn conflict(r19: u8, numbers: &[i32]) -> Checked
-    ensures answer { λ r. ⌜ checkedAs r ≡ faultWhere (refusedBy 7 (kindOf r19) || kindConflict (givenOf (now (numbers .entry)) (standard .row)) (kindOf r19)) 7 11 ⌝ }
+    ensures answer { λ r. ⌜ checkedAs r ≡ faultWhere (heldConflict (givenOf (now (numbers .entry)) (standard .row)) (r19 ∷ [])) 7 11 ⌝ }
 {
     if held_conflict(given(numbers, row_of(STANDARD)), r19) {
         return Checked::Refused {

@@ -6,12 +6,12 @@ use mathlib.Core.List.{List}
 use Prim.Native.Nat.{ℕ, suc, _-_, _≤_, _<_}
 use native.Mathlib.Nat.{eq-or-lt-of-le}
 use native.Mathlib.Omega.{arith}
-use borrow.Author.Tests.{lt-ltb}
+use borrow.Author.Tests.{lt-ltb, eq-eqb}
 use Rattle.bus.specs.Transactions.{Transaction, end, Touches}
 use Rattle.adv7194_bus.specs.Kind.{registerCount}
 use Rattle.adv7194_bus.specs.Rules.{Rules}
 use Rattle.adv7194_table.specs.Fields.{timing, output, picture, dnr}
-use Rattle.adv7194_table.specs.Table.{singles, table}
+use Rattle.adv7194_table.specs.Table.{table}
 use Rattle.adv7194_table.specs.Masks.{maskWhere, fieldMask, zeroMask}
 use Rattle.least_cost.proofs.Attained.{Right}
 use Rattle.adv7194_least.specs.Aim.{Aim, must}
@@ -22,25 +22,25 @@ use Rattle.adv7194_least.proofs.TaskLaws.{need-word, need-other}
 use Rattle.adv7194_least.proofs.Differing.{permits}
 use Rattle.adv7194_least.proofs.Keeping.{right-rules}
 use Rattle.adv7194_least.proofs.Bridges.{plan-bridges}
-use Rattle.adv7194_reasons.specs.Reasons.{joined, bridges, nextBelow, nextAbove}
-use Rattle.adv7194_reasons.proofs.NextLaws.{NextBelow, NextFrom, none-from, below-found, from-found}
+use Rattle.adv7194_reasons.specs.Reasons.{bridge, joined, nextBelow, nextAbove, holds}
+use Rattle.adv7194_reasons.proofs.NextLaws.{NextBelow, NextFrom, below-found, from-found, from-is}
 use Rattle.adv7194_reasons.proofs.SentLaws.{TouchedIn}
 
 -- the register before the word has no field and no must-be-zero bit
 before-word : settable 0x0b ≡ false
-unfolding settable fieldMask zeroMask maskWhere table singles timing output picture dnr
+unfolding settable fieldMask zeroMask maskWhere table timing output picture dnr
 before-word = refl
 
 -- the needed registers next below and next above, in one transaction, are those of a bridge
 bridge-of : (a : Aim) (ts : List Transaction) (r i j : ℕ) → must a r ≡ false → NextBelow (must a) r i → NextFrom (must a) (suc r) j
-    → joined ts i j ≡ true → bridges a ts r i j ≡ true
-bridge-of a ts r i j m b f e =
+    → j < registerCount → joined ts i j ≡ true → holds a ts r (bridge i j) ≡ true
+bridge-of a ts r i j m b f h e =
     rw (
       lt-ltb i r (b .under),
       lt-ltb r j (f .from),
       b .passes,
       f .passes,
-      none-from (must a) (j - suc i) (suc i) (λ x u v. none x u (omega (arith, b .under, f .from)) (among? r r x)),
+      eq-eqb (nextAbove (must a) i) j (from-is (must a) (registerCount - suc i) (suc i) j (omega arith) next),
       e,
     )
   where
@@ -48,6 +48,9 @@ bridge-of a ts r i j m b f e =
     none x u v (inl s) = let d : x ≡ r = omega arith in rw d m
     none x u v (inr (inl s)) = b .none x u s
     none x u v (inr (inr s)) = f .none x s v
+
+    next : NextFrom (must a) (suc i) j
+    next = record { from = omega (arith, b .under, f .from); passes = f .passes; none = λ x u v. none x u v (among? r r x) }
 
 module _ (a : Aim) (χ : Change a) (r : ℕ) (q : TouchedIn (Right (task a) (byteOf a)) (planOf a) r) (n : needed a r ≡ false) where
   -- the transaction that touches the register keeps the rules
@@ -104,7 +107,7 @@ module _ (a : Aim) (χ : Change a) (r : ℕ) (q : TouchedIn (Right (task a) (byt
   last-must = let l = q .has in must-here (end (q .at) - 1) (omega arith) (q .is .last)
 
   -- the register is a bridge between the needed ones next to it
-  pub is-bridge : bridges a (planOf a) r (nextBelow (must a) r) (nextAbove (must a) r) ≡ true
+  pub is-bridge : holds a (planOf a) r (bridge (nextBelow (must a) r) (nextAbove (must a) r)) ≡ true
   is-bridge =
       let s = starts in
       let e = ends in
@@ -112,4 +115,4 @@ module _ (a : Aim) (χ : Change a) (r : ℕ) (q : TouchedIn (Right (task a) (byt
       let b = below-found (must a) r (q .at .subaddress) s first-must in
       let f = from-found (must a) (registerCount - suc r) (suc r) (end (q .at) - 1) e (omega arith) last-must in
       bridge-of a (planOf a) r (nextBelow (must a) r) (nextAbove (must a) r) (sym (need-other (must a) r (no-word r (q .has))) ∙ n) (b .0) (f .0)
-      (q .joins (nextBelow (must a) r) (nextAbove (must a) r) (omega (arith, b, f)) (omega (arith, b, f)))
+      (omega (arith, f)) (q .joins (nextBelow (must a) r) (nextAbove (must a) r) (omega (arith, b, f)) (omega (arith, b, f)))

@@ -1,6 +1,6 @@
 -- A known register that differs has a field whose bits change there, or a must-be-zero bit that was set. Assumes nothing.
 use mathlib.Core.Path.{_≡_, refl, sym, ap, _∙_}
-use mathlib.Core.Bool.{Bool, true, false, _&&_, and-true, and-false}
+use mathlib.Core.Bool.{Bool, true, false, not, _&&_, and-true, and-false}
 use mathlib.Core.List.{List, [], _∷_, map}
 use Prim.Native.Nat.{ℕ, _^_, _<_}
 use native.Mathlib.Omega.{arith}
@@ -18,10 +18,10 @@ use Rattle.adv7194_bus.specs.declared.board.Board.{Board}
 use Rattle.bits.proofs.Checks.{below, at-below}
 use Rattle.adv7194_table.specs.Blocks.{signalling}
 use Rattle.adv7194_table.specs.Fields.{timing, output, picture, dnr}
-use Rattle.adv7194_table.specs.Table.{signals, singles, table, orderOf}
+use Rattle.adv7194_table.specs.Table.{signals, table, orderOf}
 use Rattle.adv7194_table.specs.Masks.{maskWhere, fieldMask, zeroMask, settingMask, outsideMask}
 use Rattle.adv7194_table.specs.RawCodes.{zeroBits, outsideBits}
-use Rattle.adv7194_settings.specs.Codes.{blockCodes, codesIn}
+use Rattle.adv7194_settings.specs.Codes.{blockCodes}
 use Rattle.adv7194_settings.specs.Demand.{fixedMask}
 use Rattle.adv7194_settings.specs.Wanted.{wantedBy}
 use Rattle.adv7194_settings.proofs.DemandLaws.{demanded}
@@ -29,7 +29,8 @@ use Rattle.adv7194_settings.proofs.FitLaws.{wanted-bytes}
 use Rattle.adv7194_least.specs.Aim.{Aim, aimOf}
 use Rattle.adv7194_least.specs.Change.{Image, Change}
 use Rattle.adv7194_reasons.specs.First.{NoneTrue}
-use Rattle.adv7194_reasons.specs.Reasons.{fieldChanges, zeroWasSet}
+use Rattle.adv7194_reasons.specs.Reasons.{bitsDiffer}
+use Rattle.refusals.specs.Refusal.{valueOr}
 
 -- a wanted image has its must-be-zero bits zero, and the found byte's bits outside all fields
 pub record Settled (a : Aim) : Type 0 where
@@ -40,7 +41,7 @@ pub record Settled (a : Aim) : Type 0 where
 
 -- no fixed bit lies outside all fields: a test over the masks, whether field 11 is off or not
 outside-free : (cs : List ℕ) → T (below registerCount (λ r. eqb (bitAnd (fixedMask cs r) (outsideMask r)) 0))
-unfolding below fixedMask outsideMask fieldMask zeroMask maskWhere table singles timing output picture dnr
+unfolding below fixedMask outsideMask fieldMask zeroMask maskWhere table timing output picture dnr
 outside-free [] = tt
 outside-free (c ∷ cs) = tt
 
@@ -68,9 +69,9 @@ module _ (b : Board) (zs : List ℤ) (limit : ℕ) (image : Image (b .registers)
       both i k false e = and-false (has (wanted r) i)
 
   -- a bit outside all fields isn't fixed
-  not-fixed : (r i : ℕ) → r < registerCount → has (outsideMask r) i ≡ true → bit i (fixedMask (codesIn (blockCodes zs signals signalling)) r) ≡ 0
+  not-fixed : (r i : ℕ) → r < registerCount → has (outsideMask r) i ≡ true → bit i (fixedMask (valueOr [] (blockCodes zs signals signalling)) r) ≡ 0
   not-fixed r i h e =
-      let cs = codesIn (blockCodes zs signals signalling) in
+      let cs = valueOr [] (blockCodes zs signals signalling) in
       let none = at-below registerCount (λ r. eqb (bitAnd (fixedMask cs r) (outsideMask r)) 0) (outside-free cs) r h in
       let both : (has (fixedMask cs r) i && has (outsideMask r) i) ≡ false =
       sym (has-and (fixedMask cs r) (outsideMask r) i) ∙ ap (λ (x : ℕ). has x i) (eqb→eq (bitAnd (fixedMask cs r) (outsideMask r)) 0 none)
@@ -105,7 +106,7 @@ masksAt r = zeroMask r ∷ outsideMask r ∷ map (λ f. settingMask f r) (orderO
 
 -- together they are all bits, at every register: the one test
 covers-all : T (below registerCount (λ r. eqb (allMasks (masksAt r)) 0xFF))
-unfolding below allMasks outsideMask fieldMask zeroMask settingMask maskWhere orderOf table singles timing output picture dnr
+unfolding below allMasks outsideMask fieldMask zeroMask settingMask maskWhere orderOf table timing output picture dnr
 covers-all = tt
 
 -- so they are at one
@@ -114,13 +115,14 @@ covers r h = eqb→eq (allMasks (masksAt r)) 0xFF (at-below registerCount (λ r.
 
 module _ (a : Aim) (χ : Change a) (σ : Settled a) (r : ℕ) (h : r < registerCount) where
   -- two bytes of which no field's bits change are the same under each field's
-  fields-same : (fs : List ℕ) → NoneTrue (fieldChanges a r) fs
+  fields-same : (fs : List ℕ) → NoneTrue (bitsDiffer (a .board .registers) (a .wanted) r) fs
       → SameUnder (getD (a .board .registers) r 0) (getD (a .wanted) r 0) (map (λ f. settingMask f r) fs)
   fields-same [] n = tt
   fields-same (f ∷ fs) n = (eqb-true _ _ (not-false _ (n .0)), fields-same fs (n .1))
 
   -- where no field's bits change and no must-be-zero bit was set, the byte is the wanted one
-  pub byte-stays : NoneTrue (fieldChanges a r) (orderOf table) → zeroWasSet a r ≡ false → getD (a .board .registers) r 0 ≡ getD (a .wanted) r 0
+  pub byte-stays : NoneTrue (bitsDiffer (a .board .registers) (a .wanted) r) (orderOf table) → not (eqb (zeroBits (a .board .registers) r) 0) ≡ false
+      → getD (a .board .registers) r 0 ≡ getD (a .wanted) r 0
   byte-stays n z =
       same-number 8 (getD (a .board .registers) r 0) (getD (a .wanted) r 0) (masksAt r) (χ .found .bytes r) (χ .wants .bytes r) (covers r h)
       (eqb-true _ _ (not-false _ z) ∙ sym (σ .zero r h), (sym (σ .kept r h), fields-same (orderOf table) n))

@@ -14,7 +14,7 @@ use Rattle.adv7194_table.specs.Table.{table, orderOf}
 use Rattle.adv7194_least.specs.Aim.{Aim, must}
 use Rattle.adv7194_planning.proofs.CaseLaws.{allFields, table-fields}
 use Rattle.adv7194_reasons.specs.First.{firstTrue}
-use Rattle.adv7194_reasons.specs.Reasons.{Reason, notSent, unknown, changed, zeroed, companion, bridge, fieldChanges, zeroWasSet, accompanies}
+use Rattle.adv7194_reasons.specs.Reasons.{Reason, notSent, unknown, changed, zeroed, companion, bridge, bitsDiffer}
 use Rattle.adv7194_reasons.specs.Reasons.{nextBelow, nextAbove, holds, answers, reasonOf}
 use Rattle.adv7194_reasons.specs.Known.{knownReason}
 use Rattle.adv7194_reasons.proofs.FirstLaws.{first-here, first-next}
@@ -26,7 +26,7 @@ module _ (a : Aim) (ts : List Transaction) (r : ℕ) where
 
   -- the first of some fields, 0 among none of them, whose bits change there, or 0
   abbrev lowest : List ℕ → ℕ
-  lowest fs = firstTrue (fieldChanges a r) fs 0
+  lowest fs = firstTrue (bitsDiffer (a .board .registers) (a .wanted) r) fs 0
 
   -- the fields before other answers
   fields-first : (fs : List ℕ) (ks : List Reason) (other : Reason) → T (allFields fs)
@@ -34,10 +34,10 @@ module _ (a : Aim) (ts : List Transaction) (r : ℕ) where
   unfolding firstTrue
   fields-first [] ks other t = refl
   fields-first (f ∷ fs) ks other t =
-      split (fieldChanges a r f) refl (not-true (eqb f 0) (is-true (not (eqb f 0)) (first (not (eqb f 0)) (allFields fs) t)))
+      split (bitsDiffer (a .board .registers) (a .wanted) r f) refl (not-true (eqb f 0) (is-true (not (eqb f 0)) (first (not (eqb f 0)) (allFields fs) t)))
       (fields-first fs ks other (second (not (eqb f 0)) (allFields fs) t))
     where
-      split : (b : Bool) → fieldChanges a r f ≡ b → eqb f 0 ≡ false
+      split : (b : Bool) → bitsDiffer (a .board .registers) (a .wanted) r f ≡ b → eqb f 0 ≡ false
           → firstTrue P (map changed fs ++ ks) other ≡ cond (eqb (lowest fs) 0) (firstTrue P ks other) (changed (lowest fs))
           → firstTrue P (map changed (f ∷ fs) ++ ks) other ≡ cond (eqb (lowest (f ∷ fs)) 0) (firstTrue P ks other) (changed (lowest (f ∷ fs)))
       split true e n rest = rw (e, n)
@@ -75,12 +75,12 @@ module _ (a : Aim) (ts : List Transaction) (r : ℕ) where
       -- and where the answer is true no test is needed for a bridge
       pub is-known : P (reasonOf a ts r) ≡ true → reasonOf a ts r ≡ knownReason (a .board .registers) (a .wanted) (must a) r
       unfolding firstTrue
-      is-known h = by-fields ∙ split (eqb (lowest (orderOf table)) 0) refl (zeroWasSet a r) refl (accompanies a r) refl (P between) refl
+      is-known h = by-fields ∙ split (eqb (lowest (orderOf table)) 0) refl (P zeroed) refl (P companion) refl (P between) refl
         where
-          split : (f : Bool) → eqb (lowest (orderOf table)) 0 ≡ f → (z : Bool) → zeroWasSet a r ≡ z → (c : Bool) → accompanies a r ≡ c
+          split : (f : Bool) → eqb (lowest (orderOf table)) 0 ≡ f → (z : Bool) → P zeroed ≡ z → (c : Bool) → P companion ≡ c
               → (b : Bool) → P between ≡ b
               → cond f (firstTrue P others notSent) (changed (lowest (orderOf table)))
-              ≡ cond f (cond (zeroWasSet a r) zeroed (cond (accompanies a r) companion between)) (changed (lowest (orderOf table)))
+              ≡ cond f (cond (P zeroed) zeroed (cond (P companion) companion between)) (changed (lowest (orderOf table)))
           split false p z q c s b t = refl
           split true p true q c s b t = rw q
           split true p false q true s b t = rw (q, s)

@@ -5,7 +5,8 @@ use mathlib.Core.Bool.{Bool, true, false, false≢true}
 use Prim.Native.Nat.{ℕ, zero, suc, _+_, _≤_, _<_}
 use native.Mathlib.Nat.{eq-or-lt-of-le}
 use native.Mathlib.Omega.{arith}
-use Rattle.adv7194_reasons.specs.Reasons.{noneFrom, nextBelow, nextFrom}
+use Rattle.rounding.specs.First.{firstFrom}
+use Rattle.adv7194_reasons.specs.Reasons.{nextBelow}
 
 -- a register below r that passes a test, and none between does
 pub record NextBelow (P : ℕ → Bool) (r i : ℕ) : Type 0 where
@@ -20,12 +21,6 @@ pub record NextFrom (P : ℕ → Bool) (r i : ℕ) : Type 0 where
   pub none : (x : ℕ) → r ≤ x → x < i → P x ≡ false
 
 module _ (P : ℕ → Bool) where
-  -- where none of some registers passes, the test of all says so
-  pub none-from : (k i : ℕ) → ((x : ℕ) → i ≤ x → x < i + k → P x ≡ false) → noneFrom P k i ≡ true
-  unfolding noneFrom
-  none-from zero i h = refl
-  none-from (suc k) i h = rw (h i (omega arith) (omega arith)) (none-from k (suc i) (λ x a b. h x (omega arith) (omega arith)))
-
   -- ---- below
 
   -- the register just below, where it passes
@@ -63,28 +58,28 @@ module _ (P : ℕ → Bool) where
   -- ---- above
 
   -- the first of some registers, where it passes
-  pub from-here : (k r : ℕ) → P r ≡ true → nextFrom P (suc k) r ≡ r
-  unfolding nextFrom
+  pub from-here : (k r : ℕ) → P r ≡ true → firstFrom P r (suc k) ≡ r
+  unfolding firstFrom
   from-here k r e = rw e
 
   -- and past it where it doesn't
-  pub from-next : (k r : ℕ) → P r ≡ false → nextFrom P (suc k) r ≡ nextFrom P k (suc r)
-  unfolding nextFrom
+  pub from-next : (k r : ℕ) → P r ≡ false → firstFrom P r (suc k) ≡ firstFrom P (suc r) k
+  unfolding firstFrom
   from-next k r e = rw e
 
   -- where a register from r on passes, of k registers, the next one is there, and no higher
-  pub from-found : (k r i : ℕ) → r ≤ i → i < r + k → P i ≡ true → NextFrom P r (nextFrom P k r) × (nextFrom P k r ≤ i)
+  pub from-found : (k r i : ℕ) → r ≤ i → i < r + k → P i ≡ true → NextFrom P r (firstFrom P r k) × (firstFrom P r k ≤ i)
   from-found zero r i h g e = absurd (omega arith)
   from-found (suc k) r i h g e = split (P r) refl (λ d. from-found k (suc r) i d (omega arith) e)
     where
-      split : (b : Bool) → P r ≡ b → (suc r ≤ i → NextFrom P (suc r) (nextFrom P k (suc r)) × (nextFrom P k (suc r) ≤ i))
-          → NextFrom P r (nextFrom P (suc k) r) × (nextFrom P (suc k) r ≤ i)
+      split : (b : Bool) → P r ≡ b → (suc r ≤ i → NextFrom P (suc r) (firstFrom P (suc r) k) × (firstFrom P (suc r) k ≤ i))
+          → NextFrom P r (firstFrom P r (suc k)) × (firstFrom P r (suc k) ≤ i)
       split true f rest = rw (from-here k r f) (record { from = omega arith; passes = f; none = λ x a b. absurd (omega arith) }, h)
       split false f rest =
           rw (from-next k r f)
           (⊎-elim (λ d. absurd (false≢true (sym f ∙ rw (← d) at e))) (λ d. later (rest d)) (eq-or-lt-of-le h))
         where
-          later : NextFrom P (suc r) (nextFrom P k (suc r)) × (nextFrom P k (suc r) ≤ i) → NextFrom P r (nextFrom P k (suc r)) × (nextFrom P k (suc r) ≤ i)
+          later : NextFrom P (suc r) (firstFrom P (suc r) k) × (firstFrom P (suc r) k ≤ i) → NextFrom P r (firstFrom P (suc r) k) × (firstFrom P (suc r) k ≤ i)
           later q = (
             record {
               from = omega (arith, q .0 .from);
@@ -93,3 +88,9 @@ module _ (P : ℕ → Bool) where
             },
             q .1,
           )
+
+  -- a register from r on that passes, and none before it does, is the next one
+  pub from-is : (k r i : ℕ) → i < r + k → NextFrom P r i → firstFrom P r k ≡ i
+  from-is k r i g f =
+      let q = from-found k r i (f .from) g (f .passes) in
+      ⊎-elim (λ e. e) (λ l. absurd (false≢true (sym (f .none (firstFrom P r k) (q .0 .from) l) ∙ q .0 .passes))) (eq-or-lt-of-le (q .1))

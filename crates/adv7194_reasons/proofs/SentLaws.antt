@@ -6,10 +6,11 @@ use mathlib.Core.List.{List, [], _∷_}
 use Prim.Native.Nat.{ℕ}
 use lib.Dec.{T}
 use borrow.Author.Tests.{le-leb, lt-ltb}
-use Rattle.bus.specs.Transactions.{Transaction, end, Touches, Touched, Every, touches}
+use Rattle.bus.specs.Transactions.{Transaction, end, Touches, Touched, touches}
 use Rattle.bus.proofs.KnownLaws.{touchedBy, touched-agree}
 use Rattle.cutting.specs.Spans.{touched}
 use Rattle.adv7194_reasons.specs.Reasons.{joined}
+use Rattle.bits.specs.Lists.{Every}
 
 -- the two tests of a register that a list touches are one
 same-tests : (ts : List Transaction) (r : ℕ) → touched ts r ≡ touchedBy ts r
@@ -31,7 +32,7 @@ pub record TouchedIn (P : Transaction → Type 0) (ts : List Transaction) (r : �
 
 -- there is one
 pub touched-in : (P : Transaction → Type 0) (ts : List Transaction) (r : ℕ) → Every P ts → Touched ts r → TouchedIn P ts r
-unfolding joined touched
+unfolding joined
 touched-in P (t ∷ ts) r h (inl u) = record {
   at = t;
   is = h .0;
@@ -47,5 +48,5 @@ touched-in P (t ∷ ts) r h (inr u) =
       is = q .is;
       has = q .has;
       sends = λ x v. inr (q .sends x v);
-      joins = λ i j v w. rw (q .joins i j v w) (or-true (touched (t ∷ []) i && touched (t ∷ []) j));
+      joins = λ i j v w. rw (q .joins i j v w) (or-true (touches t i && touches t j));
     }

@@ -17,6 +17,7 @@ use Rattle.adv7194_bus.specs.Board.{knows}
 use Rattle.adv7194_bus.specs.Limit.{limitRight}
 use Rattle.adv7194_bus.specs.declared.board.Board.{Board}
 use Rattle.adv7194_table.specs.Table.{table, orderOf}
+use Rattle.adv7194_table.specs.RawCodes.{zeroBits}
 use Rattle.adv7194_table.specs.Registers.{someBelow}
 use Rattle.adv7194_table.proofs.RegisterLaws.{one-below}
 use Rattle.least_cost.proofs.Attained.{Right}
@@ -28,7 +29,7 @@ use Rattle.adv7194_least.proofs.TaskLaws.{need-word, need-other}
 use Rattle.adv7194_least.proofs.Reached.{plan-right, plan-rules}
 use Rattle.adv7194_least.proofs.WantedChange.{settings-change}
 use Rattle.adv7194_reasons.specs.First.{NoneTrue, FirstTrue}
-use Rattle.adv7194_reasons.specs.Reasons.{notSent, changed, zeroed, companion, bridge, accompanies, fieldChanges, zeroWasSet}
+use Rattle.adv7194_reasons.specs.Reasons.{notSent, changed, zeroed, companion, bridge, bitsDiffer, withOther}
 use Rattle.adv7194_reasons.specs.Reasons.{nextBelow, nextAbove, holds, answers, reasonOf}
 use Rattle.adv7194_reasons.proofs.FirstLaws.{none-append, none-map, first-true}
 use Rattle.adv7194_reasons.proofs.SentLaws.{sent-touched, touched-in}
@@ -36,7 +37,7 @@ use Rattle.adv7194_reasons.proofs.BridgeLaws.{is-bridge}
 use Rattle.adv7194_reasons.proofs.ChangedLaws.{Settled, settings-settled, byte-stays}
 
 -- a register that isn't needed by itself and goes with no needed one of the word isn't needed
-alone : (a : Aim) (r : ℕ) → must a r ≡ false → accompanies a r ≡ false → needed a r ≡ false
+alone : (a : Aim) (r : ℕ) → must a r ≡ false → withOther (must a) r ≡ false → needed a r ≡ false
 alone a r m c = ⊎-elim (λ w. need-word (must a) r (w .0) (w .1) ∙ none w) (λ o. need-other (must a) r o ∙ m) (among? 0x0c 0x0f r)
   where
     -- none of the word's registers is needed
@@ -66,7 +67,8 @@ plan-inside a χ r e = let q = touched-in Rules (planOf a) r (plan-rules a χ) (
 
 module _ (a : Aim) (χ : Change a) (σ : Settled a) (r : ℕ) where
   -- a known one where no field's bits change and no must-be-zero bit was set isn't needed by itself
-  stays : touched (planOf a) r ≡ true → knows (a .board) r ≡ true → NoneTrue (fieldChanges a r) (orderOf table) → zeroWasSet a r ≡ false → must a r ≡ false
+  stays : touched (planOf a) r ≡ true → knows (a .board) r ≡ true → NoneTrue (bitsDiffer (a .board .registers) (a .wanted) r) (orderOf table)
+      → not (eqb (zeroBits (a .board .registers) r) 0) ≡ false → must a r ≡ false
   stays u k n z = rw (k, eq-eqb (getD (a .board .registers) r 0) (getD (a .wanted) r 0) (byte-stays a χ σ r (plan-inside a χ r u) n z))
 
   -- not every answer is wrong

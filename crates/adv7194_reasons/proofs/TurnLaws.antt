@@ -5,13 +5,14 @@ use mathlib.Core.List.{List}
 use Prim.Native.Nat.{ℕ, suc, _+_, _-_, _≤_, _<_}
 use native.Mathlib.Numerals.{add-one}
 use native.Mathlib.Omega.{arith}
+use Rattle.rounding.specs.First.{firstFrom}
 use Rattle.adv7194_bus.specs.Kind.{registerCount}
 use Rattle.adv7194_table.specs.Table.{table, orderOf}
 use Rattle.adv7194_table.specs.Masks.{each}
 use Rattle.adv7194_table.specs.Registers.{fieldCount}
 use Rattle.adv7194_table.proofs.TableLaws.{order-is}
 use Rattle.adv7194_reasons.specs.First.{firstTrue}
-use Rattle.adv7194_reasons.specs.Reasons.{nextBelow, nextFrom, nextAbove}
+use Rattle.adv7194_reasons.specs.Reasons.{nextBelow, nextAbove}
 use Rattle.adv7194_reasons.proofs.FirstLaws.{first-here, first-next}
 use Rattle.adv7194_reasons.proofs.NextLaws.{below-here, below-next, from-here, from-next}
 
@@ -32,24 +33,24 @@ module _ (P : ℕ → Bool) where
 
   -- the next of the registers from r on
   abbrev pub nextUp : ℕ → ℕ
-  nextUp r = nextFrom P (registerCount - r) r
+  nextUp r = firstFrom P r (registerCount - r)
 
   pub up-first : (r : ℕ) → nextUp (r + 1) ≡ nextAbove P r
   up-first r = ap nextUp (add-one r)
 
   -- the registers from r on are r and those that follow
-  higher : (r : ℕ) → r < registerCount → nextUp r ≡ nextFrom P (suc (registerCount - (r + 1))) r
-  higher r h = ap (λ (n : ℕ). nextFrom P n r) (omega arith)
+  higher : (r : ℕ) → r < registerCount → nextUp r ≡ firstFrom P r (suc (registerCount - (r + 1)))
+  higher r h = ap (firstFrom P r) (omega arith)
 
   pub up-here : (r : ℕ) → r < registerCount → P r ≡ true → r ≡ nextUp r
   up-here r h e = sym (higher r h ∙ from-here P (registerCount - (r + 1)) r e)
 
   pub up-next : (r : ℕ) → r < registerCount → P r ≡ false → nextUp (r + 1) ≡ nextUp r
-  up-next r h e = ap (nextFrom P (registerCount - (r + 1))) (add-one r) ∙ sym (higher r h ∙ from-next P (registerCount - (r + 1)) r e)
+  up-next r h e = ap (λ (k : ℕ). firstFrom P k (registerCount - (r + 1))) (add-one r) ∙ sym (higher r h ∙ from-next P (registerCount - (r + 1)) r e)
 
   pub up-none : (r : ℕ) → registerCount ≤ r → r ≡ nextUp r
-  unfolding nextFrom
-  up-none r h = let k : registerCount - r ≡ 0 = omega arith in sym (ap (λ (n : ℕ). nextFrom P n r) k)
+  unfolding firstFrom
+  up-none r h = let k : registerCount - r ≡ 0 = omega arith in sym (ap (firstFrom P r) k)
 
   -- ---- the fields from one to the last
 

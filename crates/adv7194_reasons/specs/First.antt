@@ -1,12 +1,11 @@
 -- Document 02, P7: one reason is given, and no earlier one in the order may be true.
 use mathlib.Core.Path.{_≡_}
 use mathlib.Core.Bool.{Bool, true, false, cond}
-use mathlib.Core.List.{List, [], _∷_, _++_}
+use mathlib.Core.List.{List, [], _∷_, _++_, foldr}
 
 -- the first of some things that passes a test, or another thing where none does
 unfoldable pub firstTrue : {A : Type 0} → (A → Bool) → List A → A → A
-firstTrue P [] other = other
-firstTrue P (x ∷ xs) other = cond (P x) x (firstTrue P xs other)
+firstTrue P xs other = foldr (λ x rest. cond (P x) x rest) other xs
 
 -- none of some things passes a test
 abbrev pub NoneTrue : {A : Type 0} → (A → Bool) → List A → Type 0

@@ -6,7 +6,7 @@ use Prim.Native.Nat.{ℕ}
 use lib.IntN.{ℤ}
 use Rattle.refusals.specs.Refusal.{numberOf}
 use Rattle.refusals.specs.Verdict.{Verdict, good, refusedAt}
-use Rattle.refusals.specs.Order.{Place, placesAt, placesOver, firstOf}
+use Rattle.refusals.specs.Order.{Place, placesAt, firstOf, placesIn}
 use Rattle.adv7194_bus.specs.declared.board.Board.{Board}
 use Rattle.adv7194_bus.specs.Kind.{boardAddress}
 use Rattle.adv7194_table.specs.Table.{table, orderOf}
@@ -19,7 +19,7 @@ use Rattle.adv7194_reasons.specs.Reasons.{Reason, notSent, unknown, chan
 
 -- planning's checking order without the address (2) and the room (10)
 unfoldable pub whyOrder : List Place
-whyOrder = placesAt (1 ∷ 3 ∷ []) 0 ++ (order ++ placesOver 11 (orderOf table))
+whyOrder = placesAt (1 ∷ 3 ∷ []) 0 ++ (order ++ placesIn (λ f. 11 ∷ []) (orderOf table))
 
 -- row n holds at field f: planning's rows; those that look at an address and a room aren't in the order
 abbrev pub rowWhy : Board → List ℤ → ℕ → ℕ → ℕ → Bool

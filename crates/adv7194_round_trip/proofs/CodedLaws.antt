@@ -7,16 +7,16 @@ use mathlib.Core.List.{List, [], _∷_}
 use Prim.Native.Nat.{ℕ}
 use native.Mathlib.Omega.{arith}
 use lib.Dec.{T, eqb}
-use lib.IntN.{ℤ}
+use lib.IntN.{ℤ, pos}
 use lib.ListN.{getD}
 use borrow.Author.Tests.{eqb-true}
 use Rattle.bits.specs.Fields.{field}
 use Rattle.bits.specs.Bytes.{sameBytes}
 use Rattle.bits.proofs.SameLaws.{same-bytes, same-self}
-use Rattle.refusals.specs.Refusal.{Judged, accepted, refused, codeIn}
+use Rattle.refusals.specs.Refusal.{Judged, accepted, refused, valueOr}
 use Rattle.field_table.specs.Coding.{Field, encode}
-use Rattle.field_table.specs.Walk.{given, held, settingIn, codingOf, readingOf}
-use Rattle.field_table.specs.Blocks.{numbersFrom, bytesFrom, byteWrites}
+use Rattle.field_table.specs.Walk.{given, held, codingOf, readingOf}
+use Rattle.field_table.specs.Blocks.{byteWrites, slice}
 use Rattle.field_table.proofs.ApartLaws.{AllThere}
 use Rattle.field_table.proofs.Decoding.{decode-coded, coded-read, only-zero}
 use Rattle.adv7194_table.specs.Fields.{standard, squarePixel, timing, output, picture, dnr}
@@ -27,15 +27,17 @@ use Rattle.adv7194_gamma.proofs.SettingLaws.{curve-seven}
 use Rattle.adv7194_gamma.specs.Curve.{curveCodes}
 use Rattle.adv7194_signalling.proofs.SettingLaws.{held-conflict}
 use Rattle.adv7194_signalling.specs.Signalling.{signallingCodes, signallingConflict, heldConflict}
-use Rattle.adv7194_settings.specs.Codes.{oneCode, numbersIn, codesOf, codesIn}
-use Rattle.adv7194_settings.specs.Wanted.{signalWrites, entryWrites}
-use Rattle.adv7194_settings.specs.Held.{settingHeld, bytesIn, wordDue, oneNumber, numbersRead}
+use Rattle.adv7194_settings.specs.Codes.{numbersIn}
+use Rattle.adv7194_settings.specs.Wanted.{entryWrites, blockWrites}
+use Rattle.adv7194_settings.specs.Held.{settingHeld, bytesIn}
 use Rattle.adv7194_round_trip.specs.RoundTrip.{Bytes}
 use Rattle.adv7194_round_trip.proofs.EntryLaws.{All, all-singles}
 use Rattle.adv7194_round_trip.proofs.RowLaws.{Taken, Read}
 use Rattle.adv7194_round_trip.proofs.SignalLaws.{signalCodes, read-codes, Has, SignalBack, signal-back}
 use Rattle.adv7194_round_trip.proofs.ByteLaws.{bytes-there, there-bytes, curve-coded}
 use Rattle.adv7194_round_trip.proofs.StoredLaws.{Stored}
+use Rattle.adv7194_round_trip.specs.Entries.{alone, codesOf}
+use Rattle.adv7194_settings.proofs.Names.{wordDue}
 
 -- ---- the table's blocks
 
@@ -67,7 +69,7 @@ abbrev pub Coded : List ℕ → List ℤ → Entry → Type 0
 Coded image zs e = codesOf zs e ≡ accepted (codesHeld image e)
 
 -- a single code
-pub one-back : (j : Judged ℕ) (c : ℕ) → oneCode j ≡ accepted (c ∷ []) → j ≡ accepted c
+pub one-back : (j : Judged ℕ) (c : ℕ) → alone j ≡ accepted (c ∷ []) → j ≡ accepted c
 one-back (accepted b) c e = let q : b ≡ c = cc in ap accepted q
 one-back (refused n) c e = let x : _≡_ {A = ℕ} 0 1 = cc in absurd (omega arith)
 
@@ -75,29 +77,29 @@ one-back (refused n) c e = let x : _≡_ {A = ℕ} 0 1 = cc in absurd (omega ari
 
 module _ (image : List ℕ) (b : Bytes image) (zs : List ℤ) where
   single-coded : (f : Field) → Stored image zs (single f) → Read image (single f) → Coded image zs (single f)
-  single-coded f s r = ap oneCode (by s (readingOf image f) refl r)
+  single-coded f s r = ap alone (by s (readingOf image f) refl r)
     where
       code : ℕ
       code = held image (f .row)
 
-      by : Stored image zs (single f) → (j : Judged ℤ) → readingOf image f ≡ j → oneNumber j ≡ accepted (numbersRead (oneNumber j))
+      by : Stored image zs (single f) → (j : Judged ℤ) → readingOf image f ≡ j → alone j ≡ accepted (valueOr [] (alone j))
           → codingOf zs f ≡ accepted code
-      by (inl e) (accepted z) p r = ap (encode f) (e ∙ ap settingIn p) ∙ decode-coded f code z p
+      by (inl e) (accepted z) p r = ap (encode f) (e ∙ ap (valueOr (pos 0)) p) ∙ decode-coded f code z p
       by (inr o) (accepted z) p r = ap (encode f) (o .0 ∙ sym (only-zero f code z p (o .1))) ∙ decode-coded f code z p
       by s (refused n) p r = let x : _≡_ {A = ℕ} 0 1 = cc in absurd (omega arith)
 
   -- signalling, by numbers that go with the standard where the bytes do
   signal-read : Stored image zs (whole signals signalling) → Read image (whole signals signalling) → Coded image zs (whole signals signalling)
-  unfolding bytesFrom numbersFrom signallingCodes
+  unfolding slice signallingCodes
   signal-read s r = ap signallingCodes s ∙ read-codes (bytesIn image signalling) _ (b .byte 0x19) r
 
   pub signal-free : Stored image zs (whole signals signalling) → Read image (whole signals signalling) → (standard : ℤ)
       → signallingConflict standard (numbersIn zs signalling) ≡ heldConflict standard (bytesIn image signalling)
-  unfolding bytesFrom numbersFrom
+  unfolding slice
   signal-free s r standard = ap (signallingConflict standard) s ∙ held-conflict (bytesIn image signalling) (b .byte 0x19) _ r standard
 
   curve-read : (n k r : ℕ) → Stored image zs (whole curve (block n k 10 r 7)) → Coded image zs (whole curve (block n k 10 r 7))
-  unfolding numbersFrom bytesFrom
+  unfolding slice
   curve-read n k r s = ap curveCodes s ∙ curve-coded image b r 7
 
   module _ (st : given zs (standard .row) ≡ settingHeld image standard) (sq : given zs (squarePixel .row) ≡ settingHeld image squarePixel) where
@@ -108,7 +110,7 @@ module _ (image : List ℕ) (b : Bytes image) (zs : List ℤ) where
         bytes : List ℕ
         bytes = bytesIn image word
 
-        by : (t : Bool) → cond t (accepted []) (refused 8) ≡ accepted (numbersRead (cond t (accepted []) (refused 8))) → T t
+        by : (t : Bool) → cond t (accepted []) (refused 8) ≡ accepted (valueOr {A = List ℤ} [] (cond t (accepted []) (refused 8))) → T t
         by true e = tt
         by false e = let x : _≡_ {A = ℕ} 0 1 = cc in absurd (omega arith)
 
@@ -127,24 +129,24 @@ module _ (image : List ℕ) (b : Bytes image) (zs : List ℤ) where
 -- ---- settings whose codes the image holds
 
 module _ (image : List ℕ) (b : Bytes image) (zs : List ℤ) where
-  signal-there : AllThere image (signalWrites signalling (signalCodes (bytesIn image signalling)))
-  unfolding bytesFrom byteWrites
+  signal-there : AllThere image (blockWrites signals signalling (signalCodes (bytesIn image signalling)))
+  unfolding slice byteWrites
   signal-there = by (eqb (field 4 4 (getD image 0x19 0)) 0) refl
     where
-      by : (t : Bool) → eqb (field 4 4 (getD image 0x19 0)) 0 ≡ t → AllThere image (signalWrites signalling (cond t [] (bytesIn image signalling)))
+      by : (t : Bool) → eqb (field 4 4 (getD image 0x19 0)) 0 ≡ t → AllThere image (blockWrites signals signalling (cond t [] (bytesIn image signalling)))
       by true e = (eqb-true _ 0 e, tt)
       by false e = bytes-there image b 0x19 3
 
   -- what they set is there
   pub coded-there : (e : Entry) → Known e → Coded image zs e → AllThere image (entryWrites zs e)
-  coded-there (single f) k e = (sym (ap codeIn (one-back (codingOf zs f) (held image (f .row)) e)), tt)
+  coded-there (single f) k e = (sym (ap (valueOr 0) (one-back (codingOf zs f) (held image (f .row)) e)), tt)
   coded-there (whole signals c) k e =
       subst (λ c. codesOf zs (whole signals c) ≡ accepted (signalCodes (bytesIn image c)) → AllThere image (entryWrites zs (whole signals c))) (sym k)
-      (λ e. subst (λ j. AllThere image (signalWrites signalling (codesIn j))) (sym e) signal-there) e
+      (λ e. subst (λ j. AllThere image (blockWrites signals signalling (valueOr [] j))) (sym e) signal-there) e
   coded-there (whole curve c) k e =
-      subst (λ j. AllThere image (byteWrites (c .register) (codesIn j))) (sym e) (bytes-there image b (c .register) (c .registers))
+      subst (λ j. AllThere image (byteWrites (c .register) (valueOr [] j))) (sym e) (bytes-there image b (c .register) (c .registers))
   coded-there (whole subcarrier c) k e =
-      subst (λ j. AllThere image (byteWrites (c .register) (codesIn j))) (sym e) (bytes-there image b (c .register) (c .registers))
+      subst (λ j. AllThere image (byteWrites (c .register) (valueOr [] j))) (sym e) (bytes-there image b (c .register) (c .registers))
 
 -- ---- an image that has what settings set
 
@@ -152,28 +154,28 @@ module _ (image : List ℕ) (b : Bytes image) (zs : List ℤ) (free : signalling
   single-back : (f : Field) → Taken zs (single f) → AllThere image (entryWrites zs (single f)) → Coded image zs (single f)
   single-back f t h = by (codingOf zs f) t (h .0)
     where
-      by : (j : Judged ℕ) → oneCode j ≡ accepted (codesIn (oneCode j)) → held image (f .row) ≡ codeIn j → oneCode j ≡ accepted (held image (f .row) ∷ [])
+      by : (j : Judged ℕ) → alone j ≡ accepted (valueOr [] (alone j)) → held image (f .row) ≡ valueOr 0 j → alone j ≡ accepted (held image (f .row) ∷ [])
       by (accepted c) t h = ap (λ n. accepted (n ∷ [])) (sym h)
       by (refused n) t h = let x : _≡_ {A = ℕ} 0 1 = cc in absurd (omega arith)
 
   pub signal-again : Taken zs (whole signals signalling) → AllThere image (entryWrites zs (whole signals signalling))
-      → SignalBack (given zs (standard .row)) (codesIn (codesOf zs (whole signals signalling))) (bytesIn image signalling)
-  unfolding bytesFrom
+      → SignalBack (given zs (standard .row)) (valueOr [] (codesOf zs (whole signals signalling))) (bytesIn image signalling)
+  unfolding slice
   signal-again t h =
       signal-back (given zs (standard .row)) (numbersIn zs signalling) _ (bytesIn image signalling) t free (b .byte 0x19)
-      (by (codesIn (codesOf zs (whole signals signalling))) h)
+      (by (valueOr [] (codesOf zs (whole signals signalling))) h)
     where
-      by : (cs : List ℕ) → AllThere image (signalWrites signalling cs) → Has (bytesIn image signalling) cs
+      by : (cs : List ℕ) → AllThere image (blockWrites signals signalling cs) → Has (bytesIn image signalling) cs
       by [] h = h .0
-      by (c ∷ cs) h = λ three. subst (λ n. bytesFrom image 0x19 n ≡ c ∷ cs) three (there-bytes image b 0x19 (c ∷ cs) h)
+      by (c ∷ cs) h = λ three. subst (λ n. slice 0 image 0x19 n ≡ c ∷ cs) three (there-bytes image b 0x19 (c ∷ cs) h)
 
   curve-back : (n k r : ℕ) → Taken zs (whole curve (block n k 10 r 7)) → AllThere image (entryWrites zs (whole curve (block n k 10 r 7)))
       → Coded image zs (whole curve (block n k 10 r 7))
-  unfolding numbersFrom
+  unfolding slice
   curve-back n k r t h =
-      let cs = codesIn (codesOf zs (whole curve (block n k 10 r 7))) in
-      let seven = curve-seven (numbersFrom zs k 10) cs refl t .size in
-      t ∙ ap accepted (sym (subst (λ n. bytesFrom image r n ≡ cs) seven (there-bytes image b r cs h)))
+      let cs = valueOr [] (codesOf zs (whole curve (block n k 10 r 7))) in
+      let seven = curve-seven (slice (pos 0) zs k 10) cs refl t .size in
+      t ∙ ap accepted (sym (subst (λ n. slice 0 image r n ≡ cs) seven (there-bytes image b r cs h)))
 
   word-back : AllThere image (entryWrites zs (whole subcarrier word)) → bytesIn image word ≡ wordCodes (given zs (standard .row)) (given zs (squarePixel .row))
   unfolding wordCodes
@@ -200,14 +202,14 @@ module _ (image : List ℕ) (b : Bytes image) (zs : List ℤ) (free : signalling
     pub there-read : (e : Entry) → Known e → Taken zs e → AllThere image (entryWrites zs e) → Read image e
     there-read (single f) k t h =
         let r = coded-read f (held image (f .row)) (given zs (f .row)) (one-back (codingOf zs f) _ (single-back f t h)) in
-        subst (λ j. oneNumber j ≡ accepted (numbersRead (oneNumber j))) (sym (r .1)) refl
+        subst (λ j. alone j ≡ accepted (valueOr [] (alone j))) (sym (r .1)) refl
     there-read (whole signals c) k t h =
         subst (λ c. Taken zs (whole signals c) → AllThere image (entryWrites zs (whole signals c)) → Read image (whole signals c)) (sym k)
-        (λ t h. let r = signal-again t h .read in subst (λ j. j ≡ accepted (numbersRead j)) (sym (r .1)) refl) t h
+        (λ t h. let r = signal-again t h .read in subst (λ j. j ≡ accepted (valueOr [] j)) (sym (r .1)) refl) t h
     there-read (whole curve c) k t h = refl
     there-read (whole subcarrier c) k t h =
         subst (λ c. AllThere image (entryWrites zs (whole subcarrier c)) → Read image (whole subcarrier c)) (sym k)
-        (λ h. subst (λ t. cond t (accepted []) (refused 8) ≡ accepted (numbersRead (cond t (accepted []) (refused 8)))) (sym (agrees h)) refl) h
+        (λ h. subst (λ t. cond t (accepted []) (refused 8) ≡ accepted (valueOr {A = List ℤ} [] (cond t (accepted []) (refused 8)))) (sym (agrees h)) refl) h
       where
         due : AllThere image (entryWrites zs (whole subcarrier word)) → wordDue image ≡ bytesIn image word
         due h = ap₂ wordCodes (sym st) (sym sq) ∙ sym (word-back h)

@@ -1,7 +1,7 @@
 -- What holds of each entry of a table, and the rows that the entries' codings and readings are. Assumes nothing.
 use mathlib.Core.Path.{_≡_, refl}
 use mathlib.Core.Bool.{Bool, true, false, _&&_}
-use mathlib.Core.List.{List, [], _∷_}
+use mathlib.Core.List.{List, [], _∷_, map, _++_}
 use Prim.Native.Nat.{ℕ}
 use lib.Dec.{T, eqb}
 use borrow.Author.Tests.{eq-eqb}
@@ -10,7 +10,7 @@ use Rattle.field_table.specs.Coding.{Field}
 use Rattle.field_table.proofs.Judging.{neither-l, neither-r}
 use Rattle.adv7194_table.specs.Fields.{standard, squarePixel, oversampling, pedestal, timing, output}
 use Rattle.adv7194_table.specs.Blocks.{signalling}
-use Rattle.adv7194_table.specs.Table.{signals, Entry, single, whole, singles, table, fieldOf}
+use Rattle.adv7194_table.specs.Table.{signals, Entry, single, whole, table, fieldOf}
 use Rattle.adv7194_settings.specs.Rows.{someOf}
 use Rattle.adv7194_round_trip.proofs.FirstLaws.{and-fails, or-fails}
 
@@ -30,31 +30,30 @@ all-zip P Q R h [] a b = tt
 all-zip P Q R h (e ∷ es) a b = (h e (a .0) (b .0), all-zip P Q R h es (a .1) (b .1))
 
 -- of single fields before others
-pub all-singles : (P : Entry → Type 0) → ((f : Field) → P (single f)) → (fs : List Field) (es : List Entry) → All P es → All P (singles fs es)
-unfolding singles
+pub all-singles : (P : Entry → Type 0) → ((f : Field) → P (single f)) → (fs : List Field) (es : List Entry) → All P es → All P (map single fs ++ es)
 all-singles P h [] es a = a
 all-singles P h (f ∷ fs) es a = (h f, all-singles P h fs es a)
 
 -- of fields 1 to 4, and of signalling
 module _ (P : Entry → Type 0) (a : All P table) where
   pub at-standard : P (single standard)
-  unfolding table singles timing
+  unfolding table timing
   at-standard = a .0
 
   pub at-square-pixel : P (single squarePixel)
-  unfolding table singles timing
+  unfolding table timing
   at-square-pixel = a .1 .0
 
   pub at-oversampling : P (single oversampling)
-  unfolding table singles timing
+  unfolding table timing
   at-oversampling = a .1 .1 .0
 
   pub at-pedestal : P (single pedestal)
-  unfolding table singles timing
+  unfolding table timing
   at-pedestal = a .1 .1 .1 .0
 
   pub at-signalling : P (whole signals signalling)
-  unfolding table singles timing output
+  unfolding table timing output
   at-signalling = a .1 .1 .1 .1 .1 .1 .1 .1 .1 .1 .0
 
 -- ---- an entry of some field

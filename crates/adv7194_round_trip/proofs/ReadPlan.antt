@@ -7,8 +7,8 @@ use Prim.Native.Nat.{ℕ, _≤_}
 use native.Mathlib.Omega.{arith}
 use lib.IntN.{ℤ}
 use lib.ListN.{length, drop}
-use Rattle.refusals.specs.Verdict.{good}
-use Rattle.field_table.specs.Blocks.{numbersFrom, storeFrom}
+use Rattle.refusals.specs.Verdict.{good, leftBy}
+use Rattle.field_table.specs.Blocks.{storeFrom, slice}
 use Rattle.bus.specs.Transactions.{Transaction, busBytes}
 use Rattle.packing.specs.Packing.{packed}
 use Rattle.planning.specs.Plan.{countsOf, done}
@@ -17,11 +17,10 @@ use Rattle.bus.specs.Address.{addressRight}
 use Rattle.adv7194_bus.specs.Limit.{limitRight}
 use Rattle.adv7194_bus.specs.declared.board.Board.{Board}
 use Rattle.adv7194_table.specs.Fields.{numberCount, timing, output, picture, dnr}
-use Rattle.adv7194_table.specs.Table.{singles, table}
+use Rattle.adv7194_table.specs.Table.{table}
 use Rattle.adv7194_table.specs.Registers.{lowestField}
-use Rattle.adv7194_settings.specs.Held.{storeEntries, settingsHeld}
-use Rattle.adv7194_settings.specs.Known.{unknown}
-use Rattle.adv7194_settings.specs.Reading.{readOf, leftBy, readLeft}
+use Rattle.adv7194_settings.specs.Held.{settingsHeld}
+use Rattle.adv7194_settings.specs.Reading.{readOf, readLeft}
 use Rattle.adv7194_settings.proofs.ReadingLaws.{is-read}
 use Rattle.adv7194_least.specs.Aim.{must, aimOf}
 use Rattle.adv7194_least.proofs.Nothing.{none-must, plan-empty, packed-empty}
@@ -31,10 +30,11 @@ use Rattle.adv7194_round_trip.specs.RoundTrip.{Bytes, MeansItself}
 use Rattle.adv7194_round_trip.specs.EmptyPlan.{EmptyPlan}
 use Rattle.adv7194_round_trip.proofs.ReadMeans.{means-itself}
 use Rattle.adv7194_planning.proofs.KnownLaws.{all-known, none-unfixed}
+use Rattle.adv7194_settings.proofs.Names.{unknown}
 
 -- 49 settings are read
 held-length : (image : List ℕ) → length (settingsHeld image) ≡ numberCount
-unfolding settingsHeld storeEntries storeFrom numbersFrom table singles timing output picture dnr
+unfolding settingsHeld storeFrom slice table timing output picture dnr
 held-length image = refl
 
 -- ---- the plan
@@ -78,6 +78,6 @@ pub nothing-to-do : (b : Board) (lent : List ℤ) → Bytes (b .registers) → r
     (plan : List ℕ) → addressRight address ≡ true → limitRight limit ≡ true → 1 ≤ length plan → EmptyPlan b (readLeft b lent) address limit plan
 nothing-to-do b lent bytes read address limit plan right limited room =
     let r = is-read b (length lent) read in
-    subst (λ zs. EmptyPlan b zs address limit plan) (sym (ap (leftBy (b .registers) lent) read))
+    subst (λ zs. EmptyPlan b zs address limit plan) (sym (ap (leftBy lent (settingsHeld (b .registers))) read))
     (meant b (settingsHeld (b .registers)) (means-itself (b .registers) bytes (r .judged)) (r .known) limit (r .size) (held-length (b .registers)) address
     plan right limited room)

@@ -1,23 +1,22 @@
 -- Codings and readings refuse with 3, 4 or 8 only, but for row 7 of signalling: where none of these holds they are accepted. Assumes nothing.
-use mathlib.Core.Path.{_≡_, refl, sym, ap, _∙_, subst}
+use mathlib.Core.Path.{_≡_, refl, sym, _∙_, subst}
 use mathlib.Core.Bool.{Bool, true, false, cond, _||_}
 use mathlib.Core.Logic.{_⊎_, inl, inr}
 use mathlib.Core.List.{List, []}
 use Prim.Native.Nat.{ℕ, _^_}
 use lib.Dec.{T, eqb, ltb}
 use lib.IntN.{ℤ}
-use lib.ListN.{getD}
 use Rattle.bits.specs.Bytes.{sameBytes}
 use Rattle.refusals.specs.Refusal.{Judged, accepted, refused, refusedBy}
 use Rattle.field_table.specs.Coding.{Field, outside, isCode, codeOf, encode, hasAt, settingAt, leastMagnitude, decode}
 use Rattle.adv7194_table.specs.Table.{signals, curve, subcarrier, Entry, single, whole}
-use Rattle.adv7194_signalling.specs.Kind.{kindOf}
-use Rattle.adv7194_signalling.specs.Signalling.{signallingCodes, signallingHeld}
+use Rattle.adv7194_signalling.specs.Signalling.{signallingCodes, signallingHeld, heldConflict}
 use Rattle.adv7194_signalling.proofs.RefusalLaws.{codes-refused, held-refused}
 use Rattle.adv7194_gamma.proofs.SettingLaws.{curve-refused}
 use Rattle.adv7194_gamma.specs.Curve.{curveCodes}
-use Rattle.adv7194_settings.specs.Codes.{oneCode, codesOf}
-use Rattle.adv7194_settings.specs.Held.{bytesIn, wordDue, oneNumber, entryReading}
+use Rattle.adv7194_settings.specs.Held.{bytesIn}
+use Rattle.adv7194_round_trip.specs.Entries.{alone, codesOf, entryReading}
+use Rattle.adv7194_settings.proofs.Names.{wordDue}
 
 -- a refusal's number is one of these
 abbrev soundNumber : ℕ → Bool
@@ -69,13 +68,9 @@ decode-sound f c =
     chosen (hasAt f c (leastMagnitude f c)) (accepted (settingAt f c (leastMagnitude f c))) _ tt
     (either-number (ltb c (2 ^ f .row .width)) (eqb (f .row .outside) 3))
 
-one-code : (j : Judged ℕ) → T (sound j) → T (sound (oneCode j))
-one-code (accepted c) t = tt
-one-code (refused n) t = t
-
-one-number : (j : Judged ℤ) → T (sound j) → T (sound (oneNumber j))
-one-number (accepted z) t = tt
-one-number (refused n) t = t
+alone-sound : {A : Type 0} (j : Judged A) → T (sound j) → T (sound (alone j))
+alone-sound (accepted a) t = tt
+alone-sound (refused n) t = t
 
 -- ---- blocks
 
@@ -96,30 +91,30 @@ curve-sound zs = by-number (curveCodes zs) (λ n e. rw (curve-refused zs n e) tt
 
 -- every coding of the table
 pub codes-sound : (zs : List ℤ) (e : Entry) → T (sound (codesOf zs e))
-codes-sound zs (single f) = one-code (encode f _) (encode-sound f _)
+codes-sound zs (single f) = alone-sound (encode f _) (encode-sound f _)
 codes-sound zs (whole signals b) = signalling-sound _
 codes-sound zs (whole curve b) = curve-sound _
 codes-sound zs (whole subcarrier b) = tt
 
--- signalling that isn't refused with 7
-held-sound : (bytes : List ℕ) → refusedBy 7 (kindOf (getD bytes 0 0)) ≡ false → T (sound (signallingHeld bytes))
-held-sound bytes h = by-number (signallingHeld bytes) (λ n e. by n (held-refused bytes n e))
+-- signalling that goes with a standard
+held-sound : (standard : ℤ) (bytes : List ℕ) → heldConflict standard bytes ≡ false → T (sound (signallingHeld bytes))
+held-sound standard bytes h = by-number (signallingHeld bytes) (λ n e. by n (held-refused bytes n e))
   where
-    by : (n : ℕ) → (n ≡ 4) ⊎ ((n ≡ 8) ⊎ (kindOf (getD bytes 0 0) ≡ refused 7)) → T (soundNumber n)
+    by : (n : ℕ) → (n ≡ 4) ⊎ ((n ≡ 8) ⊎ ((z : ℤ) → heldConflict z bytes ≡ true)) → T (soundNumber n)
     by n (inl e) = rw e tt
     by n (inr (inl e)) = rw e tt
-    by n (inr (inr e)) = absurd (subst T (sym (ap (refusedBy 7) e) ∙ h) tt)
+    by n (inr (inr e)) = absurd (subst T (sym (e standard) ∙ h) tt)
 
 -- row 7 of signalling, of the bytes that an entry has
-abbrev pub bothSent : List ℕ → Entry → Bool
-bothSent image (single f) = false
-bothSent image (whole signals b) = refusedBy 7 (kindOf (getD (bytesIn image b) 0 0))
-bothSent image (whole curve b) = false
-bothSent image (whole subcarrier b) = false
+abbrev pub conflictIn : ℤ → List ℕ → Entry → Bool
+conflictIn standard image (single f) = false
+conflictIn standard image (whole signals b) = heldConflict standard (bytesIn image b)
+conflictIn standard image (whole curve b) = false
+conflictIn standard image (whole subcarrier b) = false
 
 -- every reading of the table
-pub reading-sound : (image : List ℕ) (e : Entry) → bothSent image e ≡ false → T (sound (entryReading image e))
-reading-sound image (single f) h = one-number (decode f _) (decode-sound f _)
-reading-sound image (whole signals b) h = held-sound (bytesIn image b) h
-reading-sound image (whole curve b) h = tt
-reading-sound image (whole subcarrier b) h = chosen (sameBytes (bytesIn image b) (wordDue image)) (accepted []) (refused 8) tt tt
+pub reading-sound : (standard : ℤ) (image : List ℕ) (e : Entry) → conflictIn standard image e ≡ false → T (sound (entryReading image e))
+reading-sound standard image (single f) h = alone-sound (decode f _) (decode-sound f _)
+reading-sound standard image (whole signals b) h = held-sound standard (bytesIn image b) h
+reading-sound standard image (whole curve b) h = tt
+reading-sound standard image (whole subcarrier b) h = chosen (sameBytes (bytesIn image b) (wordDue image)) (accepted []) (refused 8) tt tt

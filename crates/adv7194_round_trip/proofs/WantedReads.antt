@@ -1,19 +1,19 @@
 -- The image that settings want is read back, as settings that have the same codes. Assumes nothing.
 use mathlib.Core.Path.{_≡_, refl, sym, ap, ap₂, _∙_}
 use mathlib.Core.Bool.{_&&_}
-use mathlib.Core.List.{List, [], _∷_, _++_, map}
+use mathlib.Core.List.{List, [], _∷_, _++_, map, flatMap}
 use Prim.Native.Nat.{ℕ}
 use native.Mathlib.Nat.{mod-eq-of-lt}
 use native.Mathlib.Omega.{arith}
 use lib.Dec.{T}
-use lib.IntN.{ℤ}
+use lib.IntN.{ℤ, pos}
 use lib.ListN.{length}
-use Rattle.refusals.specs.Refusal.{Judged, accepted, refused, codeIn}
+use Rattle.refusals.specs.Refusal.{Judged, accepted, refused, valueOr}
 use Rattle.refusals.specs.Verdict.{good}
 use Rattle.field_table.specs.declared.row.Row.{Row}
 use Rattle.field_table.specs.Coding.{plainOf}
-use Rattle.field_table.specs.Writes.{Write, puts, Each, AllHeld}
-use Rattle.field_table.specs.Walk.{given, held, settingIn, codingOf, rowWrite, rowFits}
+use Rattle.field_table.specs.Writes.{Write, puts, AllHeld}
+use Rattle.field_table.specs.Walk.{given, held, codingOf, rowWrite, rowFits}
 use Rattle.field_table.specs.Blocks.{is}
 use Rattle.field_table.proofs.ApartLaws.{AllThere}
 use Rattle.field_table.proofs.PlainLaws as plain
@@ -23,7 +23,6 @@ use Rattle.adv7194_table.specs.Fields.{standard, squarePixel, oversampling, ped
 use Rattle.adv7194_table.specs.Blocks.{signalling}
 use Rattle.adv7194_table.specs.Table.{Entry, single, whole, table}
 use Rattle.adv7194_signalling.specs.Signalling.{heldConflict}
-use Rattle.adv7194_settings.specs.Codes.{oneCode, codesOf, codesIn}
 use Rattle.adv7194_settings.specs.Wanted.{blockWrites, entryWrites, writesOf, wantedBy}
 use Rattle.adv7194_settings.specs.Held.{settingHeld, bytesIn, settingsHeld}
 use Rattle.adv7194_settings.specs.Rows.{checkOf}
@@ -36,11 +35,13 @@ use Rattle.adv7194_round_trip.proofs.RowLaws.{Taken, Passing, has-passe
 use Rattle.adv7194_round_trip.proofs.StoredLaws.{standard-stored, square-pixel-stored, oversampling-stored, pedestal-stored}
 use Rattle.adv7194_round_trip.proofs.CodedLaws.{Known, known, Coded, one-back, there-coded, signal-again, there-read}
 use Rattle.adv7194_round_trip.proofs.ReadMeans.{each-entry, held-coded, held-means}
+use Rattle.adv7194_round_trip.specs.Entries.{alone, codesOf}
+use Rattle.bits.specs.Lists.{Every}
 
 -- ---- what settings with the same codes set
 
 -- what an image holds of values that fit their bits is the values
-held-whole : (image : List ℕ) (ws : List Write) → Each (FitsIn inChip) ws → AllHeld image ws → AllThere image ws
+held-whole : (image : List ℕ) (ws : List Write) → Every (FitsIn inChip) ws → AllHeld image ws → AllThere image ws
 held-whole image [] n h = tt
 held-whole image (w ∷ ws) n h = (h .0 ∙ mod-eq-of-lt (n .0 .fits), held-whole image ws (n .1) (h .1))
 
@@ -48,18 +49,18 @@ held-whole image (w ∷ ws) n h = (h .0 ∙ mod-eq-of-lt (n .0 .fits), held-whol
 abbrev Same : List ℤ → List ℤ → Entry → Type 0
 Same ys zs e = codesOf ys e ≡ codesOf zs e
 
-same-one : (i j : Judged ℕ) → oneCode i ≡ oneCode j → i ≡ j
+same-one : (i j : Judged ℕ) → alone i ≡ alone j → i ≡ j
 same-one (accepted a) (accepted c) e = let q : a ≡ c = cc in ap accepted q
 same-one (accepted a) (refused n) e = let x : _≡_ {A = ℕ} 0 1 = cc in absurd (omega arith)
 same-one (refused m) (accepted c) e = let x : _≡_ {A = ℕ} 0 1 = cc in absurd (omega arith)
 same-one (refused m) (refused n) e = let q : m ≡ n = cc in ap refused q
 
 same-writes : (ys zs : List ℤ) (e : Entry) → Same ys zs e → entryWrites ys e ≡ entryWrites zs e
-same-writes ys zs (single f) h = ap (λ j. rowWrite (f .row) (codeIn j) ∷ []) (same-one (codingOf ys f) (codingOf zs f) h)
-same-writes ys zs (whole c b) h = ap (λ j. blockWrites c b (codesIn j)) h
+same-writes ys zs (single f) h = ap (λ j. rowWrite (f .row) (valueOr 0 j) ∷ []) (same-one (codingOf ys f) (codingOf zs f) h)
+same-writes ys zs (whole c b) h = ap (λ j. blockWrites c b (valueOr [] j)) h
 
 all-writes : (ys zs : List ℤ) (es : List Entry) → All (Same ys zs) es → writesOf ys es ≡ writesOf zs es
-unfolding writesOf
+unfolding writesOf flatMap
 all-writes ys zs [] h = refl
 all-writes ys zs (e ∷ es) h = ap₂ _++_ (same-writes ys zs e (h .0)) (all-writes ys zs es (h .1))
 
@@ -84,7 +85,7 @@ module _ (out : List ℕ) (b : Bytes out) (zs : List ℤ) (p : Passing zs) (ther
   -- a setting that is its code is read as it was set
   plain-again : (r : Row) → T (rowFits r) → Coded out zs (single (plainOf r)) → given zs r ≡ settingHeld out (plainOf r)
   plain-again r t e =
-      sym (ap settingIn (plain.read-coded r (plain.row-fits r t) (given zs r) (held out r) (one-back (codingOf zs (plainOf r)) (held out r) e)))
+      sym (ap (valueOr (pos 0)) (plain.read-coded r (plain.row-fits r t) (given zs r) (held out r) (one-back (codingOf zs (plainOf r)) (held out r) e)))
 
   standard-again : given zs (standard .row) ≡ settingHeld out standard
   standard-again = plain-again (standard .row) tt (entries.at-standard (Coded out zs) coded)

@@ -8,10 +8,10 @@ use lib.ListN.{getD}
 use Rattle.refusals.specs.Refusal.{Judged}
 use Rattle.refusals.specs.Verdict.{good}
 use Rattle.adv7194_table.specs.Table.{table}
-use Rattle.adv7194_settings.specs.Codes.{codesOf}
 use Rattle.adv7194_settings.specs.Wanted.{wantedBy}
 use Rattle.adv7194_settings.specs.Held.{settingsHeld}
 use Rattle.adv7194_settings.specs.Rows.{checkOf, judgeOf}
+use Rattle.adv7194_round_trip.specs.Entries.{codesOf}
 
 -- an image holds bytes
 pub record Bytes (image : List ℕ) : Type 0 where

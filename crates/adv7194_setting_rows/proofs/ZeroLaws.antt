@@ -10,7 +10,7 @@ use lib.ListN.{length, getD, set, List·getD-eq-default}
 use lib.Seq.{set-out}
 use Rattle.bits.specs.Fields.{withField}
 use Rattle.rounding.proofs.Range.{below-at}
-use Rattle.refusals.specs.Refusal.{Judged, accepted, codeIn}
+use Rattle.refusals.specs.Refusal.{Judged, accepted, valueOr}
 use Rattle.refusals.specs.Verdict.{Verdict, after, faultOf}
 use Rattle.refusals.proofs.VerdictLaws.{after-good}
 use Rattle.field_table.specs.Rows.{rowOf}
@@ -18,7 +18,7 @@ use Rattle.field_table.specs.Coding.{Field, plainOf, codeBy, encode}
 use Rattle.field_table.specs.Writes.{put}
 use Rattle.field_table.specs.Walk.{codingOf, codingFault, writeOf}
 use Rattle.adv7194_table.specs.Fields.{numberCount, timing, output, picture, dnr}
-use Rattle.adv7194_table.specs.Table.{singles, table}
+use Rattle.adv7194_table.specs.Table.{table}
 use Rattle.adv7194_table.specs.Masks.{maskWhere, zeroMask, zeroMasks}
 
 -- bit 7 of 21, bits 7-4 of 22
@@ -59,20 +59,20 @@ unmoved v n e = sym (ap (λ (k : Judged ℕ). after v (faultOf n k)) e ∙ after
 -- what these rows do: no fault, and their bits cleared
 pub brightness-step : (zs : List ℤ) (v : Verdict (Unit {0})) (image : List ℕ) {l : List ℕ} → length zs ≡ numberCount → getD image 0x21 0 < 2 ^ 8
     → l ≡ cleared image 0x21 → (v ≡ after v (codingFault zs brightnessZero)) × (l ≡ put image (writeOf zs brightnessZero))
-unfolding zeroMasks zeroMask maskWhere table singles timing output picture dnr
+unfolding zeroMasks zeroMask maskWhere table timing output picture dnr
 brightness-step zs v image size small e = (
   unmoved v 16 (brightness-zero zs size),
   e ∙ ap (set image 0x21)
-      (bit-7 (getD image 0x21 0) small ∙ ap (λ (j : Judged ℕ). withField 7 1 (getD image 0x21 0) (codeIn j)) (sym (brightness-zero zs size))),
+      (bit-7 (getD image 0x21 0) small ∙ ap (λ (j : Judged ℕ). withField 7 1 (getD image 0x21 0) (valueOr 0 j)) (sym (brightness-zero zs size))),
 )
 
 pub sharpness-step : (zs : List ℤ) (v : Verdict (Unit {0})) (image : List ℕ) {l : List ℕ} → length zs ≡ numberCount → getD image 0x22 0 < 2 ^ 8
     → l ≡ cleared image 0x22 → (v ≡ after v (codingFault zs sharpnessZero)) × (l ≡ put image (writeOf zs sharpnessZero))
-unfolding zeroMasks zeroMask maskWhere table singles timing output picture dnr
+unfolding zeroMasks zeroMask maskWhere table timing output picture dnr
 sharpness-step zs v image size small e = (
   unmoved v 17 (sharpness-zero zs size),
   e ∙ ap (set image 0x22)
-      (bits-7-4 (getD image 0x22 0) small ∙ ap (λ (j : Judged ℕ). withField 4 4 (getD image 0x22 0) (codeIn j)) (sym (sharpness-zero zs size))),
+      (bits-7-4 (getD image 0x22 0) small ∙ ap (λ (j : Judged ℕ). withField 4 4 (getD image 0x22 0) (valueOr 0 j)) (sym (sharpness-zero zs size))),
 )
 
 -- ---- a register of the image, or none

@@ -2,7 +2,7 @@
 use mathlib.Core.Path.{_≡_, refl, sym, ap, _∙_, subst}
 use mathlib.Core.Logic.{⊎-elim}
 use mathlib.Core.Bool.{Bool, true, false, cond, not, _&&_, _||_}
-use mathlib.Core.List.{List, [], _∷_, _++_}
+use mathlib.Core.List.{List, [], _∷_, _++_, flatMap}
 use Prim.Native.Nat.{ℕ, _+_, _-_, _%_, _^_, _<_}
 use native.Mathlib.Omega.{arith}
 use lib.Dec.{T, eqb, leb, ltb, leb→le}
@@ -13,10 +13,9 @@ use Rattle.bits.specs.Fields.{field, bit}
 use Rattle.bits.proofs.FlagLaws.{first, second, either}
 use Rattle.bits.proofs.SameLaws.{same-registers}
 use Rattle.rounding.proofs.Range.{below, below-at, imp, imp→}
-use Rattle.refusals.specs.Refusal.{codeIn}
 use Rattle.field_table.specs.Rows.{rowOf}
 use Rattle.field_table.specs.Coding.{Field, encode, plainOf}
-use Rattle.field_table.specs.Writes.{Write, puts, sets, held, Each, AllHeld}
+use Rattle.field_table.specs.Writes.{Write, puts, sets, held, AllHeld}
 use Rattle.field_table.specs.Walk.{given, rowWrite, writeOf}
 use Rattle.field_table.proofs.WriteLaws.{AllFit, puts-length, puts-bit}
 use Rattle.field_table.proofs.ApartLaws.{puts-held}
@@ -27,13 +26,16 @@ use Rattle.adv7194_bus.specs.Kind.{registerCount}
 use Rattle.adv7194_table.specs.declared.blocks.Block.{Block}
 use Rattle.adv7194_table.specs.Blocks.{signalling}
 use Rattle.adv7194_table.specs.Fields.{timing, output, picture, dnr}
-use Rattle.adv7194_table.specs.Table.{signals, curve, subcarrier, Entry, single, whole, singles, singleFields, table}
+use Rattle.adv7194_table.specs.Table.{signals, curve, subcarrier, Entry, single, whole, singleFields, table}
 use Rattle.adv7194_table.specs.Masks.{inBlock, maskWhere, fieldMask, zeroMask}
-use Rattle.adv7194_settings.specs.Codes.{blockCodes, codesIn}
-use Rattle.adv7194_settings.specs.Wanted.{offWrite, signalWrites, entryWrites, writesOf, wantedBy}
+use Rattle.adv7194_settings.specs.Codes.{blockCodes}
+use Rattle.adv7194_settings.specs.Wanted.{entryWrites, writesOf, wantedBy, blockWrites}
 use Rattle.adv7194_settings.specs.Demand.{fixedMask, Demanded}
 use Rattle.adv7194_settings.proofs.FitLaws.{all-fit, is-number}
 use Rattle.adv7194_settings.proofs.EntryLaws.{ownTest, entry-inside, entriesApart, writes-apart}
+use Rattle.refusals.specs.Refusal.{valueOr}
+use Rattle.bits.specs.Lists.{Every}
+use Rattle.adv7194_settings.proofs.Names.{offWrite}
 
 -- a test at every bit of every register
 abbrev everyBit : (ℕ → ℕ → Bool) → Bool
@@ -66,8 +68,8 @@ allFree cs r i [] = true
 allFree cs r i (e ∷ es) = (ownTest e && entryFree cs r i e) && allFree cs r i es
 
 -- writes to a block's registers leave the bits of others
-block-free : (b : Block) (r i : ℕ) → T (not (inBlock b r)) → (ws : List Write) → Each (λ w. T (inBlock b (w .register))) ws
-    → Each (λ w. T (not (sets w r i))) ws
+block-free : (b : Block) (r i : ℕ) → T (not (inBlock b r)) → (ws : List Write) → Every (λ w. T (inBlock b (w .register))) ws
+    → Every (λ w. T (not (sets w r i))) ws
 block-free b r i t [] h = tt
 block-free b r i t (w ∷ ws) h = (one (eqb r (w .register)) refl, block-free b r i t ws (h .1))
   where
@@ -80,35 +82,35 @@ block-free b r i t (w ∷ ws) h = (one (eqb r (w .register)) refl, block-free b 
     one true e = absurd (no (inBlock b r) (subst (λ (k : ℕ). T (inBlock b k)) (sym (is-number r (w .register) (subst T (sym e) tt))) (h .0)) t)
 
 -- field 11 leaves the bits that it has not
-signals-free : (b : Block) (cs : List ℕ) (r i : ℕ) → T (signalsFree cs b r i) → Each (λ w. T (inBlock b (w .register))) (signalWrites b cs)
-    → Each (λ w. T (not (sets w r i))) (signalWrites b cs)
+signals-free : (b : Block) (cs : List ℕ) (r i : ℕ) → T (signalsFree cs b r i) → Every (λ w. T (inBlock b (w .register))) (blockWrites signals b cs)
+    → Every (λ w. T (not (sets w r i))) (blockWrites signals b cs)
 signals-free b [] r i t h = (t, tt)
-signals-free b (c ∷ cs) r i t h = block-free b r i t (signalWrites b (c ∷ cs)) h
+signals-free b (c ∷ cs) r i t h = block-free b r i t (blockWrites signals b (c ∷ cs)) h
 
 -- the codes of field 11
 abbrev signalCodes : List ℤ → List ℕ
-signalCodes zs = codesIn (blockCodes zs signals signalling)
+signalCodes zs = valueOr [] (blockCodes zs signals signalling)
 
-same-codes : (zs : List ℤ) (b : Block) → T (ownSignals b) → signalCodes zs ≡ codesIn (blockCodes zs signals b)
+same-codes : (zs : List ℤ) (b : Block) → T (ownSignals b) → signalCodes zs ≡ valueOr [] (blockCodes zs signals b)
 same-codes zs b t =
     let k = is-number (b .index) (signalling .index) (first (eqb (b .index) (signalling .index)) (eqb (b .numbers) (signalling .numbers)) t) in
     let n = is-number (b .numbers) (signalling .numbers) (second (eqb (b .index) (signalling .index)) (eqb (b .numbers) (signalling .numbers)) t) in
     rw (k, n)
 
 -- what an entry sets leaves the bits that it leaves
-entry-free : (zs : List ℤ) (r i : ℕ) (e : Entry) → T (ownTest e) → T (entryFree (signalCodes zs) r i e) → Each (λ w. T (not (sets w r i))) (entryWrites zs e)
+entry-free : (zs : List ℤ) (r i : ℕ) (e : Entry) → T (ownTest e) → T (entryFree (signalCodes zs) r i e) → Every (λ w. T (not (sets w r i))) (entryWrites zs e)
 entry-free zs r i (single f) o t = (t, tt)
 entry-free zs r i (whole signals b) o t =
     let own = ownSignals b in
     let here = signalsFree (signalCodes zs) b r i in
-    signals-free b (codesIn (blockCodes zs signals b)) r i
+    signals-free b (valueOr [] (blockCodes zs signals b)) r i
     (subst (λ (cs : List ℕ). T (signalsFree cs b r i)) (same-codes zs b (first own here t)) (second own here t))
     (entry-inside zs (whole signals b) o)
 entry-free zs r i (whole curve b) o t = block-free b r i t (entryWrites zs (whole curve b)) (entry-inside zs (whole curve b) o)
 entry-free zs r i (whole subcarrier b) o t = block-free b r i t (entryWrites zs (whole subcarrier b)) (entry-inside zs (whole subcarrier b) o)
 
-entries-free : (zs : List ℤ) (r i : ℕ) (es : List Entry) → T (allFree (signalCodes zs) r i es) → Each (λ w. T (not (sets w r i))) (writesOf zs es)
-unfolding writesOf
+entries-free : (zs : List ℤ) (r i : ℕ) (es : List Entry) → T (allFree (signalCodes zs) r i es) → Every (λ w. T (not (sets w r i))) (writesOf zs es)
+unfolding writesOf flatMap
 entries-free zs r i [] t = tt
 entries-free zs r i (e ∷ es) t =
     let own = ownTest e in
@@ -123,19 +125,19 @@ abbrev freeBit : List ℕ → ℕ → ℕ → Bool
 freeBit cs r i = imp (eqb (bit i (fixedMask cs r)) 0) (allFree cs r i table)
 
 free : (cs : List ℕ) → T (everyBit (freeBit cs))
-unfolding fixedMask fieldMask zeroMask maskWhere table singles timing output picture dnr
+unfolding fixedMask fieldMask zeroMask maskWhere table timing output picture dnr
 free [] = tt
 free (c ∷ cs) = tt
 
 -- ---- must-be-zero bits
 
 -- what holds of the writes of some entries holds of each single field's
-each-rest : (Q : Write → Type 0) (vs ws : List Write) → Each Q (vs ++ ws) → Each Q ws
+each-rest : (Q : Write → Type 0) (vs ws : List Write) → Every Q (vs ++ ws) → Every Q ws
 each-rest Q [] ws h = h
 each-rest Q (v ∷ vs) ws h = each-rest Q vs ws (h .1)
 
-each-single : (Q : Write → Type 0) (zs : List ℤ) (es : List Entry) → Each Q (writesOf zs es) → All (λ f. Q (writeOf zs f)) (singleFields es)
-unfolding writesOf singleFields
+each-single : (Q : Write → Type 0) (zs : List ℤ) (es : List Entry) → Every Q (writesOf zs es) → All (λ f. Q (writeOf zs f)) (singleFields es)
+unfolding writesOf singleFields flatMap
 each-single Q zs [] h = tt
 each-single Q zs (single f ∷ es) h = (h .0, each-single Q zs es (h .1))
 each-single Q zs (whole c b ∷ es) h = each-single Q zs es (each-rest Q (entryWrites zs (whole c b)) (writesOf zs es) h)
@@ -148,10 +150,10 @@ abbrev sharpnessZero : Field
 sharpnessZero = plainOf (rowOf 0x11_FF_22_44_000_000_04)
 
 -- their code is 0
-brightness-zero : (z : ℤ) → codeIn (encode brightnessZero z) ≡ 0
+brightness-zero : (z : ℤ) → valueOr 0 (encode brightnessZero z) ≡ 0
 brightness-zero = zero-code (brightnessZero .row) tt tt
 
-sharpness-zero : (z : ℤ) → codeIn (encode sharpnessZero z) ≡ 0
+sharpness-zero : (z : ℤ) → valueOr 0 (encode sharpnessZero z) ≡ 0
 sharpness-zero = zero-code (sharpnessZero .row) tt tt
 
 -- where the bits are: a test over the table
@@ -165,12 +167,12 @@ abbrev zeroBit : ℕ → ℕ → Bool
 zeroBit r i = imp (eqb (bit i (zeroMask r)) 1) (in21 r i || in22 r i)
 
 zero-bits : T (everyBit zeroBit)
-unfolding zeroMask maskWhere table singles timing output picture dnr
+unfolding zeroMask maskWhere table timing output picture dnr
 zero-bits = tt
 
 -- where every field is as its coding makes it, these hold 0
 zero-held : (zs : List ℤ) (out : List ℕ) → AllHeld out (writesOf zs table) → (field 7 1 (getD out 0x21 0) ≡ 0) × (field 4 4 (getD out 0x22 0) ≡ 0)
-unfolding singleFields table singles timing output picture dnr
+unfolding singleFields table timing output picture dnr
 zero-held zs out h =
     let all = each-single (λ w. held out w ≡ w .value % 2 ^ w .width) zs table h in
     let picture-on = all .1 .1 .1 .1 .1 .1 .1 .1 .1 .1 in (
@@ -197,7 +199,7 @@ zeroed zs out h r i hr hi z =
 
 -- no two entries of the table have a bit in common
 table-apart : T (entriesApart table)
-unfolding table singles timing output picture dnr
+unfolding table timing output picture dnr
 table-apart = tt
 
 -- the wanted image of any settings is as demand 2 has it

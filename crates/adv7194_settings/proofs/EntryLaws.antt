@@ -2,14 +2,14 @@
 use mathlib.Core.Path.{_≡_, refl, sym, ap, _∙_, subst}
 use mathlib.Core.Logic.{⊎-elim}
 use mathlib.Core.Bool.{Bool, true, false, not, _&&_, _||_}
-use mathlib.Core.List.{List, [], _∷_, _++_}
+use mathlib.Core.List.{List, [], _∷_, _++_, flatMap}
 use Prim.Native.Nat.{ℕ, suc, _+_, _<_, _≤_}
 use native.Mathlib.Omega.{arith}
 use lib.Dec.{T, eqb, leb, ltb, leb→le, ltb→lt}
 use lib.IntN.{ℤ}
 use borrow.Author.Tests.{ne-eqb}
 use Rattle.bits.proofs.FlagLaws.{both, first, second, either}
-use Rattle.field_table.specs.Writes.{Write, Each}
+use Rattle.field_table.specs.Writes.{Write}
 use Rattle.field_table.specs.Walk.{rowWrite}
 use Rattle.field_table.specs.Blocks.{byteWrites}
 use Rattle.field_table.proofs.ApartLaws.{apart, apartFrom, allApart}
@@ -17,9 +17,11 @@ use Rattle.field_table.proofs.FitLaws.{FitsIn, each-append}
 use Rattle.adv7194_table.specs.declared.blocks.Block.{Block}
 use Rattle.adv7194_table.specs.Table.{Content, signals, curve, subcarrier, Entry, single, whole}
 use Rattle.adv7194_table.specs.Masks.{inBlock}
-use Rattle.adv7194_settings.specs.Codes.{blockCodes, codesIn}
+use Rattle.adv7194_settings.specs.Codes.{blockCodes}
 use Rattle.adv7194_settings.specs.Wanted.{blockWrites, entryWrites, writesOf}
 use Rattle.adv7194_settings.proofs.FitLaws.{allFrom, contentTest, block-fills, block-fits}
+use Rattle.refusals.specs.Refusal.{valueOr}
+use Rattle.bits.specs.Lists.{Every}
 
 -- ---- an entry's own bits
 
@@ -34,15 +36,15 @@ ownTest (single f) = true
 ownTest (whole c b) = allFrom (inBlock b) (b .register) (b .registers) && contentTest c b
 
 -- what an entry sets is there
-pub entry-inside : (zs : List ℤ) (e : Entry) → T (ownTest e) → Each (Inside e) (entryWrites zs e)
+pub entry-inside : (zs : List ℤ) (e : Entry) → T (ownTest e) → Every (Inside e) (entryWrites zs e)
 entry-inside zs (single f) t = ((refl, (refl, refl)), tt)
 entry-inside zs (whole c b) t =
     let p = allFrom (inBlock b) (b .register) (b .registers) in
     let content = second p (contentTest c b) t in
-    let cs = codesIn (blockCodes zs c b) in
+    let cs = valueOr [] (blockCodes zs c b) in
     by (blockWrites c b cs) (block-fits (inBlock b) c b cs content (first p (contentTest c b) t) (block-fills zs c b content))
   where
-    by : (ws : List Write) → Each (FitsIn (inBlock b)) ws → Each (λ w. T (inBlock b (w .register))) ws
+    by : (ws : List Write) → Every (FitsIn (inBlock b)) ws → Every (λ w. T (inBlock b (w .register))) ws
     by [] f = tt
     by (w ∷ ws) f = (f .0 .passes, by ws (f .1))
 
@@ -118,7 +120,7 @@ block-apart subcarrier b cs = bytes-apart (b .register) cs
 
 entry-apart : (zs : List ℤ) (e : Entry) → T (allApart (entryWrites zs e))
 entry-apart zs (single f) = tt
-entry-apart zs (whole c b) = block-apart c b (codesIn (blockCodes zs c b))
+entry-apart zs (whole c b) = block-apart c b (valueOr [] (blockCodes zs c b))
 
 -- ---- all of them
 
@@ -133,14 +135,14 @@ entriesApart [] = true
 entriesApart (e ∷ es) = (ownTest e && entryApart e es) && entriesApart es
 
 -- each of some writes is apart from one
-apart-each : (w : Write) (vs : List Write) → Each (λ v. T (apart w v)) vs → T (apartFrom w vs)
+apart-each : (w : Write) (vs : List Write) → Every (λ v. T (apart w v)) vs → T (apartFrom w vs)
 apart-each w [] h = tt
 apart-each w (v ∷ vs) h = both (apart w v) (apartFrom w vs) (h .0) (apart-each w vs (h .1))
 
 -- a write of an entry is apart from what other entries set
 write-apart : (zs : List ℤ) (e : Entry) (w : Write) → Inside e w → (ds : List Entry) → T (entryApart e ds) → T (entriesApart ds)
-    → Each (λ v. T (apart w v)) (writesOf zs ds)
-unfolding writesOf
+    → Every (λ v. T (apart w v)) (writesOf zs ds)
+unfolding writesOf flatMap
 write-apart zs e w i [] t own = tt
 write-apart zs e w i (d ∷ ds) t own =
     let here = ownTest d && entryApart d ds in
@@ -148,12 +150,12 @@ write-apart zs e w i (d ∷ ds) t own =
     (by (entryWrites zs d) (entry-inside zs d (first (ownTest d) (entryApart d ds) (first here (entriesApart ds) own))))
     (write-apart zs e w i ds (second (pairApart e d) (entryApart e ds) t) (second here (entriesApart ds) own))
   where
-    by : (vs : List Write) → Each (Inside d) vs → Each (λ v. T (apart w v)) vs
+    by : (vs : List Write) → Every (Inside d) vs → Every (λ v. T (apart w v)) vs
     by [] h = tt
     by (v ∷ vs) h = (pair-apart e d (first (pairApart e d) (entryApart e ds) t) w v i (h .0), by vs (h .1))
 
 -- writes before others
-apart-append : (vs ws : List Write) → T (allApart vs) → T (allApart ws) → Each (λ v. T (apartFrom v ws)) vs → T (allApart (vs ++ ws))
+apart-append : (vs ws : List Write) → T (allApart vs) → T (allApart ws) → Every (λ v. T (apartFrom v ws)) vs → T (allApart (vs ++ ws))
 apart-append [] ws p q h = q
 apart-append (v ∷ vs) ws p q h =
     both (apartFrom v (vs ++ ws)) (allApart (vs ++ ws)) (from vs (first (apartFrom v vs) (allApart vs) p))
@@ -165,7 +167,7 @@ apart-append (v ∷ vs) ws p q h =
 
 -- so no two of all writes set the same bit
 pub writes-apart : (zs : List ℤ) (es : List Entry) → T (entriesApart es) → T (allApart (writesOf zs es))
-unfolding writesOf
+unfolding writesOf flatMap
 writes-apart zs [] t = tt
 writes-apart zs (e ∷ es) t =
     let here = ownTest e && entryApart e es in
@@ -173,7 +175,7 @@ writes-apart zs (e ∷ es) t =
     apart-append (entryWrites zs e) (writesOf zs es) (entry-apart zs e) (writes-apart zs es (second here (entriesApart es) t))
     (by (entryWrites zs e) (entry-inside zs e (first (ownTest e) (entryApart e es) own)))
   where
-    by : (ws : List Write) → Each (Inside e) ws → Each (λ w. T (apartFrom w (writesOf zs es))) ws
+    by : (ws : List Write) → Every (Inside e) ws → Every (λ w. T (apartFrom w (writesOf zs es))) ws
     by [] h = tt
     by (w ∷ ws) h = (
       apart-each w (writesOf zs es)

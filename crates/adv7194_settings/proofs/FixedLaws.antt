@@ -18,18 +18,20 @@ use Rattle.adv7194_bus.specs.Kind.{registerCount}
 use Rattle.adv7194_bus.specs.declared.board.Board.{Board}
 use Rattle.adv7194_table.specs.Blocks.{signalling}
 use Rattle.adv7194_table.specs.Fields.{timing, output, picture, dnr}
-use Rattle.adv7194_table.specs.Table.{signals, Entry, single, whole, singles, table}
+use Rattle.adv7194_table.specs.Table.{signals, Entry, single, whole, table}
 use Rattle.adv7194_table.specs.Masks.{bitsOf, maskWhere, fieldMask, zeroMask, ownMask}
 use Rattle.adv7194_table.specs.Registers.{hasBits, fieldAmong, fieldCount}
 use Rattle.adv7194_table.proofs.MaskLaws.{past-block}
 use Rattle.adv7194_table.proofs.RegisterLaws.{one-below}
-use Rattle.adv7194_settings.specs.Codes.{blockCodes, codesIn}
+use Rattle.adv7194_settings.specs.Codes.{blockCodes}
 use Rattle.adv7194_settings.specs.Wanted.{wantedBy}
 use Rattle.adv7194_settings.specs.Demand.{fixedMask}
-use Rattle.adv7194_settings.specs.Known.{fixedBits, fixesSome, unknown, partlyFixed}
+use Rattle.adv7194_settings.specs.Known.{fixedBits, fixesSome, partlyFixed}
 use Rattle.field_table.proofs.FitLaws.{Bytes}
 use Rattle.adv7194_settings.proofs.FitLaws.{wanted-bytes}
 use Rattle.adv7194_settings.proofs.DemandLaws.{demanded}
+use Rattle.refusals.specs.Refusal.{valueOr}
+use Rattle.adv7194_settings.proofs.Names.{unknown}
 
 -- ---- past the last register
 
@@ -63,7 +65,7 @@ none-there P n r (e ∷ es) t h =
 
 -- the table's registers are the chip's
 table-below : T (allBelow registerCount table)
-unfolding table singles timing output picture dnr
+unfolding table timing output picture dnr
 table-below = tt
 
 no-bits : (r : ℕ) → registerCount ≤ r → fieldMask r + zeroMask r ≡ 0
@@ -107,7 +109,7 @@ someFixed cs r = not (eqb (fixedMask cs r) 0) && not (eqb (fixedMask cs r) 0xFF)
 
 -- then the field has bits there: a test over the table, whether field 11 is off or not
 some-field : (cs : List ℕ) → T (below (λ r. imp (someFixed cs r) (hasBits (fieldIn r) r)) registerCount)
-unfolding fixedMask fieldMask zeroMask ownMask maskWhere table singles timing output picture dnr
+unfolding fixedMask fieldMask zeroMask ownMask maskWhere table timing output picture dnr
 some-field [] = tt
 some-field (c ∷ cs) = tt
 
@@ -119,7 +121,7 @@ none-partly b zs h r k = fails (unknown b r && fixesSome zs r) refused
   where
     refused : T (unknown b r && fixesSome zs r) → ⊥
     refused t =
-        let cs = codesIn (blockCodes zs signals signalling) in
+        let cs = valueOr [] (blockCodes zs signals signalling) in
         let some = holds (fixesSome zs r) (second (unknown b r) (fixesSome zs r) t) in
         let has : hasBits (fieldIn r) r ≡ true = holds (hasBits (fieldIn r) r) (imp→ (fixesSome zs r) (hasBits (fieldIn r) r)
         (below-at (λ x. imp (someFixed cs x) (hasBits (fieldIn x) x)) registerCount (some-field cs) r k) some) in

@@ -1,3 +1,4 @@
+pub mod Names
 pub mod BlockBytes
 pub mod FitLaws
 pub mod EntryLaws

@@ -2,7 +2,7 @@
 use mathlib.Core.Path.{_≡_, refl, sym, ap, ap₂, _∙_, subst}
 use mathlib.Core.Logic.{_⊎_, ⊎-elim}
 use mathlib.Core.Bool.{Bool, true, false, not, cond, _&&_, _||_, and-false, or-true}
-use mathlib.Core.List.{List, [], _∷_, _++_}
+use mathlib.Core.List.{List, [], _∷_, _++_, flatMap}
 use Prim.Native.Nat.{ℕ, zero, suc, _^_, _≤_, _<_}
 use native.Mathlib.Omega.{arith}
 use lib.Dec.{T, eqb, ltb}
@@ -12,7 +12,7 @@ use Rattle.bits.specs.Maps.{mapWidth, has, complement}
 use Rattle.bits.proofs.FlagLaws.{first, second, holds}
 use Rattle.bits.proofs.SetLaws.{has-not}
 use Rattle.refusals.specs.Verdict.{Verdict, good, refusedAt, after}
-use Rattle.refusals.specs.Order.{firstOf, placesAt}
+use Rattle.refusals.specs.Order.{firstOf, placesAt, placesIn}
 use Rattle.refusals.proofs.OrderLaws.{first-append}
 use Rattle.adv7194_bus.specs.Kind.{registerCount}
 use Rattle.adv7194_bus.specs.declared.board.Board.{Board}
@@ -25,10 +25,11 @@ use Rattle.adv7194_table.specs.Masks.{each}
 use Rattle.adv7194_table.specs.Registers.{hasBits, fieldAmong, lowestIn, lowestField}
 use Rattle.adv7194_table.proofs.TableLaws.{order-is}
 use Rattle.adv7194_table.proofs.RegisterLaws.{lowestFrom, lowest-here, lowest-next, lowest-from, none-below, none-lowest, same-lowest}
-use Rattle.adv7194_settings.specs.Known.{unknown, notKnown}
-use Rattle.adv7194_settings.specs.Order.{rowsAt, placesOf, order}
+use Rattle.adv7194_settings.specs.Known.{notKnown}
+use Rattle.adv7194_settings.specs.Order.{rowsAt, order}
 use Rattle.adv7194_settings.specs.Rows.{rowHeld, judgeOf}
-use Rattle.adv7194_settings.specs.Reading.{rowRead, placesRead, readOrder, readOf, withUnknown}
+use Rattle.adv7194_settings.specs.Reading.{rowRead, readOrder, readOf, withUnknown}
+use Rattle.adv7194_settings.proofs.Names.{unknown}
 
 abbrev Found : Type 0
 Found = Verdict (Unit {0})
@@ -90,21 +91,21 @@ unknown-later k u (refusedAt n f) w h l = let e = ⊎-elim first-none later l in
 module _ (b : Board) (count : ℕ) where
   -- the faults of some fields: by reading, of the image alone, and of one field
   abbrev readFrom : List ℕ → Found
-  readFrom fs = firstOf (rowRead b count) (placesRead fs) tt
+  readFrom fs = firstOf (rowRead b count) (placesIn (λ f. 11 ∷ rowsAt f) fs) tt
 
   abbrev judgedFrom : List ℕ → Found
-  judgedFrom fs = firstOf (rowHeld (b .registers)) (placesOf fs) tt
+  judgedFrom fs = firstOf (rowHeld (b .registers)) (placesIn rowsAt fs) tt
 
   abbrev fault : ℕ → Found
   fault f = firstOf (rowHeld (b .registers)) (placesAt (rowsAt f) f) tt
 
   -- a field before others, judged
   judged-first : (f : ℕ) (fs : List ℕ) → judgedFrom (f ∷ fs) ≡ after (fault f) (judgedFrom fs)
-  unfolding placesOf
-  judged-first f fs = first-append (rowHeld (b .registers)) (placesAt (rowsAt f) f) (placesOf fs) tt
+  unfolding placesIn flatMap
+  judged-first f fs = first-append (rowHeld (b .registers)) (placesAt (rowsAt f) f) (placesIn rowsAt fs) tt
 
   judged-from : (k n : ℕ) → From k (judgedFrom (each (λ f. f) k n))
-  unfolding placesOf firstOf
+  unfolding placesIn firstOf flatMap
   judged-from k zero = tt
   judged-from k (suc n) =
       subst (From k) (sym (judged-first k (each (λ f. f) (suc k) n)))
@@ -133,16 +134,16 @@ module _ (b : Board) (count : ℕ) where
 
   -- a field before others, read: row 11 and then its other rows
   read-first : (f : ℕ) (fs : List ℕ) → eqb f 0 ≡ false → readFrom (f ∷ fs) ≡ cond (notKnown b f) (refusedAt 11 f) (after (fault f) (readFrom fs))
-  unfolding firstOf placesAt placesRead rowRead
+  unfolding firstOf placesAt placesIn rowRead flatMap
   read-first f fs z =
-      let rest : firstOf (rowRead b count) (placesAt (rowsAt f) f ++ placesRead fs) (tt {0}) ≡ after (fault f) (readFrom fs) =
-      first-append (rowRead b count) (placesAt (rowsAt f) f) (placesRead fs) tt
+      let rest : firstOf (rowRead b count) (placesAt (rowsAt f) f ++ placesIn (λ f. 11 ∷ rowsAt f) fs) (tt {0}) ≡ after (fault f) (readFrom fs) =
+      first-append (rowRead b count) (placesAt (rowsAt f) f) (placesIn (λ f. 11 ∷ rowsAt f) fs) tt
       ∙ ap (λ (v : Found). after v (readFrom fs)) (rows-held f (rowsAt f) z (others-at f)) in
       rw z (ap (λ (v : Found). cond (notKnown b f) (refusedAt 11 f) v) rest)
 
   -- n fields from k on
   read-from : (k n : ℕ) → 0 < k → readFrom (each (λ f. f) k n) ≡ withUnknown (lowestFrom (unknown b) k n) (judgedFrom (each (λ f. f) k n))
-  unfolding placesRead placesOf firstOf lowestIn
+  unfolding placesIn firstOf lowestIn flatMap
   read-from k zero p = refl
   read-from k (suc n) p =
       read-first k later (ne-eqb k 0 (omega arith))

@@ -13,8 +13,9 @@ use Rattle.adv7194_bus.specs.Kind.{registerCount}
 use Rattle.adv7194_table.specs.Blocks.{signalling}
 use Rattle.adv7194_table.specs.Table.{signals, table}
 use Rattle.adv7194_table.specs.Masks.{inBlock, fieldMask, zeroMask}
-use Rattle.adv7194_settings.specs.Codes.{blockCodes, codesIn}
+use Rattle.adv7194_settings.specs.Codes.{blockCodes}
 use Rattle.adv7194_settings.specs.Wanted.{writesOf}
+use Rattle.refusals.specs.Refusal.{valueOr}
 
 -- the bits of register r that are not as found, field 11's being these codes: field bits and must-be-zero bits. Under off field 11 has bits 7-4 of 19 only
 unfoldable pub fixedMask : List ℕ → ℕ → ℕ
@@ -31,5 +32,5 @@ pub record Demanded (image : List ℕ) (zs : List ℤ) (out : List ℕ) : Type 0
   -- must-be-zero bits are zero
   pub zero : (r i : ℕ) → r < registerCount → i < 8 → bit i (zeroMask r) ≡ 1 → bit i (getD out r 0) ≡ 0
   -- every other bit is as found
-  pub kept : (r i : ℕ) → r < registerCount → i < 8 → bit i (fixedMask (codesIn (blockCodes zs signals signalling)) r) ≡ 0
+  pub kept : (r i : ℕ) → r < registerCount → i < 8 → bit i (fixedMask (valueOr [] (blockCodes zs signals signalling)) r) ≡ 0
       → bit i (getD out r 0) ≡ bit i (getD image r 0)

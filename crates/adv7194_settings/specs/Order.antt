@@ -1,10 +1,10 @@
 -- Document 01, "Refusals": fields are checked in order to 28; within a field the order is 3, 4, 5, 6, within field 11 it is 7, 3, 4, 8. Row 8 holds of
 -- field 28 too.
 use mathlib.Core.Bool.{cond}
-use mathlib.Core.List.{List, [], _∷_, _++_}
+use mathlib.Core.List.{List, [], _∷_}
 use Prim.Native.Nat.{ℕ}
 use lib.Dec.{eqb}
-use Rattle.refusals.specs.Order.{Place, placesAt}
+use Rattle.refusals.specs.Order.{Place, placesIn}
 use Rattle.adv7194_table.specs.Blocks.{signalling}
 use Rattle.adv7194_table.specs.Table.{table, orderOf}
 
@@ -12,11 +12,6 @@ use Rattle.adv7194_table.specs.Table.{table, orderOf}
 abbrev pub rowsAt : ℕ → List ℕ
 rowsAt f = cond (eqb f (signalling .field)) (7 ∷ 3 ∷ 4 ∷ 8 ∷ []) (3 ∷ 4 ∷ 5 ∷ 6 ∷ 8 ∷ [])
 
--- some fields, one after the other
-unfoldable pub placesOf : List ℕ → List Place
-placesOf [] = []
-placesOf (f ∷ fs) = placesAt (rowsAt f) f ++ placesOf fs
-
 -- the checking order
 unfoldable pub order : List Place
-order = placesOf (orderOf table)
+order = placesIn rowsAt (orderOf table)

@@ -7,8 +7,8 @@ use Prim.Native.Nat.{ℕ}
 use lib.Dec.{eqb, ltb}
 use lib.IntN.{ℤ}
 use lib.ListN.{length}
-use Rattle.refusals.specs.Verdict.{Verdict, good, refusedAt}
-use Rattle.refusals.specs.Order.{Place, firstOf, placesAt}
+use Rattle.refusals.specs.Verdict.{Verdict, good, refusedAt, leftBy}
+use Rattle.refusals.specs.Order.{Place, firstOf, placesAt, placesIn}
 use Rattle.adv7194_bus.specs.Kind.{registerCount}
 use Rattle.adv7194_bus.specs.declared.board.Board.{Board}
 use Rattle.adv7194_table.specs.Fields.{numberCount}
@@ -24,27 +24,17 @@ rowRead b count n f =
     cond (eqb f 0) (cond (eqb n 1) (not (eqb (length (b .registers)) registerCount)) (eqb n 3 && not (eqb count numberCount)))
     (cond (eqb n 11) (notKnown b f) (rowHeld (b .registers) n f))
 
--- the checking order of some fields: at each, row 11 and then its others
-unfoldable pub placesRead : List ℕ → List Place
-placesRead [] = []
-placesRead (f ∷ fs) = placesAt (11 ∷ rowsAt f) f ++ placesRead fs
-
 -- the checking order of reading
 unfoldable pub readOrder : List Place
-readOrder = placesAt (1 ∷ 3 ∷ []) 0 ++ placesRead (orderOf table)
+readOrder = placesAt (1 ∷ 3 ∷ []) 0 ++ placesIn (λ f. 11 ∷ rowsAt f) (orderOf table)
 
 -- reading: row n at field f where it is the first of the checking order that holds
 unfoldable pub readOf : Board → ℕ → Verdict (Unit {0})
 readOf b count = firstOf (rowRead b count) readOrder tt
 
--- the lent numbers after an answer: the settings that the image holds, or as they were
-abbrev pub leftBy : List ℕ → List ℤ → Verdict (Unit {0}) → List ℤ
-leftBy image zs (good u) = settingsHeld image
-leftBy image zs (refusedAt n f) = zs
-
 -- the lent numbers that reading leaves
 abbrev pub readLeft : Board → List ℤ → List ℤ
-readLeft b zs = leftBy (b .registers) zs (readOf b (length zs))
+readLeft b zs = leftBy zs (settingsHeld (b .registers)) (readOf b (length zs))
 
 -- a verdict on an image where u is the first field with an unknown register, 0 where there is none: a fault of an earlier field comes before 11 at u
 abbrev pub withUnknown : ℕ → Verdict (Unit {0}) → Verdict (Unit {0})

@@ -1,6 +1,6 @@
 -- Document 01, demand 2's image: each field as its coding makes it from the settings, must-be-zero bits zero, every other bit from the
 -- starting image. Registers and bits are those of the table.
-use mathlib.Core.List.{List, [], _∷_, _++_}
+use mathlib.Core.List.{List, [], _∷_, flatMap}
 use Prim.Native.Nat.{ℕ}
 use lib.IntN.{ℤ}
 use Rattle.field_table.specs.Writes.{Write, puts}
@@ -8,32 +8,24 @@ use Rattle.field_table.specs.Walk.{writeOf}
 use Rattle.field_table.specs.Blocks.{byteWrites}
 use Rattle.adv7194_table.specs.declared.blocks.Block.{Block}
 use Rattle.adv7194_table.specs.Table.{Content, signals, curve, subcarrier, Entry, single, whole, table}
-use Rattle.adv7194_settings.specs.Codes.{blockCodes, codesIn}
+use Rattle.adv7194_settings.specs.Codes.{blockCodes}
+use Rattle.refusals.specs.Refusal.{valueOr}
 
--- "Off: bits 7-4 of 19 zero, the remainder as found"
-abbrev pub offWrite : Block → Write
-offWrite b = record { register = b .register; place = 4; width = 4; value = 0 }
-
--- signalling sets its registers; off, which has no codes, sets bits 7-4 of the first
-abbrev pub signalWrites : Block → List ℕ → List Write
-signalWrites b [] = offWrite b ∷ []
-signalWrites b (c ∷ cs) = byteWrites (b .register) (c ∷ cs)
-
--- what a block's codes set
+-- what a block's codes set: its registers; off, which has no codes, sets bits 7-4 of the first: "bits 7-4 of 19 zero, the remainder as found"
 abbrev pub blockWrites : Content → Block → List ℕ → List Write
-blockWrites signals b cs = signalWrites b cs
+blockWrites signals b [] = record { register = b .register; place = 4; width = 4; value = 0 } ∷ []
+blockWrites signals b (c ∷ cs) = byteWrites (b .register) (c ∷ cs)
 blockWrites curve b cs = byteWrites (b .register) cs
 blockWrites subcarrier b cs = byteWrites (b .register) cs
 
 -- what the settings set by an entry of the table
 abbrev pub entryWrites : List ℤ → Entry → List Write
 entryWrites zs (single f) = writeOf zs f ∷ []
-entryWrites zs (whole c b) = blockWrites c b (codesIn (blockCodes zs c b))
+entryWrites zs (whole c b) = blockWrites c b (valueOr [] (blockCodes zs c b))
 
 -- and by some entries
 unfoldable pub writesOf : List ℤ → List Entry → List Write
-writesOf zs [] = []
-writesOf zs (e ∷ es) = entryWrites zs e ++ writesOf zs es
+writesOf zs es = flatMap (entryWrites zs) es
 
 -- the image that the settings mean over a starting image
 unfoldable pub wantedBy : List ℕ → List ℤ → List ℕ

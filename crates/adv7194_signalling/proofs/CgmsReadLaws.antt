@@ -1,5 +1,5 @@
--- What a CGMS word says of the setting that it codes, so that no other setting is coded so. Assumes nothing.
-use mathlib.Core.Path.{_≡_, sym, ap, ap₂, _∙_}
+-- What a CGMS word says of the setting that it codes. Assumes nothing.
+use mathlib.Core.Path.{_≡_, sym, ap, _∙_}
 use mathlib.Core.Bool.{true, false}
 use mathlib.Core.List.{List}
 use mathlib.Core.Logic.{_⊎_, inl, inr}
@@ -7,15 +7,14 @@ use Prim.Native.Nat.{ℕ, _/_, _%_, _<_}
 use native.Mathlib.Omega.{arith}
 use lib.Dec.{eqb}
 use lib.IntN.{ℤ, pos, natAbs}
-use Rattle.bits.specs.Strings.{lsbValue}
+use Rattle.bits.specs.Strings.{lsbValue, bitValue}
 use Rattle.refusals.specs.Refusal.{accepted}
 use Rattle.rounding.proofs.First.{flag}
-use Rattle.adv7194_signalling.specs.Cgms.{cgmsBits, cgmsOf, cgmsCode}
-use Rattle.adv7194_signalling.specs.declared.cgms.CgmsSetting.{CgmsSetting}
-use Rattle.adv7194_signalling.specs.Numbers.{yes, numberTop, yesTop}
-use Rattle.adv7194_signalling.proofs.NumberLaws.{within-only, rest-within}
-use Rattle.adv7194_signalling.proofs.WordLaws.{bit-value, wordBytes, bytes-only}
-use Rattle.adv7194_signalling.proofs.CgmsLaws.{checkPart-lt, cgms-value, inside, Inside, is-inside, cgmsNumber, cgms-coded, cgms-outside}
+use Rattle.field_table.specs.Blocks.{is}
+use Rattle.adv7194_signalling.specs.Cgms.{cgmsBits, cgmsOf}
+use Rattle.adv7194_signalling.proofs.NumberLaws.{Within, yes-is, rest-within}
+use Rattle.adv7194_signalling.proofs.WordLaws.{bit-value, wordBytes}
+use Rattle.adv7194_signalling.proofs.CgmsLaws.{checkPart-lt, cgms-value, inside, Inside, is-inside, cgmsNumber, by-magnitudes, cgms-coded, cgms-outside}
 
 -- the setting's parts of a word's number: C0 to C13, and bits 5, 6 and 4 of register 19
 abbrev pub payloadOf : ℕ → ℕ
@@ -38,14 +37,18 @@ pub record Parts (payload odd even chip : ℤ) (word : ℕ) : Type 0 where
   pub chip-is : natAbs chip ≡ chipOf word
   pub top-clear : word < 0x800000
 
+-- the bit of a yes/no is its magnitude
+yes-value : {z : ℤ} → Within 1 z → bitValue (is 1 z) ≡ natAbs z
+yes-value {z} w = ap bitValue (sym (yes-is z w)) ∙ bit-value (natAbs z) (omega (arith, w .most))
+
 -- the word of a setting has its parts
 pub parts : {payload odd even chip : ℤ} → Inside payload odd even chip → Parts payload odd even chip (cgmsNumber payload odd even chip)
 parts {payload} {odd} {even} {chip} i =
-    let value = cgms-value (natAbs payload) (yes odd) (yes even) (yes chip) (omega (arith, i .payload-in .most)) in
+    let value = cgms-value (natAbs payload) (is 1 odd) (is 1 even) (is 1 chip) (omega (arith, i .payload-in .most)) in
     let check = checkPart-lt (natAbs payload) in
-    let o = bit-value (natAbs odd) (omega (arith, i .odd-in .most)) in
-    let e = bit-value (natAbs even) (omega (arith, i .even-in .most)) in
-    let k = bit-value (natAbs chip) (omega (arith, i .chip-in .most)) in
+    let o = yes-value (i .odd-in) in
+    let e = yes-value (i .even-in) in
+    let k = yes-value (i .chip-in) in
     record {
       payload-is = omega (arith, i .payload-in .most);
       odd-is = omega (arith, i .payload-in .most, i .odd-in .most, i .chip-in .most);
@@ -76,7 +79,7 @@ coded-again word = lsbValue (cgmsBits (payloadOf word) (eqb (oddOf word) 1) (eqb
 -- it is in its range
 again-inside : (word : ℕ) → inside (pos (payloadOf word)) (pos (oddOf word)) (pos (evenOf word)) (pos (chipOf word)) ≡ true
 again-inside word =
-    rw (rest-within word numberTop, rest-within (word / 0x200000) yesTop, rest-within (word / 0x400000) yesTop, rest-within (word / 0x100000) yesTop)
+    rw (rest-within word 16383, rest-within (word / 0x200000) 1, rest-within (word / 0x400000) 1, rest-within (word / 0x100000) 1)
 
 -- a word that is coded again unchanged holds a setting
 pub again-held : (word : ℕ) → coded-again word ≡ word
@@ -89,21 +92,4 @@ again-held word h =
 pub held-again : {payload odd even chip : ℤ} → Inside payload odd even chip → coded-again (cgmsNumber payload odd even chip) ≡ cgmsNumber payload odd even chip
 held-again i =
     let p = parts i in
-    rw (sym (p .payload-is), sym (p .odd-is), sym (p .even-is), sym (p .chip-is))
-
--- a setting by its four numbers
-abbrev made : ℤ → ℤ → ℤ → ℤ → CgmsSetting
-made payload odd even chip = record { payload = payload; odd = odd; even = even; «chip_check» = chip }
-
--- so no two settings are coded by the same bytes
-pub cgms-only : (s t : CgmsSetting) (bytes : List ℕ) → cgmsCode s ≡ accepted bytes → cgmsCode t ≡ accepted bytes → s ≡ t
-cgms-only s t bytes hs ht =
-    let a = is-coded (s .payload) (s .odd) (s .even) (s .«chip_check») bytes hs in
-    let b = is-coded (t .payload) (t .odd) (t .even) (t .«chip_check») bytes ht in
-    let p = rw (bytes-only _ _ (a .bytes-are ∙ sym (b .bytes-are))) at (parts (a .in-range)) in
-    let q = parts (b .in-range) in
-    let payloads = within-only (a .in-range .payload-in) (b .in-range .payload-in) (p .payload-is ∙ sym (q .payload-is)) in
-    let odds = within-only (a .in-range .odd-in) (b .in-range .odd-in) (p .odd-is ∙ sym (q .odd-is)) in
-    let evens = within-only (a .in-range .even-in) (b .in-range .even-in) (p .even-is ∙ sym (q .even-is)) in
-    let chips = within-only (a .in-range .chip-in) (b .in-range .chip-in) (p .chip-is ∙ sym (q .chip-is)) in
-    ap₂ (λ (x y : ℤ). made x y (s .even) (s .«chip_check»)) payloads odds ∙ ap₂ (λ (x y : ℤ). made (t .payload) (t .odd) x y) evens chips
+    rw (sym (p .payload-is), sym (p .odd-is), sym (p .even-is), sym (p .chip-is)) (by-magnitudes i)

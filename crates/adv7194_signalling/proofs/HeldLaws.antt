@@ -1,114 +1,151 @@
--- What a reader answers is determined: where no two settings are coded by the same bytes, two answers for the same bytes are one, and the setting that
--- stands in the bits is such an answer. Assumes nothing.
+-- What bytes hold: the setting that stands in their bits, where they are its coding. No other setting is coded so, so what a reader answers that answers such
+-- a setting, or refuses where there is none, is that. Assumes nothing.
 use mathlib.Core.Path.{_≡_, refl, sym, ap, _∙_, subst}
-use mathlib.Core.Bool.{true, false, cond}
-use mathlib.Core.List.{List}
+use mathlib.Core.Bool.{true, false}
+use mathlib.Core.List.{List, [], _∷_}
 use mathlib.Core.Logic.{_⊎_, inl, inr}
 use Prim.Native.Nat.{ℕ, _+_, _*_, _/_, _%_, _^_}
 use native.Mathlib.Omega.{arith}
 use lib.Dec.{T}
 use lib.IntN.{ℤ, pos, natAbs}
+use lib.ListN.{getD}
 use lib.Signed.{pos-natAbs}
-use Rattle.bits.specs.Bytes.{sameBytes}
+use Rattle.bits.specs.Fields.{bit}
 use Rattle.bits.proofs.SameLaws.{same-bytes, same-self}
 use Rattle.rounding.proofs.First.{flag}
 use Rattle.refusals.specs.Refusal.{Judged, accepted, refused}
-use Rattle.adv7194_signalling.specs.Held.{Held, codedSo, heldBy, numberIn}
-use Rattle.adv7194_signalling.specs.Cgms.{CgmsHeld, cgmsCode, cgmsIn, cgmsHeld}
-use Rattle.adv7194_signalling.specs.Wss.{WssHeld, wssOf, wssHeld}
+use Rattle.adv7194_signalling.specs.Cgms.{CgmsHeld, cgmsOf}
+use Rattle.adv7194_signalling.specs.Wss.{WssHeld, wssOf}
+use Rattle.adv7194_signalling.specs.Signalling.{signallingCodes, codedSo, heldBy, numberIn, cgmsHeld, wssHeld}
+use Rattle.adv7194_signalling.specs.Answers.{cgmsNumbers, wssNumbers}
 use Rattle.adv7194_signalling.specs.declared.cgms.CgmsSetting.{CgmsSetting}
 use Rattle.adv7194_signalling.proofs.WordLaws.{wordBytes}
 use Rattle.adv7194_signalling.proofs.CgmsLaws.{cgmsNumber}
-use Rattle.adv7194_signalling.proofs.CgmsReadLaws.{cgms-only, parts, is-coded}
-use Rattle.adv7194_signalling.proofs.WssLaws.{wss-only, is-coded as wss-is-coded}
+use Rattle.adv7194_signalling.proofs.CgmsReadLaws.{parts, is-coded}
+use Rattle.adv7194_signalling.proofs.WssLaws.{is-coded as wss-is-coded}
+use Rattle.adv7194_signalling.proofs.CodeLaws.{cgms-codes, wss-codes}
 
-held-only : {S : Type 0} (code : S → Judged (List ℕ)) (number : ℕ) (bytes : List ℕ)
-    → ((s t : S) → code s ≡ accepted bytes → code t ≡ accepted bytes → s ≡ t) → (a b : Judged S) → Held code number bytes a → Held code number bytes b → a ≡ b
-held-only code number bytes only (accepted s) (accepted t) a b = ap accepted (only s t a b)
-held-only code number bytes only (accepted s) (refused n) a b = absurd (b .1 s a)
-held-only code number bytes only (refused m) (accepted t) a b = absurd (a .1 t b)
-held-only code number bytes only (refused m) (refused n) a b = ap refused (a .0 ∙ sym (b .0))
+-- ---- numbers held where the bytes are their coding
 
-pub cgms-determined : (bytes : List ℕ) (a b : Judged CgmsSetting) → CgmsHeld bytes a → CgmsHeld bytes b → a ≡ b
-cgms-determined bytes = held-only cgmsCode 8 bytes (λ s t. cgms-only s t bytes)
+-- a coding that is found the bytes'
+coded-same : (j : Judged (List ℕ)) (bytes : List ℕ) → codedSo j bytes ≡ true → j ≡ accepted bytes
+coded-same (accepted cs) bytes t = ap accepted (same-bytes cs bytes (subst T (sym t) tt))
+coded-same (refused n) bytes t = absurd (subst T (sym t) tt)
 
-pub wss-determined : (bytes : List ℕ) (a b : Judged ℤ) → WssHeld bytes a → WssHeld bytes b → a ≡ b
-wss-determined bytes = held-only wssOf 4 bytes (λ y z. wss-only y z bytes)
+-- bytes hold the numbers that they code
+pub held-own : (zs : List ℤ) (n : ℕ) (bytes : List ℕ) → signallingCodes zs ≡ accepted bytes → heldBy zs n bytes ≡ accepted zs
+held-own zs n bytes e = rw (e, same-self bytes)
+
+-- and no others
+held-none : (zs : List ℤ) (n : ℕ) (bytes : List ℕ) → (signallingCodes zs ≡ accepted bytes → ⊥) → heldBy zs n bytes ≡ refused n
+held-none zs n bytes other = go (flag (codedSo (signallingCodes zs) bytes))
+  where
+    go : (codedSo (signallingCodes zs) bytes ≡ true) ⊎ (codedSo (signallingCodes zs) bytes ≡ false) → heldBy zs n bytes ≡ refused n
+    go (inl t) = absurd (other (coded-same (signallingCodes zs) bytes t))
+    go (inr f) = rw f
+
+-- numbers that they hold are those, and they code them
+pub record Holds (zs : List ℤ) (bytes : List ℕ) (ns : List ℤ) : Type 0 where
+  pub same : zs ≡ ns
+  pub coded : signallingCodes ns ≡ accepted bytes
+
+pub held-is : (zs : List ℤ) (n : ℕ) (bytes : List ℕ) (ns : List ℤ) → heldBy zs n bytes ≡ accepted ns → Holds zs bytes ns
+held-is zs n bytes ns e = go (flag (codedSo (signallingCodes zs) bytes))
+  where
+    go : (codedSo (signallingCodes zs) bytes ≡ true) ⊎ (codedSo (signallingCodes zs) bytes ≡ false) → Holds zs bytes ns
+    go (inl t) =
+        let h : heldBy zs n bytes ≡ accepted zs = rw t in
+        let same : zs ≡ ns = cc in
+        record { same = same; coded = ap signallingCodes (sym same) ∙ coded-same (signallingCodes zs) bytes t }
+    go (inr f) =
+        let h : heldBy zs n bytes ≡ refused n = rw f in
+        let z : _≡_ {A = ℕ} 0 1 = cc in
+        absurd (omega arith)
+
+-- a refusal is the one named
+pub held-refusal : (zs : List ℤ) (m : ℕ) (bytes : List ℕ) (n : ℕ) → heldBy zs m bytes ≡ refused n → n ≡ m
+held-refusal zs m bytes n e = go (flag (codedSo (signallingCodes zs) bytes))
+  where
+    go : (codedSo (signallingCodes zs) bytes ≡ true) ⊎ (codedSo (signallingCodes zs) bytes ≡ false) → n ≡ m
+    go (inl t) =
+        let h : heldBy zs m bytes ≡ accepted zs = rw t in
+        let z : _≡_ {A = ℕ} 0 1 = cc in
+        absurd (omega arith)
+    go (inr f) = let h : heldBy zs m bytes ≡ refused m = rw f in cc
 
 -- ---- the setting that stands in the bits
 
--- where only that setting can be coded by the bytes, it is an answer, or its refusal is
-held-by : {S : Type 0} (code : S → Judged (List ℕ)) (s : S) (number : ℕ) (bytes : List ℕ)
-    → ((t : S) → code t ≡ accepted bytes → t ≡ s) → Held code number bytes (heldBy code s number bytes)
-held-by {S} code s number bytes only = by (code s) refl
-  where
-    coded : {cs : List ℕ} → code s ≡ accepted cs → (sameBytes cs bytes ≡ true) ⊎ (sameBytes cs bytes ≡ false)
-        → Held code number bytes (cond (sameBytes cs bytes) (accepted s) (refused number))
-    coded {cs} e (inl t) = rw t (e ∙ ap accepted (same-bytes cs bytes (subst T (sym t) tt)))
-    coded {cs} e (inr f) = rw f (
-      refl,
-      λ t h.
-          let again : code s ≡ accepted bytes = subst (λ (u : S). code u ≡ accepted bytes) (only t h) h in
-          let same : cs ≡ bytes = cc in
-          let found : sameBytes cs bytes ≡ true = subst (λ (l : List ℕ). sameBytes cs l ≡ true) same (same-self cs) in
-          let z : _≡_ {A = ℕ} 0 1 = cc in
-          omega arith,
-    )
+-- of CGMS
+abbrev pub cgmsIn : List ℕ → List ℤ
+cgmsIn bytes =
+    pos 1 ∷ pos (numberIn bytes) ∷ pos (bit 5 (getD bytes 0 0)) ∷ pos (bit 6 (getD bytes 0 0)) ∷ pos (bit 4 (getD bytes 0 0)) ∷ []
 
-    by : (j : Judged (List ℕ)) → code s ≡ j → Held code number bytes (cond (codedSo j bytes) (accepted s) (refused number))
-    by (accepted cs) e = coded e (flag (sameBytes cs bytes))
-    by (refused n) e = (
-      refl,
-      λ t h.
-          let again : code s ≡ accepted bytes = subst (λ (u : S). code u ≡ accepted bytes) (only t h) h in
-          let z : _≡_ {A = ℕ} 0 1 = cc in
-          omega arith,
-    )
+-- of WSS
+abbrev pub wssIn : List ℕ → List ℤ
+wssIn bytes = pos 2 ∷ pos (numberIn bytes) ∷ pos 0 ∷ pos 0 ∷ pos 0 ∷ []
 
 -- a CGMS setting that bytes code is the one in their bits
-pub cgms-in : (s : CgmsSetting) (bytes : List ℕ) → cgmsCode s ≡ accepted bytes → s ≡ cgmsIn bytes
-cgms-in s bytes h =
-    let c = is-coded (s .payload) (s .odd) (s .even) (s .«chip_check») bytes h in
+pub cgms-in : (payload odd even chip : ℤ) (bytes : List ℕ) → cgmsOf payload odd even chip ≡ accepted bytes
+    → pos 1 ∷ payload ∷ odd ∷ even ∷ chip ∷ [] ≡ cgmsIn bytes
+cgms-in payload odd even chip bytes h =
+    let c = is-coded payload odd even chip bytes h in
     let p = parts (c .in-range) in
-    let v = cgmsNumber (s .payload) (s .odd) (s .even) (s .«chip_check») in
-    let number : natAbs (s .payload) ≡ v % 2 ^ 8 + 2 ^ 8 * (v / 2 ^ 8 % 2 ^ 8 % 2 ^ 6) = omega (arith, p .payload-is) in
-    let odd-bit : natAbs (s .odd) ≡ v / 2 ^ 16 / 2 ^ 5 % 2 ^ 1 = omega (arith, p .odd-is) in
-    let even-bit : natAbs (s .even) ≡ v / 2 ^ 16 / 2 ^ 6 % 2 ^ 1 = omega (arith, p .even-is) in
-    let chip-bit : natAbs (s .«chip_check») ≡ v / 2 ^ 16 / 2 ^ 4 % 2 ^ 1 = omega (arith, p .chip-is) in
-    let payload = sym (pos-natAbs (s .payload) (c .in-range .payload-in .sign)) ∙ ap pos number in
-    let odd = sym (pos-natAbs (s .odd) (c .in-range .odd-in .sign)) ∙ ap pos odd-bit in
-    let even = sym (pos-natAbs (s .even) (c .in-range .even-in .sign)) ∙ ap pos even-bit in
-    let chip = sym (pos-natAbs (s .«chip_check») (c .in-range .chip-in .sign)) ∙ ap pos chip-bit in
-    let own : s ≡ cgmsIn (wordBytes v) = rw (sym payload, sym odd, sym even, sym chip) in
+    let v = cgmsNumber payload odd even chip in
+    let number : natAbs payload ≡ v % 2 ^ 8 + 2 ^ 8 * (v / 2 ^ 8 % 2 ^ 8 % 2 ^ 6) = omega (arith, p .payload-is) in
+    let odd-bit : natAbs odd ≡ v / 2 ^ 16 / 2 ^ 5 % 2 ^ 1 = omega (arith, p .odd-is) in
+    let even-bit : natAbs even ≡ v / 2 ^ 16 / 2 ^ 6 % 2 ^ 1 = omega (arith, p .even-is) in
+    let chip-bit : natAbs chip ≡ v / 2 ^ 16 / 2 ^ 4 % 2 ^ 1 = omega (arith, p .chip-is) in
+    let payload-in = sym (pos-natAbs payload (c .in-range .payload-in .sign)) ∙ ap pos number in
+    let odd-in = sym (pos-natAbs odd (c .in-range .odd-in .sign)) ∙ ap pos odd-bit in
+    let even-in = sym (pos-natAbs even (c .in-range .even-in .sign)) ∙ ap pos even-bit in
+    let chip-in = sym (pos-natAbs chip (c .in-range .chip-in .sign)) ∙ ap pos chip-bit in
+    let own : pos 1 ∷ payload ∷ odd ∷ even ∷ chip ∷ [] ≡ cgmsIn (wordBytes v) = rw (sym payload-in, sym odd-in, sym even-in, sym chip-in) in
     own ∙ ap cgmsIn (c .bytes-are)
 
 -- a WSS number that bytes code is the one in their bits
-pub wss-in : (z : ℤ) (bytes : List ℕ) → wssOf z ≡ accepted bytes → z ≡ pos (numberIn bytes)
+pub wss-in : (z : ℤ) (bytes : List ℕ) → wssOf z ≡ accepted bytes → pos 2 ∷ z ∷ pos 0 ∷ pos 0 ∷ pos 0 ∷ [] ≡ wssIn bytes
 wss-in z bytes h =
     let c = wss-is-coded z bytes h in
     let v = natAbs z + 0x800000 in
     let number : natAbs z ≡ v % 2 ^ 8 + 2 ^ 8 * (v / 2 ^ 8 % 2 ^ 8 % 2 ^ 6) = omega (arith, c .in-range .most) in
-    sym (pos-natAbs z (c .in-range .sign)) ∙ ap pos number ∙ ap (λ (l : List ℕ). pos (numberIn l)) (c .bytes-are)
+    ap (λ (y : ℤ). pos 2 ∷ y ∷ pos 0 ∷ pos 0 ∷ pos 0 ∷ []) (sym (pos-natAbs z (c .in-range .sign)) ∙ ap pos number) ∙ ap wssIn (c .bytes-are)
 
--- so the setting in the bits is the answer
-pub cgms-held : (bytes : List ℕ) → CgmsHeld bytes (cgmsHeld bytes)
+-- ---- what bytes that code a setting hold
+
+pub cgms-held : (payload odd even chip : ℤ) (bytes : List ℕ) → cgmsOf payload odd even chip ≡ accepted bytes
+    → cgmsHeld bytes ≡ accepted (pos 1 ∷ payload ∷ odd ∷ even ∷ chip ∷ [])
 unfolding cgmsHeld
-cgms-held bytes = held-by cgmsCode (cgmsIn bytes) 8 bytes (λ s h. cgms-in s bytes h)
+cgms-held payload odd even chip bytes h =
+    ap (λ (zs : List ℤ). heldBy zs 8 bytes) (sym (cgms-in payload odd even chip bytes h)) ∙ held-own _ 8 bytes (cgms-codes _ refl refl ∙ h)
 
-pub wss-held : (bytes : List ℕ) → WssHeld bytes (wssHeld bytes)
+pub wss-held : (z : ℤ) (bytes : List ℕ) → wssOf z ≡ accepted bytes → wssHeld bytes ≡ accepted (pos 2 ∷ z ∷ pos 0 ∷ pos 0 ∷ pos 0 ∷ [])
 unfolding wssHeld
-wss-held bytes = held-by wssOf (pos (numberIn bytes)) 4 bytes (λ z h. wss-in z bytes h)
+wss-held z bytes h = ap (λ (zs : List ℤ). heldBy zs 4 bytes) (sym (wss-in z bytes h)) ∙ held-own _ 4 bytes (wss-codes _ refl refl refl ∙ h)
 
--- and the only one
-pub cgms-answer : (bytes : List ℕ) (a : Judged CgmsSetting) → CgmsHeld bytes a → a ≡ cgmsHeld bytes
-cgms-answer bytes a h = cgms-determined bytes a (cgmsHeld bytes) h (cgms-held bytes)
+-- ---- the readers' answers
 
-pub wss-answer : (bytes : List ℕ) (a : Judged ℤ) → WssHeld bytes a → a ≡ wssHeld bytes
-wss-answer bytes a h = wss-determined bytes a (wssHeld bytes) h (wss-held bytes)
+-- a setting by its four numbers
+abbrev pub made : ℤ → ℤ → ℤ → ℤ → CgmsSetting
+made payload odd even chip = record { payload = payload; odd = odd; even = even; «chip_check» = chip }
 
--- both at once
-pub cgms-both : (bytes : List ℕ) (a : Judged CgmsSetting) → CgmsHeld bytes a → (a ≡ cgmsHeld bytes) × CgmsHeld bytes a
+cgms-answer : (bytes : List ℕ) (a : Judged CgmsSetting) → CgmsHeld bytes a → cgmsNumbers a ≡ cgmsHeld bytes
+unfolding cgmsHeld
+cgms-answer bytes (accepted s) h = sym (cgms-held (s .payload) (s .odd) (s .even) (s .«chip_check») bytes h)
+cgms-answer bytes (refused n) h =
+    ap refused (h .0)
+    ∙ sym (held-none (cgmsIn bytes) 8 bytes (λ e.
+    h .1 (made (pos (numberIn bytes)) (pos (bit 5 (getD bytes 0 0))) (pos (bit 6 (getD bytes 0 0))) (pos (bit 4 (getD bytes 0 0))))
+    (sym (cgms-codes (cgmsIn bytes) refl refl) ∙ e)))
+
+wss-answer : (bytes : List ℕ) (a : Judged ℤ) → WssHeld bytes a → wssNumbers a ≡ wssHeld bytes
+unfolding wssHeld
+wss-answer bytes (accepted z) h = sym (wss-held z bytes h)
+wss-answer bytes (refused n) h =
+    ap refused (h .0) ∙ sym (held-none (wssIn bytes) 4 bytes (λ e. h .1 (pos (numberIn bytes)) (sym (wss-codes (wssIn bytes) refl refl refl) ∙ e)))
+
+-- with what they are answers by
+pub cgms-both : (bytes : List ℕ) (a : Judged CgmsSetting) → CgmsHeld bytes a → (cgmsNumbers a ≡ cgmsHeld bytes) × CgmsHeld bytes a
 cgms-both bytes a h = (cgms-answer bytes a h, h)
 
-pub wss-both : (bytes : List ℕ) (a : Judged ℤ) → WssHeld bytes a → (a ≡ wssHeld bytes) × WssHeld bytes a
+pub wss-both : (bytes : List ℕ) (a : Judged ℤ) → WssHeld bytes a → (wssNumbers a ≡ wssHeld bytes) × WssHeld bytes a
 wss-both bytes a h = (wss-answer bytes a h, h)

@@ -5,8 +5,8 @@ pub mod CheckLaws
 pub mod CgmsLaws
 pub mod CgmsReadLaws
 pub mod WssLaws
+pub mod CodeLaws
 pub mod HeldLaws
 pub mod KindLaws
-pub mod CodeLaws
 pub mod SettingLaws
 pub mod RefusalLaws

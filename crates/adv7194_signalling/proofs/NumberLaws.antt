@@ -1,29 +1,33 @@
 -- Signed settings: what it says of one that it is within 0 to top. Assumes nothing.
-use mathlib.Core.Path.{_≡_, refl, sym, ap, _∙_}
+use mathlib.Core.Path.{_≡_, refl, ap, _∙_}
 use mathlib.Core.Bool.{true, false}
 use mathlib.Core.List.{List, [], _∷_}
 use Prim.Native.Nat.{ℕ, suc, _%_, _^_, _≤_, _<_}
 use native.Mathlib.Nat.{mod-lt, zero-lt-suc, le-of-suc-le-suc}
 use native.Mathlib.Omega.{arith}
-use lib.Dec.{T, leb}
+use lib.Dec.{T, eqb, leb}
 use lib.IntN.{ℤ, pos, negsuc, natAbs}
-use lib.Signed.{ltZ, nonNeg, pos-natAbs, mag}
+use lib.Signed.{ltZ, nonNeg, mag}
 use mir.Syntax.{w32}
 use mir.Val.{Fits, SFits}
 use mir.ValLaws.{toZ-ofZ}
 use borrow.Author.Tests.{ltb-true, leb-true, le-leb}
 use Rattle.refusals.specs.Refusal.{Judged, accepted}
 use Rattle.rounding.proofs.Range.{back}
-use Rattle.adv7194_signalling.specs.Numbers.{within}
+use Rattle.field_table.specs.Blocks.{is, between}
+
+-- no number is below 0
+from-zero : (n : ℕ) → leb 0 n ≡ true
+from-zero n = le-leb 0 n (omega arith)
 
 -- a negative number is outside
-pub negative-outside : (top : ℕ) (z : ℤ) → ltZ z (pos 0) ≡ true → false ≡ within top z
+pub negative-outside : (top : ℕ) (z : ℤ) → ltZ z (pos 0) ≡ true → false ≡ between 0 top z
 negative-outside top (pos n) h = absurd (omega (arith, ltb-true n 0 h))
 negative-outside top (negsuc n) h = refl
 
 -- of one that is not, the number is tested
-pub number-within : (top : ℕ) (z : ℤ) → ltZ z (pos 0) ≡ false → leb (natAbs z) top ≡ within top z
-number-within top (pos n) h = refl
+pub number-within : (top : ℕ) (z : ℤ) → ltZ z (pos 0) ≡ false → leb (natAbs z) top ≡ between 0 top z
+number-within top (pos n) h = rw (from-zero n)
 number-within top (negsuc n) h = let z : _≡_ {A = ℕ} 0 1 = cc in absurd (omega arith)
 
 -- a signed number that is not negative can be cast to an unsigned one
@@ -36,21 +40,22 @@ pub record Within (top : ℕ) (z : ℤ) : Type 0 where
   pub sign : T (nonNeg z)
   pub most : natAbs z ≤ top
 
-pub is-within : (top : ℕ) (z : ℤ) → within top z ≡ true → Within top z
-is-within top (pos n) h = record { sign = tt; most = leb-true n top h }
+pub is-within : (top : ℕ) (z : ℤ) → between 0 top z ≡ true → Within top z
+is-within top (pos n) h = record { sign = tt; most = leb-true n top (rw (from-zero n) at h) }
 is-within top (negsuc n) h = let z : _≡_ {A = ℕ} 0 1 = cc in absurd (omega arith)
 
 -- and it can be cast
 pub within-castable : {top : ℕ} {z : ℤ} → Within top z → top < 2 ^ 32 → T (nonNeg z) × Fits w32 (natAbs z)
 within-castable w l = (w .sign, record { fits = omega (arith, w .most) })
 
--- and is the only one of its magnitude
-pub within-only : {top : ℕ} {y z : ℤ} → Within top y → Within top z → natAbs y ≡ natAbs z → y ≡ z
-within-only {y = y} {z = z} v w e = sym (pos-natAbs y (v .sign)) ∙ ap pos e ∙ pos-natAbs z (w .sign)
+-- a yes is a magnitude of 1
+pub yes-is : (z : ℤ) → Within 1 z → eqb (natAbs z) 1 ≡ is 1 z
+yes-is (pos n) w = refl
+yes-is (negsuc n) w = absurd (w .sign)
 
 -- a remainder is within its divisor
-pub rest-within : (n top : ℕ) → within top (pos (n % suc top)) ≡ true
-rest-within n top = le-leb (n % suc top) top (le-of-suc-le-suc (mod-lt n (zero-lt-suc top)))
+pub rest-within : (n top : ℕ) → between 0 top (pos (n % suc top)) ≡ true
+rest-within n top = rw (from-zero (n % suc top)) (le-leb (n % suc top) top (le-of-suc-le-suc (mod-lt n (zero-lt-suc top))))
 
 -- ---- what a callee says of numbers that were passed to it
 

@@ -1,6 +1,6 @@
 -- The refusals that field 11 can meet: settings are refused with 3 or 4, registers with 4, 7 or 8. Assumes nothing.
-use mathlib.Core.Path.{_≡_, refl, sym, ap, _∙_}
-use mathlib.Core.Bool.{Bool, true, false, _||_}
+use mathlib.Core.Path.{_≡_, refl, sym, _∙_}
+use mathlib.Core.Bool.{Bool, true, false}
 use mathlib.Core.List.{List}
 use mathlib.Core.Logic.{_⊎_, inl, inr}
 use Prim.Native.Nat.{ℕ}
@@ -9,18 +9,16 @@ use lib.IntN.{ℤ, natAbs}
 use lib.ListN.{getD}
 use Rattle.bits.specs.Maps.{has}
 use Rattle.bits.specs.Parity.{oddIn}
-use Rattle.refusals.specs.Refusal.{Judged, accepted, refused}
+use Rattle.refusals.specs.Refusal.{accepted, refused}
 use Rattle.rounding.proofs.First.{flag}
-use Rattle.field_table.specs.Blocks.{is}
-use Rattle.adv7194_signalling.specs.Numbers.{within, numberTop}
-use Rattle.adv7194_signalling.specs.Cgms.{CgmsHeld, cgmsOf, cgmsHeld}
-use Rattle.adv7194_signalling.specs.Wss.{WssHeld, wssOf, wssHeld}
-use Rattle.adv7194_signalling.specs.Kind.{Signalling, off, cgms, wss, kindOf, kindBy}
-use Rattle.adv7194_signalling.specs.Signalling.{numberOf, signallingCodes, cgmsNumbers, wssNumbers, heldAs, signallingHeld}
-use Rattle.adv7194_signalling.specs.declared.cgms.CgmsSetting.{CgmsSetting}
+use Rattle.field_table.specs.Blocks.{is, between}
+use Rattle.adv7194_signalling.specs.Cgms.{cgmsOf}
+use Rattle.adv7194_signalling.specs.Wss.{wssOf}
+use Rattle.adv7194_signalling.specs.Signalling.{numberOf, signallingCodes, noSignalling, cgmsHeld, wssHeld, signallingHeld, heldConflict}
 use Rattle.adv7194_signalling.proofs.CgmsLaws.{inside, cgms-coded, cgms-outside}
 use Rattle.adv7194_signalling.proofs.WssLaws.{wss-coded}
-use Rattle.adv7194_signalling.proofs.HeldLaws.{cgms-held, wss-held}
+use Rattle.adv7194_signalling.proofs.HeldLaws.{held-refusal, cgmsIn, wssIn}
+use Rattle.adv7194_signalling.proofs.KindLaws.{sent, byBits}
 use Rattle.adv7194_signalling.proofs.CodeLaws.{off-codes, cgms-codes, wss-codes, no-codes}
 
 -- ---- settings
@@ -37,9 +35,9 @@ cgms-refused payload odd even chip n e = go (flag (inside payload odd even chip)
 
 wss-refused : (z : ℤ) (n : ℕ) → wssOf z ≡ refused n → (n ≡ 3) ⊎ (n ≡ 4)
 unfolding wssOf
-wss-refused z n h = go (flag (within numberTop z)) (flag (oddIn 4 (natAbs z)))
+wss-refused z n h = go (flag (between 0 16383 z)) (flag (oddIn 4 (natAbs z)))
   where
-    go : (within numberTop z ≡ true) ⊎ (within numberTop z ≡ false)
+    go : (between 0 16383 z ≡ true) ⊎ (between 0 16383 z ≡ false)
         → (oddIn 4 (natAbs z) ≡ true) ⊎ (oddIn 4 (natAbs z) ≡ false) → (n ≡ 3) ⊎ (n ≡ 4)
     go (inl t) (inl o) =
         let c = wss-coded z t o in
@@ -62,39 +60,19 @@ codes-refused zs n e = by (is 0 (numberOf zs 0)) (is 1 (numberOf zs 0)) (is 2 (n
 
 -- ---- registers
 
--- no kind is refused but with 4 or 7
-kind-refused : (x y z : Bool) (n : ℕ) → kindBy x y z ≡ refused n → (n ≡ 4) ⊎ (n ≡ 7)
-kind-refused false false false n e = let z : _≡_ {A = ℕ} 0 1 = cc in absurd (omega arith)
-kind-refused false false true n e = inl (cc)
-kind-refused false true z n e = let z : _≡_ {A = ℕ} 0 1 = cc in absurd (omega arith)
-kind-refused true false z n e = let z : _≡_ {A = ℕ} 0 1 = cc in absurd (omega arith)
-kind-refused true true z n e = inr (cc)
-
--- registers are refused with 4 or 8, or with 7, which is then their kind's refusal
-pub held-refused : (bytes : List ℕ) (n : ℕ) → signallingHeld bytes ≡ refused n → (n ≡ 4) ⊎ ((n ≡ 8) ⊎ (kindOf (getD bytes 0 0) ≡ refused 7))
-unfolding signallingHeld kindOf
-held-refused bytes n = by (kindOf (getD bytes 0 0)) refl
+-- registers are refused with 4 or 8, or hold CGMS and WSS at once, which no standard goes with
+pub held-refused : (bytes : List ℕ) (n : ℕ) → signallingHeld bytes ≡ refused n
+    → (n ≡ 4) ⊎ ((n ≡ 8) ⊎ ((standard : ℤ) → heldConflict standard bytes ≡ true))
+unfolding signallingHeld cgmsHeld wssHeld
+held-refused bytes n = by (has b 7) (sent b) (has b 4)
   where
-    of-cgms : (a : Judged CgmsSetting) → CgmsHeld bytes a → cgmsNumbers a ≡ refused n → n ≡ 8
-    of-cgms (accepted s) h e = let z : _≡_ {A = ℕ} 0 1 = cc in absurd (omega arith)
-    of-cgms (refused m) h e = let same : m ≡ n = cc in sym same ∙ h .0
+    b : ℕ
+    b = getD bytes 0 0
 
-    of-wss : (a : Judged ℤ) → WssHeld bytes a → wssNumbers a ≡ refused n → n ≡ 4
-    of-wss (accepted s) h e = let z : _≡_ {A = ℕ} 0 1 = cc in absurd (omega arith)
-    of-wss (refused m) h e = let same : m ≡ n = cc in sym same ∙ h .0
-
-    of-kind : (k : Judged Signalling) → (k ≡ refused n) → (n ≡ 4) ⊎ (n ≡ 7) → (n ≡ 4) ⊎ ((n ≡ 8) ⊎ (k ≡ refused 7))
-    of-kind k p (inl four) = inl four
-    of-kind k p (inr seven) = inr (inr (p ∙ ap refused seven))
-
-    by : (k : Judged Signalling) → kindOf (getD bytes 0 0) ≡ k → heldAs bytes k ≡ refused n → (n ≡ 4) ⊎ ((n ≡ 8) ⊎ (kindOf (getD bytes 0 0) ≡ refused 7))
-    by (accepted off) p e = let z : _≡_ {A = ℕ} 0 1 = cc in absurd (omega arith)
-    by (accepted cgms) p e = inr (inl (of-cgms (cgmsHeld bytes) (cgms-held bytes) e))
-    by (accepted wss) p e = inl (of-wss (wssHeld bytes) (wss-held bytes) e)
-    by (refused m) p e =
-        let r : kindOf (getD bytes 0 0) ≡ refused n = p ∙ e′ m e in
-        let b = getD bytes 0 0 in
-        of-kind (kindOf b) r (kind-refused (has b 7) (has b 6 || has b 5) (has b 4) n r)
-      where
-        e′ : (m : ℕ) → _≡_ {A = Judged (List ℤ)} (refused m) (refused n) → _≡_ {A = Judged Signalling} (refused m) (refused n)
-        e′ m e = let same : m ≡ n = cc in ap refused same
+    by : (w c p : Bool) → byBits w c p (refused 7) (wssHeld bytes) (cgmsHeld bytes) (refused 4) (accepted noSignalling) ≡ refused n
+        → (n ≡ 4) ⊎ ((n ≡ 8) ⊎ ((standard : ℤ) → byBits w c p true (is 0 standard) (is 1 standard) false false ≡ true))
+    by false false false e = let z : _≡_ {A = ℕ} 0 1 = cc in absurd (omega arith)
+    by false false true e = inl (cc)
+    by false true p e = inr (inl (held-refusal (cgmsIn bytes) 8 bytes n e))
+    by true false p e = inl (held-refusal (wssIn bytes) 4 bytes n e)
+    by true true p e = inr (inr (λ standard. refl))

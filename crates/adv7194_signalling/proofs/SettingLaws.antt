@@ -10,24 +10,22 @@ use lib.Dec.{T}
 use lib.IntN.{ℤ, pos, natAbs}
 use lib.ListN.{getD}
 use lib.Signed.{pos-natAbs}
-use Rattle.bits.specs.Fields.{field, bit}
-use Rattle.refusals.specs.Refusal.{Judged, accepted, refused, refusedBy}
-use Rattle.rounding.proofs.Range.{below, below-at, imp, imp→, imp→not, T→true}
+use Rattle.bits.specs.Fields.{field}
+use Rattle.bits.specs.Maps.{has}
+use Rattle.refusals.specs.Refusal.{accepted, refused}
+use Rattle.rounding.proofs.Range.{below, below-at, imp, imp→not, T→true}
 use Rattle.field_table.specs.Blocks.{is}
 use Rattle.field_table.proofs.Judging.{neither-l, neither-r}
-use Rattle.adv7194_signalling.specs.Numbers.{yes, yesTop}
-use Rattle.adv7194_signalling.specs.Cgms.{CgmsHeld, cgmsOf, cgmsHeld}
-use Rattle.adv7194_signalling.specs.Wss.{WssHeld, wssOf, wssHeld}
-use Rattle.adv7194_signalling.specs.Kind.{Signalling, off, cgms, wss, kindOf, kindBy}
-use Rattle.adv7194_signalling.specs.Signalling.{numberOf, signallingCodes, signallingConflict, noSignalling, cgmsNumbers, wssNumbers, heldAs, signallingHeld, kindConflict, heldConflict}
-use Rattle.adv7194_signalling.specs.declared.cgms.CgmsSetting.{CgmsSetting}
+use Rattle.adv7194_signalling.specs.Cgms.{cgmsOf}
+use Rattle.adv7194_signalling.specs.Wss.{wssOf}
+use Rattle.adv7194_signalling.specs.Signalling.{numberOf, signallingCodes, signallingConflict, noSignalling, cgmsHeld, wssHeld, signallingHeld, heldConflict}
 use Rattle.adv7194_signalling.proofs.NumberLaws.{Within}
 use Rattle.adv7194_signalling.proofs.WordLaws.{wordBytes}
 use Rattle.adv7194_signalling.proofs.CgmsLaws.{cgmsNumber}
 use Rattle.adv7194_signalling.proofs.CgmsReadLaws.{parts, is-coded}
 use Rattle.adv7194_signalling.proofs.WssLaws.{is-coded as wss-is-coded}
-use Rattle.adv7194_signalling.proofs.HeldLaws.{cgms-in, cgms-held, wss-held, cgms-answer, wss-answer}
-use Rattle.adv7194_signalling.proofs.KindLaws.{cgms-kind, wss-kind, off-zero, zero-off, cgms-sends}
+use Rattle.adv7194_signalling.proofs.HeldLaws.{held-is, cgmsIn, wssIn, cgms-held, wss-held}
+use Rattle.adv7194_signalling.proofs.KindLaws.{sent, byBits, cgms-kind, wss-kind, off-zero, zero-off, cgms-sends}
 use Rattle.adv7194_signalling.proofs.CodeLaws.{off-codes, cgms-codes, wss-codes, no-codes}
 
 -- ---- the bytes of a setting
@@ -79,79 +77,55 @@ coded-bytes zs cs e =
 
 -- ---- a setting that is read
 
--- row 7 of the refusals by the kind
-abbrev row : ℤ → Judged Signalling → Bool
-row standard k = refusedBy 7 k || kindConflict standard k
-
 or-none : (b : Bool) → (b || false) ≡ b
 or-none true = refl
 or-none false = refl
 
--- CGMS that is read is coded as the bytes
-cgms-again : (bytes : List ℕ) (ns : List ℤ) (a : Judged CgmsSetting) → CgmsHeld bytes a → cgmsNumbers a ≡ accepted ns → signallingCodes ns ≡ accepted bytes
-cgms-again bytes ns (accepted s) h e =
-    let same : (pos 1 ∷ s .payload ∷ s .odd ∷ s .even ∷ s .«chip_check» ∷ []) ≡ ns = cc in
-    subst (λ (l : List ℤ). signallingCodes l ≡ accepted bytes) same (cgms-codes _ refl refl ∙ h)
-cgms-again bytes ns (refused n) h e =
-    let z : _≡_ {A = ℕ} 0 1 = cc in
-    absurd (omega arith)
-
--- and WSS
-wss-again : (bytes : List ℕ) (ns : List ℤ) (a : Judged ℤ) → WssHeld bytes a → wssNumbers a ≡ accepted ns → signallingCodes ns ≡ accepted bytes
-wss-again bytes ns (accepted z) h e =
-    let same : (pos 2 ∷ z ∷ pos 0 ∷ pos 0 ∷ pos 0 ∷ []) ≡ ns = cc in
-    subst (λ (l : List ℤ). signallingCodes l ≡ accepted bytes) same (wss-codes _ refl refl refl ∙ h)
-wss-again bytes ns (refused n) h e =
-    let z : _≡_ {A = ℕ} 0 1 = cc in
-    absurd (omega arith)
-
 -- what is read is coded as the bytes that it was read from; or it is off, and bits 7-4 of the first are zero
 pub held-back : (bytes : List ℕ) → getD bytes 0 0 < 256 → (ns : List ℤ) → signallingHeld bytes ≡ accepted ns
     → (signallingCodes ns ≡ accepted bytes) ⊎ ((ns ≡ noSignalling) × (field 4 4 (getD bytes 0 0) ≡ 0))
-unfolding signallingHeld
-held-back bytes small ns = by (kindOf (getD bytes 0 0)) refl
+unfolding signallingHeld cgmsHeld wssHeld
+held-back bytes small ns = by (has b 7) (sent b) (has b 4) refl refl refl
   where
-    by : (k : Judged Signalling) → kindOf (getD bytes 0 0) ≡ k → heldAs bytes k ≡ accepted ns
-        → (signallingCodes ns ≡ accepted bytes) ⊎ ((ns ≡ noSignalling) × (field 4 4 (getD bytes 0 0) ≡ 0))
-    by (accepted off) p e = let same : ns ≡ noSignalling = cc in inr (same, off-zero (getD bytes 0 0) small p)
-    by (accepted cgms) p e = inl (cgms-again bytes ns (cgmsHeld bytes) (cgms-held bytes) e)
-    by (accepted wss) p e = inl (wss-again bytes ns (wssHeld bytes) (wss-held bytes) e)
-    by (refused n) p e =
+    b : ℕ
+    b = getD bytes 0 0
+
+    by : (w c p : Bool) → has b 7 ≡ w → sent b ≡ c → has b 4 ≡ p
+        → byBits w c p (refused 7) (wssHeld bytes) (cgmsHeld bytes) (refused 4) (accepted noSignalling) ≡ accepted ns
+        → (signallingCodes ns ≡ accepted bytes) ⊎ ((ns ≡ noSignalling) × (field 4 4 b ≡ 0))
+    by false false false w c p e = let same : ns ≡ noSignalling = cc in inr (same, off-zero b small w c p)
+    by false false true w c p e =
+        let z : _≡_ {A = ℕ} 0 1 = cc in
+        absurd (omega arith)
+    by false true p w c q e = inl (held-is (cgmsIn bytes) 8 bytes ns e .coded)
+    by true false p w c q e = inl (held-is (wssIn bytes) 4 bytes ns e .coded)
+    by true true p w c q e =
         let z : _≡_ {A = ℕ} 0 1 = cc in
         absurd (omega arith)
 
 -- and its numbers go with the standard where the bytes do
 pub held-conflict : (bytes : List ℕ) → getD bytes 0 0 < 256 → (ns : List ℤ) → signallingHeld bytes ≡ accepted ns → (standard : ℤ)
     → signallingConflict standard ns ≡ heldConflict standard bytes
-unfolding signallingHeld
-held-conflict bytes small ns h standard = by (kindOf (getD bytes 0 0)) refl h
+unfolding signallingHeld cgmsHeld wssHeld
+held-conflict bytes small ns h standard = by (has b 7) (sent b) (has b 4) refl h
   where
-    of-cgms : kindOf (getD bytes 0 0) ≡ accepted cgms → (a : Judged CgmsSetting) → CgmsHeld bytes a → cgmsNumbers a ≡ accepted ns
-        → signallingConflict standard ns ≡ is 1 standard
-    of-cgms p (accepted s) h e =
-        let same : (pos 1 ∷ s .payload ∷ s .odd ∷ s .even ∷ s .«chip_check» ∷ []) ≡ ns = cc in
-        let neither : (is 0 (s .odd) && is 0 (s .even)) ≡ false =
-        ap (λ (t : CgmsSetting). is 0 (t .odd) && is 0 (t .even)) (cgms-in s bytes h) ∙ cgms-sends (getD bytes 0 0) small p in
-        ap (signallingConflict standard) (sym same) ∙ or-none _ ∙ ap (λ (b : Bool). is 1 standard || b) neither ∙ or-none (is 1 standard)
-    of-cgms p (refused n) h e =
-        let z : _≡_ {A = ℕ} 0 1 = cc in
-        absurd (omega arith)
+    b : ℕ
+    b = getD bytes 0 0
 
-    of-wss : (a : Judged ℤ) → wssNumbers a ≡ accepted ns → signallingConflict standard ns ≡ is 0 standard
-    of-wss (accepted z) e =
-        let same : (pos 2 ∷ z ∷ pos 0 ∷ pos 0 ∷ pos 0 ∷ []) ≡ ns = cc in
-        ap (signallingConflict standard) (sym same)
-    of-wss (refused n) e =
-        let z : _≡_ {A = ℕ} 0 1 = cc in
-        absurd (omega arith)
-
-    by : (k : Judged Signalling) → kindOf (getD bytes 0 0) ≡ k → heldAs bytes k ≡ accepted ns → signallingConflict standard ns ≡ heldConflict standard bytes
-    by (accepted off) p e =
+    by : (w c p : Bool) → sent b ≡ c
+        → byBits w c p (refused 7) (wssHeld bytes) (cgmsHeld bytes) (refused 4) (accepted noSignalling) ≡ accepted ns
+        → signallingConflict standard ns ≡ byBits w c p true (is 0 standard) (is 1 standard) false false
+    by false false false c e =
         let same : noSignalling ≡ ns = cc in
-        ap (signallingConflict standard) (sym same) ∙ sym (ap (row standard) p)
-    by (accepted cgms) p e = of-cgms p (cgmsHeld bytes) (cgms-held bytes) e ∙ sym (ap (row standard) p)
-    by (accepted wss) p e = of-wss (wssHeld bytes) e ∙ sym (ap (row standard) p)
-    by (refused n) p e =
+        ap (signallingConflict standard) (sym same)
+    by false false true c e =
+        let z : _≡_ {A = ℕ} 0 1 = cc in
+        absurd (omega arith)
+    by false true p c e =
+        ap (signallingConflict standard) (sym (held-is (cgmsIn bytes) 8 bytes ns e .same))
+        ∙ or-none _ ∙ ap (λ (t : Bool). is 1 standard || t) (cgms-sends b small c) ∙ or-none (is 1 standard)
+    by true false p c e = ap (signallingConflict standard) (sym (held-is (wssIn bytes) 4 bytes ns e .same))
+    by true true p c e =
         let z : _≡_ {A = ℕ} 0 1 = cc in
         absurd (omega arith)
 
@@ -165,14 +139,15 @@ pub record Back (standard : ℤ) (bytes : List ℕ) : Type 0 where
   pub free : heldConflict standard bytes ≡ false
 
 -- CGMS that is sent in some field
-sent : (odd even : ℤ) → Within yesTop odd → Within yesTop even → (is 0 odd && is 0 even) ≡ false → (yes even || yes odd) ≡ true
-sent odd even v w h =
-    let some : ℕ → ℕ → Bool = λ o e. imp (not (is 0 (pos o) && is 0 (pos e))) (yes (pos e) || yes (pos o)) in
+some-field : (odd even : ℤ) → Within 1 odd → Within 1 even → (is 0 odd && is 0 even) ≡ false → (is 1 even || is 1 odd) ≡ true
+some-field odd even v w h =
+    let some : ℕ → ℕ → Bool = λ o e. imp (not (is 0 (pos o) && is 0 (pos e))) (is 1 (pos e) || is 1 (pos o)) in
     let tried : T (some (natAbs odd) (natAbs even)) =
     below-at (some (natAbs odd)) 2 (below-at (λ o. below (some o) 2) 2 tt (natAbs odd) (omega (arith, v .most))) (natAbs even) (omega (arith, w .most)) in
     let as-set : (is 0 (pos (natAbs odd)) && is 0 (pos (natAbs even))) ≡ false =
     ap₂ (λ (x y : ℤ). is 0 x && is 0 y) (pos-natAbs odd (v .sign)) (pos-natAbs even (w .sign)) ∙ h in
-    T→true (yes even || yes odd) (imp→not (is 0 (pos (natAbs odd)) && is 0 (pos (natAbs even))) (yes even || yes odd) tried as-set)
+    ap₂ (λ (x y : ℤ). is 1 x || is 1 y) (sym (pos-natAbs even (w .sign))) (sym (pos-natAbs odd (v .sign)))
+    ∙ T→true (is 1 (pos (natAbs even)) || is 1 (pos (natAbs odd))) (imp→not (is 0 (pos (natAbs odd)) && is 0 (pos (natAbs even))) _ tried as-set)
 
 -- CGMS
 cgms-back : (standard number odd even chip : ℤ) (b : ℕ) (bs : List ℕ) → cgmsOf number odd even chip ≡ accepted (b ∷ bs)
@@ -180,26 +155,26 @@ cgms-back : (standard number odd even chip : ℤ) (b : ℕ) (bs : List ℕ) → 
 unfolding signallingHeld
 cgms-back standard number odd even chip b bs h free =
     let c = is-coded number odd even chip (b ∷ bs) h in
-    let s : CgmsSetting = record { payload = number; odd = odd; even = even; «chip_check» = chip } in
-    let some = sent odd even (c .in-range .odd-in) (c .in-range .even-in) (neither-r (is 1 standard) _ free) in
-    let kind : kindOf b ≡ accepted cgms = cgms-kind number odd even chip b bs h ∙ ap (λ (t : Bool). kindBy false t (yes chip)) some in
+    let some = some-field odd even (c .in-range .odd-in) (c .in-range .even-in) (neither-r (is 1 standard) _ free) in
     record {
       numbers = pos 1 ∷ number ∷ odd ∷ even ∷ chip ∷ [];
-      reads = ap (heldAs (b ∷ bs)) kind ∙ ap cgmsNumbers (sym (cgms-answer (b ∷ bs) (accepted s) h));
+      reads =
+          rw some at (cgms-kind (refused 7) (wssHeld (b ∷ bs)) (cgmsHeld (b ∷ bs)) (refused 4) (accepted noSignalling) number odd even chip b bs h)
+          ∙ cgms-held number odd even chip (b ∷ bs) h;
       coded = cgms-codes _ refl refl ∙ h;
-      free = ap (row standard) kind ∙ neither-l (is 1 standard) _ free;
+      free =
+          rw some at (cgms-kind true (is 0 standard) (is 1 standard) false false number odd even chip b bs h) ∙ neither-l (is 1 standard) _ free;
     }
 
 -- WSS
 wss-back : (standard number : ℤ) (b : ℕ) (bs : List ℕ) → wssOf number ≡ accepted (b ∷ bs) → is 0 standard ≡ false → Back standard (b ∷ bs)
 unfolding signallingHeld
 wss-back standard number b bs h free =
-    let kind : kindOf b ≡ accepted wss = wss-kind number b bs h in
     record {
       numbers = pos 2 ∷ number ∷ pos 0 ∷ pos 0 ∷ pos 0 ∷ [];
-      reads = ap (heldAs (b ∷ bs)) kind ∙ ap wssNumbers (sym (wss-answer (b ∷ bs) (accepted number) h));
+      reads = wss-kind _ (wssHeld (b ∷ bs)) _ _ _ number b bs h ∙ wss-held number (b ∷ bs) h;
       coded = wss-codes _ refl refl refl ∙ h;
-      free = ap (row standard) kind ∙ free;
+      free = wss-kind _ (is 0 standard) _ _ _ number b bs h ∙ free;
     }
 
 -- what a setting that goes with the standard is coded as, is read so
@@ -219,7 +194,7 @@ coded-back standard zs b bs e free =
 -- off: bits 7-4 of the first zero, and any others
 pub off-back : (bytes : List ℕ) → getD bytes 0 0 < 256 → field 4 4 (getD bytes 0 0) ≡ 0 → signallingHeld bytes ≡ accepted noSignalling
 unfolding signallingHeld
-off-back bytes small zero = ap (heldAs bytes) (zero-off (getD bytes 0 0) small zero)
+off-back bytes small zero = zero-off _ _ _ _ (accepted noSignalling) (getD bytes 0 0) small zero
 
 pub off-free : (bytes : List ℕ) → getD bytes 0 0 < 256 → field 4 4 (getD bytes 0 0) ≡ 0 → (standard : ℤ) → heldConflict standard bytes ≡ false
-off-free bytes small zero standard = ap (row standard) (zero-off (getD bytes 0 0) small zero)
+off-free bytes small zero standard = zero-off _ _ _ _ false (getD bytes 0 0) small zero

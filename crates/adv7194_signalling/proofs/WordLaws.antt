@@ -82,7 +82,3 @@ joined-only v r19 r1a r1b h =
     let mid : v / 2 ^ 8 % 2 ^ 8 ≡ r1a = cc in
     let low : v % 2 ^ 8 ≡ r1b = cc in
     omega arith
-
--- so two words with the same bytes are one
-pub bytes-only : (u v : ℕ) → wordBytes u ≡ wordBytes v → u ≡ v
-bytes-only u v h = joined-only u (v / 2 ^ 16) (v / 2 ^ 8 % 2 ^ 8) (v % 2 ^ 8) h ∙ sym (joined-only v (v / 2 ^ 16) (v / 2 ^ 8 % 2 ^ 8) (v % 2 ^ 8) refl)

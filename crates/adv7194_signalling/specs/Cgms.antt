@@ -4,14 +4,12 @@
 use mathlib.Core.Bool.{Bool, false, cond, _&&_}
 use mathlib.Core.List.{List, [], _∷_, _++_}
 use Prim.Native.Nat.{ℕ}
-use lib.IntN.{ℤ, pos, natAbs}
-use lib.ListN.{getD}
-use Rattle.bits.specs.Fields.{bit}
+use lib.IntN.{ℤ, natAbs}
 use Rattle.bits.specs.Strings.{lsbFirst, msbFirst}
 use Rattle.refusals.specs.Refusal.{Judged, accepted, refused, numberOf}
-use Rattle.adv7194_signalling.specs.Numbers.{within, yes, numberTop, yesTop}
+use Rattle.field_table.specs.Blocks.{is, between}
 use Rattle.adv7194_signalling.specs.Word.{registerBytes}
-use Rattle.adv7194_signalling.specs.Held.{Held, heldBy, numberIn}
+use Rattle.adv7194_signalling.specs.Held.{Held}
 use Rattle.adv7194_signalling.specs.declared.cgms.CgmsSetting.{CgmsSetting}
 use Rattle.adv7194_signalling.specs.declared.cgms.CgmsRead.{CgmsRead}
 use Rattle.adv7194_signalling.specs.declared.cgms.CgmsRead.the-variants as read
@@ -24,33 +22,21 @@ cgmsBits payload odd even chip = lsbFirst 14 payload ++ (msbFirst 6 (checkOf pay
 -- the bytes of registers 19, 1A and 1B that code a setting: payload, odd field, even field, chip check. Refused 3 where one is outside its range
 unfoldable pub cgmsOf : ℤ → ℤ → ℤ → ℤ → Judged (List ℕ)
 cgmsOf payload odd even chip =
-    cond (within numberTop payload && within yesTop odd && within yesTop even && within yesTop chip)
-    (accepted (registerBytes (cgmsBits (natAbs payload) (yes odd) (yes even) (yes chip))))
+    cond (between 0 16383 payload && between 0 1 odd && between 0 1 even && between 0 1 chip)
+    (accepted (registerBytes (cgmsBits (natAbs payload) (is 1 odd) (is 1 even) (is 1 chip))))
     (refused 3)
+
+-- ---- the reader of a setting
 
 -- a setting's coding
 abbrev pub cgmsCode : CgmsSetting → Judged (List ℕ)
 cgmsCode s = cgmsOf (s .payload) (s .odd) (s .even) (s .«chip_check»)
 
--- what the reader of a setting answers
+-- what the reader answers
 abbrev pub cgmsReadAs : CgmsRead → Judged CgmsSetting
 cgmsReadAs (read.Setting s) = accepted s
 cgmsReadAs (read.Refused why) = refused (numberOf why)
 
--- the setting in the bits of three bytes: bits 5 and 6 of 19 send it in odd and even fields, bit 4 is the chip check
-abbrev pub cgmsIn : List ℕ → CgmsSetting
-cgmsIn bytes =
-    record {
-      payload = pos (numberIn bytes);
-      odd = pos (bit 5 (getD bytes 0 0));
-      even = pos (bit 6 (getD bytes 0 0));
-      «chip_check» = pos (bit 4 (getD bytes 0 0));
-    }
-
--- the setting that three bytes hold. Refused 8 where they are no setting's: the check bits do not agree with the payload
-unfoldable pub cgmsHeld : List ℕ → Judged CgmsSetting
-cgmsHeld bytes = heldBy cgmsCode (cgmsIn bytes) 8 bytes
-
--- so an answer is the only setting that is coded so
+-- an answer is the only setting that is coded as the bytes
 abbrev pub CgmsHeld : List ℕ → Judged CgmsSetting → Type 0
 CgmsHeld bytes answer = Held cgmsCode 8 bytes answer

@@ -1,4 +1,3 @@
-pub mod Numbers
 pub mod Word
 pub mod Held
 pub mod Check

@@ -1,16 +1,17 @@
 -- Document 01, field 11: off, CGMS or WSS. Its setting is five numbers: the kind (0 off, 1 CGMS, 2 WSS), payload or WSS number, and three yes/no: odd
 -- field, even field, chip check. Numbers that a kind doesn't use are 0 when read.
-use mathlib.Core.Bool.{Bool, false, cond, _&&_, _||_}
+use mathlib.Core.Bool.{Bool, true, false, cond, _&&_, _||_}
 use mathlib.Core.List.{List, [], _∷_}
-use Prim.Native.Nat.{ℕ}
+use Prim.Native.Nat.{ℕ, _+_, _*_, _%_, _^_}
 use lib.IntN.{ℤ, pos}
 use lib.ListN.{getD}
-use Rattle.refusals.specs.Refusal.{Judged, accepted, refused, refusedBy}
+use Rattle.bits.specs.Bytes.{sameBytes}
+use Rattle.bits.specs.Fields.{bit}
+use Rattle.refusals.specs.Refusal.{Judged, accepted, refused}
 use Rattle.field_table.specs.Blocks.{is}
-use Rattle.adv7194_signalling.specs.declared.cgms.CgmsSetting.{CgmsSetting}
-use Rattle.adv7194_signalling.specs.Cgms.{cgmsOf, cgmsHeld}
-use Rattle.adv7194_signalling.specs.Wss.{wssOf, wssHeld}
-use Rattle.adv7194_signalling.specs.Kind.{Signalling, off, cgms, wss, kindOf}
+use Rattle.adv7194_signalling.specs.Cgms.{cgmsOf}
+use Rattle.adv7194_signalling.specs.Wss.{wssOf}
+use Rattle.adv7194_signalling.specs.Kind.{byKind}
 
 -- a setting's numbers: kind, payload or WSS number, odd field, even field, chip check
 abbrev pub numberOf : List ℤ → ℕ → ℤ
@@ -32,34 +33,33 @@ signallingConflict standard zs =
 abbrev pub noSignalling : List ℤ
 noSignalling = pos 0 ∷ pos 0 ∷ pos 0 ∷ pos 0 ∷ pos 0 ∷ []
 
--- the numbers of CGMS
-abbrev pub cgmsNumbers : Judged CgmsSetting → Judged (List ℤ)
-cgmsNumbers (accepted s) = accepted (pos 1 ∷ s .payload ∷ s .odd ∷ s .even ∷ s .«chip_check» ∷ [])
-cgmsNumbers (refused n) = refused n
+-- bytes are a coding's
+abbrev pub codedSo : Judged (List ℕ) → List ℕ → Bool
+codedSo (accepted bs) bytes = sameBytes bs bytes
+codedSo (refused n) bytes = false
 
--- the numbers of WSS
-abbrev pub wssNumbers : Judged ℤ → Judged (List ℤ)
-wssNumbers (accepted z) = accepted (pos 2 ∷ z ∷ pos 0 ∷ pos 0 ∷ pos 0 ∷ [])
-wssNumbers (refused n) = refused n
+-- the setting that stands in the bits where the bytes are its coding, else the refusal of this number
+abbrev pub heldBy : List ℤ → ℕ → List ℕ → Judged (List ℤ)
+heldBy zs number bytes = cond (codedSo (signallingCodes zs) bytes) (accepted zs) (refused number)
 
--- the setting by its kind
-abbrev pub heldAs : List ℕ → Judged Signalling → Judged (List ℤ)
-heldAs bytes (accepted off) = accepted noSignalling
-heldAs bytes (accepted cgms) = cgmsNumbers (cgmsHeld bytes)
-heldAs bytes (accepted wss) = wssNumbers (wssHeld bytes)
-heldAs bytes (refused n) = refused n
+-- the number in bits 0-7 of 1B and bits 0-5 of 1A, of the bytes of 19, 1A and 1B
+abbrev pub numberIn : List ℕ → ℕ
+numberIn bytes = getD bytes 2 0 + 2 ^ 8 * (getD bytes 1 0 % 2 ^ 6)
 
--- the setting that the bytes of 19, 1A and 1B hold, or its refusal
+-- CGMS that three bytes hold: bits 5, 6 and 4 of 19 are odd field, even field and chip check. Refused 8 where the check bits don't agree with the payload
+unfoldable pub cgmsHeld : List ℕ → Judged (List ℤ)
+cgmsHeld bytes =
+    let r19 = getD bytes 0 0 in
+    heldBy (pos 1 ∷ pos (numberIn bytes) ∷ pos (bit 5 r19) ∷ pos (bit 6 r19) ∷ pos (bit 4 r19) ∷ []) 8 bytes
+
+-- WSS that they hold. Refused 4 where they are no number's: a zero bit is set, bit 7 of 19 is not, or the count of ones is even
+unfoldable pub wssHeld : List ℕ → Judged (List ℤ)
+wssHeld bytes = heldBy (pos 2 ∷ pos (numberIn bytes) ∷ pos 0 ∷ pos 0 ∷ pos 0 ∷ []) 4 bytes
+
+-- the setting that they hold, or its refusal
 unfoldable pub signallingHeld : List ℕ → Judged (List ℤ)
-signallingHeld bytes = heldAs bytes (kindOf (getD bytes 0 0))
+signallingHeld bytes = byKind (getD bytes 0 0) (refused 7) (wssHeld bytes) (cgmsHeld bytes) (refused 4) (accepted noSignalling)
 
--- the kind doesn't go with the standard
-abbrev pub kindConflict : ℤ → Judged Signalling → Bool
-kindConflict standard (accepted off) = false
-kindConflict standard (accepted cgms) = is 1 standard
-kindConflict standard (accepted wss) = is 0 standard
-kindConflict standard (refused n) = false
-
--- row 7 as it holds of bytes read: CGMS with PAL, WSS with NTSC, or both at once
+-- row 7 as it holds of bytes read: both at once, WSS with NTSC, CGMS with PAL
 abbrev pub heldConflict : ℤ → List ℕ → Bool
-heldConflict standard bytes = refusedBy 7 (kindOf (getD bytes 0 0)) || kindConflict standard (kindOf (getD bytes 0 0))
+heldConflict standard bytes = byKind (getD bytes 0 0) true (is 0 standard) (is 1 standard) false false

@@ -3,13 +3,13 @@
 use mathlib.Core.Bool.{Bool, true, false, cond}
 use mathlib.Core.List.{List, [], _∷_, _++_}
 use Prim.Native.Nat.{ℕ}
-use lib.IntN.{ℤ, pos, natAbs}
+use lib.IntN.{ℤ, natAbs}
 use lib.ListN.{replicate}
 use Rattle.bits.specs.Strings.{lsbFirst}
 use Rattle.bits.specs.Parity.{oddIn}
 use Rattle.refusals.specs.Refusal.{Judged, accepted, refused, numberOf}
-use Rattle.adv7194_signalling.specs.Numbers.{within, numberTop}
-use Rattle.adv7194_signalling.specs.Held.{Held, heldBy, numberIn}
+use Rattle.field_table.specs.Blocks.{between}
+use Rattle.adv7194_signalling.specs.Held.{Held}
 use Rattle.adv7194_signalling.specs.declared.wss.WssRead.{WssRead}
 use Rattle.adv7194_signalling.specs.declared.wss.WssRead.the-variants as read
 use Rattle.adv7194_signalling.specs.Word.{registerBytes}
@@ -21,19 +21,17 @@ wssBits number = lsbFirst 14 number ++ (replicate 9 false ++ (true ∷ []))
 -- the bytes of registers 19, 1A and 1B that code a number. Refused 3 where it is outside its range, 4 where W0 to W3 hold an even number of ones
 unfoldable pub wssOf : ℤ → Judged (List ℕ)
 wssOf number =
-    cond (within numberTop number)
+    cond (between 0 16383 number)
     (cond (oddIn 4 (natAbs number)) (accepted (registerBytes (wssBits (natAbs number)))) (refused 4))
     (refused 3)
 
--- what the reader of a number answers
+-- ---- the reader of a number
+
+-- what the reader answers
 abbrev pub wssReadAs : WssRead → Judged ℤ
 wssReadAs (read.Setting z) = accepted z
 wssReadAs (read.Refused why) = refused (numberOf why)
 
--- the number that three bytes hold. Refused 4 where they are no number's: a zero bit is set, bit 7 of 19 is not, or the count of ones is even
-unfoldable pub wssHeld : List ℕ → Judged ℤ
-wssHeld bytes = heldBy wssOf (pos (numberIn bytes)) 4 bytes
-
--- so an answer is the only number that is coded so
+-- an answer is the only number that is coded as the bytes
 abbrev pub WssHeld : List ℕ → Judged ℤ → Type 0
 WssHeld bytes answer = Held wssOf 4 bytes answer

@@ -4,7 +4,9 @@ ghost use Prim.Native.Nat.{_^_, _<_};
 ghost use lib.Dec.{eqb};
 ghost use Rattle.bits.specs.Strings.{lsbValue};
 ghost use Rattle.adv7194_signalling.specs.Word.{threeBytes, codedAs};
-ghost use Rattle.adv7194_signalling.specs.Cgms.{cgmsBits, cgmsOf, cgmsHeld, CgmsHeld, cgmsReadAs};
+ghost use Rattle.adv7194_signalling.specs.Cgms.{cgmsBits, cgmsOf, CgmsHeld, cgmsReadAs};
+ghost use Rattle.adv7194_signalling.specs.Signalling.{cgmsHeld};
+ghost use Rattle.adv7194_signalling.specs.Answers.{cgmsNumbers};
 use crate::check::check_bits;
 use crate::numbers::NUMBER_TOP;
 use crate::numbers::YES_TOP;
@@ -71,7 +73,7 @@ pub fn cgms_code(payload: i32, odd: i32, even: i32, chip_check: i32) -> Coded
 
 // The CGMS setting that the registers hold, or refusal 8: the setting put in the word, with its check bits, is coded again and compared.
 pub fn cgms_setting(registers: Registers) -> CgmsRead
-    ensures answer { λ r. ⌜ cgmsReadAs r ≡ cgmsHeld (threeBytes registers) ⌝ }
+    ensures answer { λ r. ⌜ cgmsNumbers (cgmsReadAs r) ≡ cgmsHeld (threeBytes registers) ⌝ }
     ensures only { λ r. ⌜ CgmsHeld (threeBytes registers) (cgmsReadAs r) ⌝ }
 {
     let word = joined(registers);

@@ -1,15 +1,13 @@
 // Field 11's setting as five numbers: coded in registers 19, 1A and 1B, read back, and checked against the television standard.
 ghost use mathlib.Core.Path.{_≡_};
-ghost use mathlib.Core.Bool.{_||_};
 ghost use mathlib.Core.List.{[], _∷_};
 ghost use lib.IntN.{pos};
-ghost use Rattle.refusals.specs.Refusal.{accepted, refusedBy};
+ghost use Rattle.refusals.specs.Refusal.{accepted};
 ghost use Rattle.adv7194_signalling.specs.Word.{threeBytes, codedAs};
 ghost use Rattle.adv7194_signalling.specs.Cgms.{cgmsReadAs};
 ghost use Rattle.adv7194_signalling.specs.Wss.{wssReadAs};
-ghost use Rattle.adv7194_signalling.specs.Kind.{kindOf};
-ghost use Rattle.adv7194_signalling.specs.Signalling.{cgmsNumbers, wssNumbers, signallingCodes, signallingHeld, signallingConflict, kindConflict};
-ghost use Rattle.adv7194_signalling.specs.Answers.{numbersOf, codeAs, readAs};
+ghost use Rattle.adv7194_signalling.specs.Signalling.{signallingCodes, signallingHeld, signallingConflict, heldConflict};
+ghost use Rattle.adv7194_signalling.specs.Answers.{numbersOf, cgmsNumbers, wssNumbers, codeAs, readAs};
 use crate::cgms::CgmsRead;
 use crate::cgms::cgms_code;
 use crate::cgms::cgms_setting;
@@ -152,7 +150,7 @@ pub fn signalling_conflict(standard: i32, setting: Signalling) -> bool
 
 // Whether the kind that register 19 holds is two at once, or doesn't go with a standard.
 pub fn held_conflict(standard: i32, r19: u8) -> bool
-    ensures answer { λ r. ⌜ r ≡ (refusedBy 7 (kindOf r19) || kindConflict standard (kindOf r19)) ⌝ }
+    ensures answer { λ r. ⌜ r ≡ heldConflict standard (r19 ∷ []) ⌝ }
 {
     let held = kind(r19);
     match held {

@@ -1,7 +1,9 @@
 // WSS: a number of 14 bits, of which the four lowest hold an odd number of ones.
 ghost use mathlib.Core.Path.{_≡_};
 ghost use Rattle.adv7194_signalling.specs.Word.{threeBytes, codedAs};
-ghost use Rattle.adv7194_signalling.specs.Wss.{wssOf, wssHeld, WssHeld, wssReadAs};
+ghost use Rattle.adv7194_signalling.specs.Wss.{wssOf, WssHeld, wssReadAs};
+ghost use Rattle.adv7194_signalling.specs.Signalling.{wssHeld};
+ghost use Rattle.adv7194_signalling.specs.Answers.{wssNumbers};
 use crate::numbers::NUMBER_TOP;
 use crate::numbers::within;
 use crate::registers::Coded;
@@ -42,7 +44,7 @@ pub fn wss_code(number: i32) -> Coded
 
 // The WSS number that the registers hold, or refusal 4.
 pub fn wss_setting(registers: Registers) -> WssRead
-    ensures answer { λ r. ⌜ wssReadAs r ≡ wssHeld (threeBytes registers) ⌝ }
+    ensures answer { λ r. ⌜ wssNumbers (wssReadAs r) ≡ wssHeld (threeBytes registers) ⌝ }
     ensures only { λ r. ⌜ WssHeld (threeBytes registers) (wssReadAs r) ⌝ }
 {
     let word = joined(registers);

@@ -15,14 +15,13 @@ use Rattle.bits.proofs.SameLaws.{same-bytes, same-self}
 use Rattle.rounding.proofs.First.{flag}
 use Rattle.rounding.proofs.Rounding.{nearest-is}
 use Rattle.field_table.specs.Blocks.{is}
-use Rattle.adv7194_subcarrier.specs.declared.Standard.{Standard}
-use Rattle.adv7194_subcarrier.specs.Subcarrier.{wordOf, wordBytes, standardSet, wordCodes}
+use Rattle.adv7194_subcarrier.specs.Subcarrier.{wordOf, wordBytes, wordCodes}
 use Rattle.adv7194_subcarrier.proofs.Words.{numerator, denominator, sized, in-word}
 
 -- the word has 32 bits
-pub word-lt : (st : Standard) (square : Bool) → wordOf st square < 2 ^ 32
+pub word-lt : (pal square : Bool) → wordOf pal square < 2 ^ 32
 unfolding wordOf
-word-lt st square = in-word (numerator st) (denominator st square) _ (sized st square) (nearest-is _ _ (sized st square .positive))
+word-lt pal square = in-word (numerator pal) (denominator pal square) _ (sized pal square) (nearest-is _ _ (sized pal square .positive))
 
 -- so each of its bytes fits a register
 pub codes-small : (standard square : ℤ) (i : ℕ) → getD (wordCodes standard square) i 0 < 256
@@ -30,10 +29,10 @@ unfolding wordCodes
 codes-small standard square i = go i
   where
     w : ℕ
-    w = wordOf (standardSet standard) (is 1 square)
+    w = wordOf (is 1 standard) (is 1 square)
 
     high : w / 16777216 < 256
-    high = omega (arith, word-lt (standardSet standard) (is 1 square))
+    high = omega (arith, word-lt (is 1 standard) (is 1 square))
 
     go : (i : ℕ) → getD (wordBytes w) i 0 < 256
     go zero = omega arith

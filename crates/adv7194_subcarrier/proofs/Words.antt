@@ -8,17 +8,15 @@ use lib.Dec.{T, ltb, leb, ltb→lt, leb→le}
 use Rattle.rounding.specs.Nearest.{Nearest}
 use Rattle.rounding.proofs.Rounding.{nearestb, nearest-by}
 use Rattle.rounding.proofs.Range.{both-l, both-r}
-use Rattle.adv7194_subcarrier.specs.declared.Standard.{Standard}
-use Rattle.adv7194_subcarrier.specs.declared.Standard.the-variants.{Ntsc, Pal}
 use Rattle.adv7194_subcarrier.specs.Subcarrier.{cyclesOf, divisorOf, clocksOf, wordOf}
 
 -- the exact word is a fraction: the numerator
-abbrev pub numerator : Standard → ℕ
-numerator st = 2 ^ 32 * cyclesOf st
+abbrev pub numerator : Bool → ℕ
+numerator pal = 2 ^ 32 * cyclesOf pal
 
 -- and the denominator
-abbrev pub denominator : Standard → Bool → ℕ
-denominator st square = divisorOf st * clocksOf st square
+abbrev pub denominator : Bool → Bool → ℕ
+denominator pal square = divisorOf pal * clocksOf pal square
 
 -- the sizes of a fraction that the code can round: both numbers below 2^62, the fraction at most 2^32 - 1
 pub record Sized (n d : ℕ) : Type 0 where
@@ -43,20 +41,20 @@ sized-by n d t =
     }
 
 -- it passes at each standard, with square pixels and without
-tested : (st : Standard) (square : Bool) → T (sizes (numerator st) (denominator st square))
-tested Ntsc true = tt
-tested Ntsc false = tt
-tested Pal true = tt
-tested Pal false = tt
+tested : (pal square : Bool) → T (sizes (numerator pal) (denominator pal square))
+tested false true = tt
+tested false false = tt
+tested true true = tt
+tested true false = tt
 
-pub sized : (st : Standard) (square : Bool) → Sized (numerator st) (denominator st square)
-sized st square = sized-by (numerator st) (denominator st square) (tested st square)
+pub sized : (pal square : Bool) → Sized (numerator pal) (denominator pal square)
+sized pal square = sized-by (numerator pal) (denominator pal square) (tested pal square)
 
 -- what is nearest to a fraction of these sizes has 32 bits
 pub in-word : (n d k : ℕ) → Sized n d → Nearest n d k → k < 2 ^ 32
 in-word n d k s r = lt-of-not-le (λ (h : 2 ^ 32 ≤ k). omega (arith, mul-le-mul-right d h, r .over, s .word, s .positive))
 
 -- the word of a standard is the number that passes the test of nearness
-pub word-is : (st : Standard) (square : Bool) (w : ℕ) → T (nearestb (numerator st) (denominator st square) w) → wordOf st square ≡ w
+pub word-is : (pal square : Bool) (w : ℕ) → T (nearestb (numerator pal) (denominator pal square) w) → wordOf pal square ≡ w
 unfolding wordOf
-word-is st square w t = nearest-by (numerator st) (denominator st square) w (sized st square .positive) t
+word-is pal square w t = nearest-by (numerator pal) (denominator pal square) w (sized pal square .positive) t

@@ -5,7 +5,7 @@ ghost use mathlib.Core.List.{[], _∷_};
 ghost use Rattle.bits.specs.Bytes.{sameBytes};
 ghost use Rattle.refusals.specs.Refusal.{accepted, refused};
 ghost use Rattle.field_table.specs.Blocks.{is};
-ghost use Rattle.adv7194_subcarrier.specs.Subcarrier.{wordOf, standardSet, wordCodes};
+ghost use Rattle.adv7194_subcarrier.specs.Subcarrier.{wordOf, wordCodes};
 ghost use Rattle.adv7194_subcarrier.specs.Answers.{wordReadAs};
 use crate::Standard;
 use crate::word;
@@ -32,7 +32,7 @@ const BYTE_3: u32 = 0x100_0000;
 
 // The word by the two settings.
 fn word_set(standard: i32, square: i32) -> u32
-    ensures answer { λ r. ⌜ r ≡ wordOf (standardSet standard) (is 1 square) ⌝ }
+    ensures answer { λ r. ⌜ r ≡ wordOf (is 1 standard) (is 1 square) ⌝ }
 {
     if standard == PAL {
         return word(Standard::Pal, square == YES);

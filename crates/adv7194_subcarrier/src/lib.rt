@@ -3,6 +3,7 @@ ghost use mathlib.Core.Path.{_≡_};
 ghost use Prim.Native.Nat.{_*_, _^_};
 ghost use Rattle.rounding.specs.Nearest.{Nearest};
 ghost use Rattle.adv7194_subcarrier.specs.Subcarrier.{cyclesOf, divisorOf, clocksOf, wordOf};
+ghost use Rattle.adv7194_subcarrier.specs.Answers.{isPal};
 
 pub mod field;
 
@@ -33,7 +34,7 @@ impl Standard {
 
     // The numerator of the subcarrier cycles per line.
     pub fn cycles(self) -> u64
-        ensures answer { λ r. ⌜ r ≡ cyclesOf self ⌝ }
+        ensures answer { λ r. ⌜ r ≡ cyclesOf (isPal self) ⌝ }
     {
         match self {
             Standard::Ntsc => Self::NTSC_CYCLES,
@@ -43,7 +44,7 @@ impl Standard {
 
     // The divisor of the subcarrier cycles per line.
     pub fn divisor(self) -> u64
-        ensures answer { λ r. ⌜ r ≡ divisorOf self ⌝ }
+        ensures answer { λ r. ⌜ r ≡ divisorOf (isPal self) ⌝ }
     {
         match self {
             Standard::Ntsc => Self::NTSC_DIVISOR,
@@ -53,7 +54,7 @@ impl Standard {
 
     // The clocks per line.
     pub fn clocks_per_line(self, square: bool) -> u64
-        ensures answer { λ r. ⌜ r ≡ clocksOf self square ⌝ }
+        ensures answer { λ r. ⌜ r ≡ clocksOf (isPal self) square ⌝ }
     {
         match self {
             Standard::Ntsc => {
@@ -79,8 +80,8 @@ const CYCLE_STEPS: u64 = 4294967296;
 
 // The subcarrier word: the steps of the phase accumulator at each clock.
 fn nearest_word(standard: Standard, square: bool) -> u32
-    ensures answer { λ r. ⌜ r ≡ wordOf standard square ⌝ }
-    ensures nearest { λ r. ⌜ Nearest (2 ^ 32 * cyclesOf standard) (divisorOf standard * clocksOf standard square) r ⌝ }
+    ensures answer { λ r. ⌜ r ≡ wordOf (isPal standard) square ⌝ }
+    ensures nearest { λ r. ⌜ Nearest (2 ^ 32 * cyclesOf (isPal standard)) (divisorOf (isPal standard) * clocksOf (isPal standard) square) r ⌝ }
 {
     let steps = CYCLE_STEPS * standard.cycles();
     let clocks = standard.divisor() * standard.clocks_per_line(square);
@@ -89,8 +90,8 @@ fn nearest_word(standard: Standard, square: bool) -> u32
 
 // The subcarrier word: each by a call of its own, so that the compiler can work it out.
 pub fn word(standard: Standard, square: bool) -> u32
-    ensures answer { λ r. ⌜ r ≡ wordOf standard square ⌝ }
-    ensures nearest { λ r. ⌜ Nearest (2 ^ 32 * cyclesOf standard) (divisorOf standard * clocksOf standard square) r ⌝ }
+    ensures answer { λ r. ⌜ r ≡ wordOf (isPal standard) square ⌝ }
+    ensures nearest { λ r. ⌜ Nearest (2 ^ 32 * cyclesOf (isPal standard)) (divisorOf (isPal standard) * clocksOf (isPal standard) square) r ⌝ }
 {
     match standard {
         Standard::Ntsc => {

@@ -16,7 +16,7 @@ use Rattle.bits.proofs.Checks.{below, at-below}
 use Rattle.adv7194_table.specs.declared.blocks.Block.{Block}
 use Rattle.adv7194_table.specs.Fields.{timing, output, picture, dnr}
 use Rattle.adv7194_table.specs.Blocks.{blockOf, blocksOf}
-use Rattle.adv7194_table.specs.Table.{Entry, single, whole, singles, table, fieldOf, mustBeZero, singleFields, blocksIn, rowsIn, rowsOf}
+use Rattle.adv7194_table.specs.Table.{Entry, single, whole, table, fieldOf, mustBeZero, singleFields, blocksIn, rowsIn, rowsOf}
 use Rattle.field_table.specs.Masks.{rowBits}
 use Rattle.adv7194_table.specs.Masks.{inBlock, blockBits, bitsOf, maskWhere, fieldMask, zeroMask, ownMask, rowsMask, blocksMask, each, fieldMasks, zeroMasks}
 
@@ -57,7 +57,7 @@ both-all P (e ∷ es) r = here (P e) _ _ _ (both-all P es r)
 
 -- all are at most a byte: the one test that goes through every register
 all-small : (r : ℕ) → r < registerCount → maskWhere (λ e. true) table r ≤ 0xFF
-unfolding below maskWhere table singles timing output picture dnr
+unfolding below maskWhere table timing output picture dnr
 all-small r h = leb→le _ 0xFF (at-below registerCount (λ r. leb (maskWhere (λ e. true) table r) 0xFF) tt r h)
 
 -- a field's are among all
@@ -74,7 +74,7 @@ fields-small r h = let a = both-all mustBeZero table r in let b = all-small r h 
 
 -- no field has a bit of the read-only register
 pub none-read-only : (n : ℕ) → ownMask n readOnly ≡ 0
-unfolding maskWhere table singles timing output picture dnr
+unfolding maskWhere table timing output picture dnr
 none-read-only n = let a = own-all n readOnly in omega arith
 
 -- ---- the masks as lists
@@ -165,11 +165,11 @@ blocks-length [] = refl
 blocks-length (p ∷ ps) = ap suc (blocks-length ps)
 
 pub row-count : (ps : List ℕ) → rowsOf ps ≡ rowsIn (singleFields table) → length ps ≡ 26
-unfolding rowsIn singleFields table singles timing output picture dnr
+unfolding rowsIn singleFields table timing output picture dnr
 row-count ps e = sym (rows-length ps) ∙ ap length e
 
 pub block-count : (ps : List ℕ) → blocksOf ps ≡ blocksIn table → length ps ≡ 4
-unfolding blocksIn table singles timing output picture dnr
+unfolding blocksIn table timing output picture dnr
 block-count ps e = sym (blocks-length ps) ∙ ap length e
 
 module _ (n r : ℕ) (ps : List ℕ) (i : ℕ) where

@@ -20,7 +20,7 @@ use Rattle.bits.proofs.SetLaws.{has-and, has-in, has-mod, has-past}
 use Rattle.adv7194_bus.specs.Kind.{registerCount}
 use Rattle.bits.proofs.Checks.{below, at-below}
 use Rattle.adv7194_table.specs.Fields.{timing, output, picture, dnr}
-use Rattle.adv7194_table.specs.Table.{singles, table, orderOf}
+use Rattle.adv7194_table.specs.Table.{table, orderOf}
 use Rattle.adv7194_table.specs.Masks.{maskWhere, ownMask, each}
 use Rattle.adv7194_table.specs.Registers.{hasBits, someBelow, fieldAmong, lowestIn, lowestField, fieldCount, registersBelow, fieldRegisters}
 use Rattle.adv7194_table.proofs.TableLaws.{order-is}
@@ -196,7 +196,7 @@ allFields = 0xF_FFFF_EE01_F027
 
 -- every other register has no field's bits: the one test
 others-free : T (below registerCount (λ r. has allFields r || eqb (maskWhere (λ e. true) table r) 0))
-unfolding below maskWhere table singles timing output picture dnr
+unfolding below maskWhere table timing output picture dnr
 others-free = tt
 
 outside-all : (f r : ℕ) → r < registerCount → has allFields r ≡ false → hasBits f r ≡ false

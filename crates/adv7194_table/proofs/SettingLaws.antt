@@ -11,7 +11,7 @@ use Rattle.bits.proofs.FlagLaws.{first, second}
 use Rattle.adv7194_bus.specs.Kind.{registerCount}
 use Rattle.bits.proofs.Checks.{below, at-below}
 use Rattle.adv7194_table.specs.Fields.{timing, output, picture, dnr}
-use Rattle.adv7194_table.specs.Table.{Entry, singles, table, fieldOf, mustBeZero}
+use Rattle.adv7194_table.specs.Table.{Entry, table, fieldOf, mustBeZero}
 use Rattle.adv7194_table.specs.Masks.{maskWhere, fieldMask, ownMask, settingMask}
 use Rattle.adv7194_table.specs.Registers.{fieldCount}
 
@@ -34,7 +34,7 @@ past P n r f h (e ∷ es) t =
     rw d (omega arith)
 
 table-below : T (allBelow fieldCount table)
-unfolding allBelow table singles timing output picture dnr
+unfolding allBelow table timing output picture dnr
 table-below = tt
 
 module _ (n r : ℕ) (h : fieldCount ≤ n) where
@@ -54,7 +54,7 @@ right n r = eqb (bitAnd (ownMask n r) (fieldMask r)) (settingMask n r)
 
 -- the one test over every field and register
 all-right : T (below fieldCount (λ n. below registerCount (right n)))
-unfolding right below ownMask fieldMask settingMask maskWhere table singles timing output picture dnr
+unfolding right below ownMask fieldMask settingMask maskWhere table timing output picture dnr
 all-right = tt
 
 -- a field's bits that belong to a field

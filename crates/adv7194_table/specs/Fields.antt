@@ -3,21 +3,16 @@
 use mathlib.Core.List.{List, [], _∷_}
 use Prim.Native.Nat.{ℕ}
 use lib.IntN.{ℤ, pos, negℤ}
-use Rattle.field_table.specs.declared.row.Row.{Row}
 use Rattle.field_table.specs.Coding.{Coding, plain, offset, signMagnitude, rounded, roundedSigned, Field}
 
 -- how many numbers a set of settings is, in field order: signalling has five, a curve ten, every other field one
 abbrev pub numberCount : ℕ
 numberCount = 49
 
--- the columns of a row
-abbrev columns : ℕ → ℕ → ℕ → ℕ → ℕ → ℤ → ℤ → ℕ → Row
-columns n k r b w lowest highest refusal =
-    record { field = n; index = k; register = r; bit = b; width = w; low = lowest; high = highest; outside = refusal }
-
 -- field n, whose setting is number k: w bits from bit b of register r up, settings from the lowest to the highest, the refusal of other codes, the coding
 abbrev row : ℕ → ℕ → ℕ → ℕ → ℕ → ℤ → ℤ → ℕ → Coding → Field
-row n k r b w lowest highest refusal c = record { row = columns n k r b w lowest highest refusal; coding = c }
+row n k r b w lowest highest refusal c =
+    record { row = record { field = n; index = k; register = r; bit = b; width = w; low = lowest; high = highest; outside = refusal }; coding = c }
 
 -- a field whose setting is its code: other codes are reserved
 abbrev code : ℕ → ℕ → ℕ → ℕ → ℕ → ℕ → ℕ → Field
@@ -38,11 +33,11 @@ abbrev pub clampDelay : Field
 clampDelay = row 8 7 0x05 4 3 (negℤ (pos 3)) (pos 3) 4 signMagnitude
 
 -- contrast and the scales, in thousandths: the whole number nearest to 128 times the setting over 1000
-abbrev pub inThousandths : Row → Field
-inThousandths r = record { row = r; coding = rounded 0 128 1000 }
+abbrev pub perThousand : Coding
+perThousand = rounded 0 128 1000
 
 abbrev thousandths : ℕ → ℕ → ℕ → ℕ → Field
-thousandths n k r highest = inThousandths (columns n k r 0 8 (pos 0) (pos highest) 3)
+thousandths n k r highest = row n k r 0 8 (pos 0) (pos highest) 3 perThousand
 
 -- 12, contrast
 abbrev pub contrast : Field

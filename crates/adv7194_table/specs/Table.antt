@@ -1,6 +1,6 @@
 -- Document 01, "Fields, in their fixed order": the whole table, in the checking order, the fields that fill whole registers among it.
 use mathlib.Core.Bool.{Bool, false, cond, _&&_}
-use mathlib.Core.List.{List, [], _∷_}
+use mathlib.Core.List.{List, [], _∷_, _++_, map}
 use Prim.Native.Nat.{ℕ, _+_}
 use lib.Dec.{eqb, leb, ltb}
 use Rattle.field_table.specs.declared.row.Row.{Row}
@@ -21,17 +21,11 @@ pub data Entry : Type 0 where
   single : Field → Entry
   whole : Content → Block → Entry
 
--- some single ones, before others
-unfoldable pub singles : List Field → List Entry → List Entry
-singles [] es = es
-singles (f ∷ fs) es = single f ∷ singles fs es
-
 -- the table
 unfoldable pub table : List Entry
 table =
-    singles timing
-    (single pedestal ∷ singles output
-    (whole signals signalling ∷ singles picture (singles dnr (whole curve curveA ∷ whole curve curveB ∷ whole subcarrier word ∷ []))))
+    map single timing ++ (single pedestal ∷ (map single output ++ (whole signals signalling
+    ∷ (map single picture ++ (map single dnr ++ (whole curve curveA ∷ whole curve curveB ∷ whole subcarrier word ∷ []))))))
 
 -- the number of an entry's field
 abbrev pub fieldOf : Entry → ℕ

@@ -8,7 +8,7 @@ use lib.IntN.{ℤ, pos}
 use lib.ListN.{length, getD, take, drop}
 use lib.Seq.{take-all, drop-cons, drop-length}
 use Rattle.field_table.specs.Writes.{Write, put, puts}
-use Rattle.field_table.specs.Blocks.{numbersFrom, byteWrites}
+use Rattle.field_table.specs.Blocks.{byteWrites, slice}
 
 -- a whole register set
 abbrev pub byteWrite : ℕ → ℕ → Write
@@ -37,18 +37,18 @@ module _ (r : ℕ) (bs : List ℕ) (i : ℕ) where
 
 -- ---- some of the settings' numbers
 
-pub numbers-part : (zs : List ℤ) (k n : ℕ) → k + n ≤ length zs → numbersFrom zs k n ≡ take n (drop k zs)
-unfolding numbersFrom
+pub numbers-part : (zs : List ℤ) (k n : ℕ) → k + n ≤ length zs → slice (pos 0) zs k n ≡ take n (drop k zs)
+unfolding slice
 numbers-part zs k zero h = refl
 numbers-part zs k (suc n) h =
     ap (λ (l : List ℤ). getD zs k (pos 0) ∷ l) (numbers-part zs (suc k) n (omega arith)) ∙ ap (take (suc n)) (sym (drop-cons zs k (pos 0) (omega arith)))
 
 -- all of them
-pub numbers-all : (zs : List ℤ) {n : ℕ} → length zs ≡ n → numbersFrom zs 0 n ≡ zs
+pub numbers-all : (zs : List ℤ) {n : ℕ} → length zs ≡ n → slice (pos 0) zs 0 n ≡ zs
 numbers-all zs {n} size = numbers-part zs 0 n (omega arith) ∙ take-all n zs (omega arith)
 
 -- the part that begins at index i
-pub part-numbers : (zs : List ℤ) {i : ℕ} (k n : ℕ) → i ≡ k → k + n ≤ length zs → take ((i + n) - i) (drop i zs) ≡ numbersFrom zs k n
+pub part-numbers : (zs : List ℤ) {i : ℕ} (k n : ℕ) → i ≡ k → k + n ≤ length zs → take ((i + n) - i) (drop i zs) ≡ slice (pos 0) zs k n
 part-numbers zs {i} k n e h =
     let size : (i + n) - i ≡ n = omega arith in
     ap₂ (λ (m j : ℕ). take m (drop j zs)) size e ∙ sym (numbers-part zs k n h)

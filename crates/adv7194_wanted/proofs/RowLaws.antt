@@ -1,7 +1,6 @@
 -- The rows of a field, in their order: the first that holds is the fault of the field's coding, then its conflicts. Assumes nothing.
-use mathlib.Core.Path.{_≡_, refl, sym, ap, ap₂, _∙_, subst}
+use mathlib.Core.Path.{_≡_, refl, sym, ap, _∙_, subst}
 use mathlib.Core.Bool.{Bool, true, false, cond, _||_}
-use mathlib.Core.List.{List}
 use Prim.Native.Nat.{ℕ}
 use lib.Dec.{T, eqb, eqb→eq}
 use lib.IntN.{ℤ}
@@ -10,7 +9,6 @@ use Rattle.refusals.specs.Verdict.{Verdict, good, refusedAt, after, faultOf, fa
 use Rattle.refusals.proofs.VerdictLaws.{after-good, row-before}
 use Rattle.field_table.specs.Rows.{refusalOutside}
 use Rattle.field_table.specs.Coding.{Field, outside, isCode, codeOf, encode}
-use Rattle.adv7194_settings.specs.Codes.{oneCode}
 
 abbrev pub Found : Type 0
 Found = Verdict (Unit {0})
@@ -44,7 +42,7 @@ encode-sound f z =
 
 -- ---- rows 3, 4 and 8 of a coding, and the conflicts of rows 5 and 6 among them
 
-pub coding-rows : (f : ℕ) (j : Judged (List ℕ)) (a b : Bool) → Sound j
+pub coding-rows : {A : Type 0} (f : ℕ) (j : Judged A) (a b : Bool) → Sound j
     → cond (refusedBy 3 j || false) (refusedAt 3 f) (cond (refusedBy 4 j || false) (refusedAt 4 f)
     (cond a (refusedAt 5 f) (cond b (refusedAt 6 f) (cond (refusedBy 8 j || false) (refusedAt 8 f) (good (tt {0}))))))
     ≡ after (faultOf f j) (after (faultWhere a 5 f) (faultWhere b 6 f))
@@ -60,7 +58,7 @@ coding-rows f (refused n) a b h = by (eqb n 3) (eqb n 4) (eqb n 8) refl refl (h 
     by false false z p q t = absurd t
 
 -- a field that no other one is set against
-pub alone-rows : (f : ℕ) (j : Judged (List ℕ)) → Sound j
+pub alone-rows : {A : Type 0} (f : ℕ) (j : Judged A) → Sound j
     → cond (refusedBy 3 j || false) (refusedAt 3 f)
     (cond (refusedBy 4 j || false) (refusedAt 4 f) (cond (refusedBy 8 j || false) (refusedAt 8 f) (good (tt {0}))))
     ≡ faultOf f j
@@ -68,42 +66,26 @@ alone-rows f j h = coding-rows f j false false h ∙ after-good (faultOf f j)
 
 -- ---- a field of one number
 
-pub one-fault : (f : ℕ) (j : Judged ℕ) → faultOf f (oneCode j) ≡ faultOf f j
-one-fault f (accepted c) = refl
-one-fault f (refused n) = refl
-
-pub one-sound : (j : Judged ℕ) → Sound j → Sound (oneCode j)
-one-sound (accepted c) h = record { sound = tt }
-one-sound (refused n) h = record { sound = h .sound }
-
-pub number-rows : (f : ℕ) (j : Judged ℕ) → Sound j
-    → cond (refusedBy 3 (oneCode j) || false) (refusedAt 3 f)
-    (cond (refusedBy 4 (oneCode j) || false) (refusedAt 4 f) (cond (refusedBy 8 (oneCode j) || false) (refusedAt 8 f) (good (tt {0}))))
-    ≡ faultOf f j
-number-rows f j h = alone-rows f (oneCode j) (one-sound j h) ∙ one-fault f j
-
 -- with must-be-zero bits, which have no fault
 pub zero-rows : (f : ℕ) (j k : Judged ℕ) → Sound j → k ≡ accepted 0
-    → cond (refusedBy 3 (oneCode j) || (refusedBy 3 (oneCode k) || false)) (refusedAt 3 f)
-    (cond (refusedBy 4 (oneCode j) || (refusedBy 4 (oneCode k) || false)) (refusedAt 4 f)
-    (cond (refusedBy 8 (oneCode j) || (refusedBy 8 (oneCode k) || false)) (refusedAt 8 f) (good (tt {0}))))
+    → cond (refusedBy 3 j || (refusedBy 3 k || false)) (refusedAt 3 f)
+    (cond (refusedBy 4 j || (refusedBy 4 k || false)) (refusedAt 4 f)
+    (cond (refusedBy 8 j || (refusedBy 8 k || false)) (refusedAt 8 f) (good (tt {0}))))
     ≡ faultOf f j
-zero-rows f j k h e = rw e (number-rows f j h)
+zero-rows f j k h e = rw e (alone-rows f j h)
 
 -- with a conflict of row 5, or of row 6
 pub square-rows : (f : ℕ) (j : Judged ℕ) (a : Bool) → Sound j
-    → cond (refusedBy 3 (oneCode j) || false) (refusedAt 3 f) (cond (refusedBy 4 (oneCode j) || false) (refusedAt 4 f)
-    (cond a (refusedAt 5 f) (cond (refusedBy 8 (oneCode j) || false) (refusedAt 8 f) (good (tt {0})))))
+    → cond (refusedBy 3 j || false) (refusedAt 3 f) (cond (refusedBy 4 j || false) (refusedAt 4 f)
+    (cond a (refusedAt 5 f) (cond (refusedBy 8 j || false) (refusedAt 8 f) (good (tt {0})))))
     ≡ after (faultOf f j) (faultWhere a 5 f)
-square-rows f j a h =
-    coding-rows f (oneCode j) a false (one-sound j h)
-    ∙ ap₂ (λ (v w : Found). after v w) (one-fault f j) (after-good (faultWhere a 5 f))
+square-rows f j a h = coding-rows f j a false h ∙ ap (after (faultOf f j)) (after-good (faultWhere a 5 f))
 
 pub pedestal-rows : (f : ℕ) (j : Judged ℕ) (b : Bool) → Sound j
-    → cond (refusedBy 3 (oneCode j) || false) (refusedAt 3 f) (cond (refusedBy 4 (oneCode j) || false) (refusedAt 4 f)
-    (cond b (refusedAt 6 f) (cond (refusedBy 8 (oneCode j) || false) (refusedAt 8 f) (good (tt {0})))))
+    → cond (refusedBy 3 j || false) (refusedAt 3 f) (cond (refusedBy 4 j || false) (refusedAt 4 f)
+    (cond b (refusedAt 6 f) (cond (refusedBy 8 j || false) (refusedAt 8 f) (good (tt {0})))))
     ≡ after (faultOf f j) (faultWhere b 6 f)
-pedestal-rows f j b h = coding-rows f (oneCode j) false b (one-sound j h) ∙ ap (λ (v : Found). after v (faultWhere b 6 f)) (one-fault f j)
+pedestal-rows f j b h = coding-rows f j false b h
 
 -- a refusal at a field is the fault that its coding is
 pub fault-is : {A : Type 0} (f : ℕ) {g n : ℕ} {j : Judged A} → j ≡ refused n → g ≡ f → _≡_ {A = Found} (refusedAt n g) (faultOf f j)

@@ -10,8 +10,10 @@ ghost use Rattle.adv7194_table.specs.Blocks.{blockOf};
 ghost use Rattle.adv7194_table.specs.Table.{curve, whole};
 ghost use Rattle.adv7194_gamma.specs.Answer.{judged};
 ghost use Rattle.adv7194_gamma.specs.Curve.{curveCodes};
-ghost use Rattle.adv7194_settings.specs.Codes.{numbersIn, codesIn};
+ghost use Rattle.adv7194_settings.specs.Codes.{numbersIn};
 ghost use Rattle.adv7194_settings.specs.Wanted.{entryWrites};
+ghost use mathlib.Core.List.{[]};
+ghost use Rattle.refusals.specs.Refusal.{valueOr};
 use crate::placing::put_bytes;
 use adv7194_gamma::Coded;
 use adv7194_gamma::field::curve_code;
@@ -47,7 +49,7 @@ fn code_fault(packed: u64, code: Coded) -> Checked
 
 // The bytes of a coding put in its block's registers.
 fn put_code(packed: u64, code: Coded, image: &mut [u8])
-    ensures memory { λ r. ⌜ now (image .exit) ≡ puts (now (image .entry)) (byteWrites (blockOf packed .register) (codesIn (judged code))) ⌝ }
+    ensures memory { λ r. ⌜ now (image .exit) ≡ puts (now (image .entry)) (byteWrites (blockOf packed .register) (valueOr [] (judged code))) ⌝ }
 {
     match code {
         Coded::Curve(p) => {

@@ -11,8 +11,9 @@ ghost use Rattle.adv7194_table.specs.Blocks.{signalling};
 ghost use Rattle.adv7194_table.specs.Table.{signals, whole};
 ghost use Rattle.adv7194_signalling.specs.Signalling.{signallingCodes, signallingConflict};
 ghost use Rattle.adv7194_signalling.specs.Answers.{numbersOf, codeAs};
-ghost use Rattle.adv7194_settings.specs.Codes.{numbersIn, codesIn};
-ghost use Rattle.adv7194_settings.specs.Wanted.{signalWrites, entryWrites};
+ghost use Rattle.adv7194_settings.specs.Codes.{numbersIn};
+ghost use Rattle.adv7194_settings.specs.Wanted.{entryWrites, blockWrites};
+ghost use Rattle.refusals.specs.Refusal.{valueOr};
 use crate::placing::put;
 use crate::placing::put_bytes;
 use adv7194_settings::fault;
@@ -77,7 +78,7 @@ fn code_fault(code: SignallingCode) -> Checked
 
 // Bits 7-4 of the first register cleared.
 fn clear_kind(image: &mut [u8])
-    ensures memory { λ r. ⌜ now (image .exit) ≡ puts (now (image .entry)) (signalWrites signalling []) ⌝ }
+    ensures memory { λ r. ⌜ now (image .exit) ≡ puts (now (image .entry)) (blockWrites signals signalling []) ⌝ }
 {
     put(
         image,
@@ -90,7 +91,7 @@ fn clear_kind(image: &mut [u8])
 
 // The registers of a coding set; bits 7-4 of the first cleared where it has none.
 fn put_code(code: SignallingCode, image: &mut [u8])
-    ensures memory { λ r. ⌜ now (image .exit) ≡ puts (now (image .entry)) (signalWrites signalling (codesIn (codeAs code))) ⌝ }
+    ensures memory { λ r. ⌜ now (image .exit) ≡ puts (now (image .entry)) (blockWrites signals signalling (valueOr [] (codeAs code))) ⌝ }
 {
     match code {
         SignallingCode::Off => clear_kind(image),

@@ -2,7 +2,7 @@
 use mathlib.Core.Path.{_≡_, refl, sym, ap, _∙_, subst}
 use mathlib.Core.Logic.{_⊎_, inl, inr, ⊎-elim, _↔_}
 use mathlib.Core.Bool.{Bool, true, false, not, xor, _||_, and-false, false≢true}
-use mathlib.Core.List.{List, [], _∷_, _++_}
+use mathlib.Core.List.{List, [], _∷_, _++_, flatMap}
 use Prim.Native.Nat.{ℕ, _≤_, _<_}
 use native.Mathlib.Omega.{arith}
 use lib.Dec.{leb}
@@ -10,7 +10,7 @@ use lib.ListN.{length, getD}
 use borrow.Author.Tests.{lt-ltb, le-ltb, le-leb, lt-leb, eqb-true, eq-eqb}
 use Rattle.bits.specs.Maps.{has}
 use Rattle.bits.proofs.FlagLaws.{both-true}
-use Rattle.bus.specs.Transactions.{Transaction, end, Touches, Touched, Every, touches}
+use Rattle.bus.specs.Transactions.{Transaction, end, Touches, Touched, touches}
 use Rattle.bus.specs.Chip.{Kind, Chip}
 use Rattle.bus.specs.Run.{run, listEvents, after}
 use Rattle.bus.proofs.Play.{touches?, run-list}
@@ -20,6 +20,7 @@ use Rattle.adv7195_bus.specs.Rules.{Rules}
 use Rattle.adv7195_bus.specs.Order.{modeRegister3, modeRegister6, preparingByte, interpolationBit, interpolation, flipped, byteFor}
 use Rattle.adv7195_bus.specs.Order.{Prepared, Ordered, byteAfter, preparedBy, orderFrom, keepsOrder}
 use Rattle.adv7195_bus.proofs.RuleLaws.{rules-kept}
+use Rattle.bits.specs.Lists.{Every}
 
 -- ---- the test of a touched register
 
@@ -74,7 +75,7 @@ module _ (κ : Kind) where
   -- one by one, so for every transaction
   each : (before : List Transaction) (t : Transaction) (rest : List Transaction) (p : Bool) (c : Chip) → OrderedFrom κ p c (before ++ t ∷ rest)
       → FlipsAfter c before t → PreparedFrom p before
-  unfolding run listEvents
+  unfolding run listEvents flatMap
   each [] t rest p c o f = inr (o .0 f, λ v. v)
   each (u ∷ before) t rest p c o f =
       prepared-more p u before (each before t rest (preparedBy p u) (next κ c u) (o .1)
@@ -84,7 +85,7 @@ module _ (κ : Kind) where
   one-by-one : (ts : List Transaction) (p : Bool) (c : Chip)
       → ((before : List Transaction) (t : Transaction) (rest : List Transaction) → ts ≡ before ++ t ∷ rest → FlipsAfter c before t → PreparedFrom p before)
       → OrderedFrom κ p c ts
-  unfolding run listEvents
+  unfolding run listEvents flatMap
   one-by-one [] p c h = tt
   one-by-one (u ∷ ts) p c h = (
     λ f. ⊎-elim (λ w. absurd w) (λ w. w .0) (h [] u ts refl f),

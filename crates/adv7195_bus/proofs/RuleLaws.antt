@@ -12,11 +12,12 @@ use Rattle.bits.specs.Maps.{has}
 use Rattle.bits.proofs.FlagLaws.{both, first, second, either, left, right, both-true}
 use Rattle.bits.proofs.Checks.{agrees, below, map-is}
 use Rattle.bus.specs.Registers.{apart}
-use Rattle.bus.specs.Transactions.{Transaction, size, end, Touches, Every}
+use Rattle.bus.specs.Transactions.{Transaction, size, end, Touches}
 use Rattle.bus.proofs.Play.{Kept}
 use Rattle.bus.proofs.RegisterLaws.{among-in, among-out, apart-of, apart?}
 use Rattle.adv7195_bus.specs.Kind.{registerCount, unnamed, adv7195}
 use Rattle.adv7195_bus.specs.Rules.{Rules, writable, keepsRules, allKeepRules}
+use Rattle.bits.specs.Lists.{Every}
 
 -- ---- one transaction
 

@@ -12,6 +12,25 @@ use Rattle.bus.specs.Transactions.{Transaction, Touches, touches, Touched}
 use Rattle.bus.specs.Chip.{Kind, Chip}
 use Rattle.bus.specs.Run.{run, transactionEvents, after}
 
+-- MR36 in some registers, the interpolation bit: bit 6 of 03, Mode Register 3
+unfoldable pub interpolation : List ℕ → Bool
+interpolation registers = has (getD registers 0x03 0) 6
+
+-- some transaction of a list has written 3E to 09, Mode Register 6, with 09 untouched since
+abbrev pub Prepared : List Transaction → Type 0
+Prepared [] = ⊥
+Prepared (t ∷ ts) =
+    ((Touches t 0x09 × (getD (t .bytes) (0x09 - t .subaddress) 0 ≡ 0x3e)) × (Touched ts 0x09 → ⊥)) ⊎ Prepared ts
+
+-- the order: before each transaction of a list that flips MR36 in the chip as it finds it, the list is prepared
+abbrev pub Ordered : Kind → Chip → List Transaction → Type 0
+Ordered κ c ts =
+    (before : List Transaction) (t : Transaction) (rest : List Transaction) → ts ≡ before ++ t ∷ rest
+    → xor (interpolation (after κ c before .registers)) (interpolation (run κ (after κ c before) (transactionEvents (κ .address) t) .registers)) ≡ true
+    → Prepared before
+
+-- ---- as a test
+
 -- Mode Register 3, whose bit 6 is MR36, the interpolation bit
 abbrev pub modeRegister3 : ℕ
 modeRegister3 = 0x03
@@ -26,10 +45,6 @@ modeRegister6 = 0x09
 abbrev pub preparingByte : ℕ
 preparingByte = 0x3e
 
--- MR36 in some registers
-unfoldable pub interpolation : List ℕ → Bool
-interpolation registers = has (getD registers modeRegister3 0) interpolationBit
-
 -- MR36 differs in two lists of registers
 abbrev pub flipped : List ℕ → List ℕ → Bool
 flipped before after = xor (interpolation before) (interpolation after)
@@ -37,21 +52,6 @@ flipped before after = xor (interpolation before) (interpolation after)
 -- the byte that a transaction has for register r, which it touches
 abbrev pub byteFor : Transaction → ℕ → ℕ
 byteFor t r = getD (t .bytes) (r - t .subaddress) 0
-
--- a transaction writes 3E to 09
-abbrev pub Prepares : Transaction → Type 0
-Prepares t = Touches t modeRegister6 × (byteFor t modeRegister6 ≡ preparingByte)
-
--- some transaction of a list has written 3E to 09, with 09 untouched since
-abbrev pub Prepared : List Transaction → Type 0
-Prepared [] = ⊥
-Prepared (t ∷ ts) = (Prepares t × (Touched ts modeRegister6 → ⊥)) ⊎ Prepared ts
-
--- the order: before each transaction of a list that flips MR36 in the chip as it finds it, the list is prepared
-abbrev pub Ordered : Kind → Chip → List Transaction → Type 0
-Ordered κ c ts =
-    (before : List Transaction) (t : Transaction) (rest : List Transaction) → ts ≡ before ++ t ∷ rest
-    → flipped (after κ c before .registers) (run κ (after κ c before) (transactionEvents (κ .address) t) .registers) ≡ true → Prepared before
 
 -- the byte in register r after a transaction, where it was b before
 abbrev pub byteAfter : ℕ → ℕ → Transaction → ℕ

@@ -4,13 +4,13 @@ ghost use mathlib.Core.Path.{_≡_};
 ghost use Prim.Native.Nat.{_<_};
 ghost use lib.ListN.{length, take};
 ghost use Rattle.packing.specs.Packing.{anywhere};
-ghost use Rattle.unpacking.specs.Unpacking.{CountedBy};
-ghost use Rattle.unpacking.specs.Indexed.{transactionOf, headerOf, dataAfter};
+ghost use Rattle.unpacking.specs.Unpacking.{CountedBy, unpackBy};
+ghost use Rattle.unpacking.specs.Indexed.{headerOf, transactionOf, dataAfter};
 ghost use Rattle.answers.specs.Answers.{planAnswer, readAnswer, transactionAnswer};
 ghost use Rattle.adv7195_settings.specs.Wanted.{wantedBy, Demanded};
 ghost use Rattle.adv7195_settings.specs.Reading.{readOf, readLeft};
 ghost use Rattle.playing.specs.Playing.{playOf, registersLeft};
-ghost use Rattle.adv7195_playing.specs.Playing.{unpacked, callOf};
+ghost use Rattle.adv7195_playing.specs.Playing.{callOf};
 ghost use Rattle.adv7195_least.specs.Played.{Played};
 ghost use Rattle.adv7195_least.specs.Demands.{Least, First, mostBytes};
 ghost use Rattle.adv7195_planning.specs.Planning.{listOf, planningOf, planLeft};
@@ -77,9 +77,8 @@ pub extern "C" fn adv7195_read(image: &[u8], settings: &mut [i32]) -> ReadAnswer
 // The transaction with an index, counted from 0, of a packed plan in any order: its subaddress and data count, with its data at the front of the memory lent.
 #[no_mangle]
 pub extern "C" fn adv7195_transaction(plan: &[u8], index: u32, data: &mut [u8]) -> TransactionAnswer
-    ensures answer { λ r. ⌜ r ≡ transactionAnswer (headerOf (transactionOf (unpacked (now (plan .entry))) index (length (now («data» .entry))))) ⌝ }
-    ensures memory { λ r. ⌜
-        now («data» .exit) ≡ dataAfter (transactionOf (unpacked (now (plan .entry))) index (length (now («data» .entry)))) (now («data» .entry)) ⌝ }
+    ensures answer { λ r. ⌜ r ≡ transactionAnswer (headerOf (transactionOf (unpackBy anywhere (now (plan .entry))) index (length (now («data» .entry))))) ⌝ }
+    ensures memory { λ r. ⌜ now («data» .exit) ≡ dataAfter (transactionOf (unpackBy anywhere (now (plan .entry))) index (length (now («data» .entry)))) (now («data» .entry)) ⌝ }
 {
     transaction_answer(transaction(plan, Order::Any, index, data))
 }

@@ -11,7 +11,7 @@ use lib.ListN.{set, length-set, replicate, length-replicate}
 use lib.Seq.{length-slice}
 use borrow.Author.Tests.{ltb-true, ltb-false, leb-true, leb-false}
 use Rattle.bus.specs.Registers.{differs}
-use Rattle.bus.specs.Transactions.{Transaction, size, end, Touches, Touched, Every}
+use Rattle.bus.specs.Transactions.{Transaction, size, end, Touches, Touched}
 use Rattle.bus.proofs.RegisterLaws.{among-out}
 use Rattle.least_cost.specs.Weight.{byteWeight, startWeight, weights}
 use Rattle.least_cost.proofs.Pulled.{Pulled, pulled}
@@ -21,6 +21,7 @@ use Rattle.adv7195_least.specs.Reaching.{Change}
 use Rattle.adv7195_least.specs.Plan.{planFor, restores, beside, preparing, flipPlan, firstStart, furtherStarts, preparingStart}
 use Rattle.adv7195_least.proofs.TaskLaws.{bound, plan-is}
 use Rattle.adv7195_least.proofs.Differing.{Left, beside-left, beside-writable}
+use Rattle.bits.specs.Lists.{Every}
 
 -- a transaction for the registers from lo on, before hi
 abbrev pub span : ℕ → ℕ → Transaction

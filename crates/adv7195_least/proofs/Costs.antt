@@ -10,7 +10,7 @@ use lib.Dec.{ltb, eqb}
 use lib.ListN.{length, getD}
 use borrow.Author.Tests.{ltb-true, ltb-false, eqb-false, not-true}
 use Rattle.bus.specs.Registers.{differs}
-use Rattle.bus.specs.Transactions.{Transaction, size, end, Touches, Touched, Every, busBytes, touches}
+use Rattle.bus.specs.Transactions.{Transaction, size, end, Touches, Touched, busBytes, touches}
 use Rattle.bus.specs.Chip.{Chip}
 use Rattle.bus.specs.Run.{idleAt}
 use Rattle.bus.proofs.Play.{touched-or-same}
@@ -34,6 +34,7 @@ use Rattle.adv7195_least.proofs.Candidates.{low-end, Completes, whole, 
 use Rattle.adv7195_least.proofs.Reached.{preparing-end, steady-reaches, flip-reaches}
 use Rattle.adv7195_least.proofs.Ties.{past-09}
 use Rattle.adv7195_least.proofs.Data.{same-plan, same-flip}
+use Rattle.bits.specs.Lists.{Every}
 
 -- two bits that differ are not one
 xor-true : (a b : Bool) → xor a b ≡ true → a ≢ b

@@ -9,7 +9,7 @@ use lib.Dec.{leb, eqb}
 use lib.ListN.{length, getD}
 use lib.Seq.{getD-set-same, getD-set-other}
 use borrow.Author.Tests.{leb-true, leb-false, eqb-true}
-use Rattle.bus.specs.Transactions.{Transaction, size, end, Every}
+use Rattle.bus.specs.Transactions.{Transaction, size, end}
 use Rattle.bus.specs.Chip.{Chip}
 use Rattle.bus.specs.Run.{idleAt, after}
 use Rattle.bus.proofs.Play.{run-list, touched-or-same}
@@ -30,6 +30,7 @@ use Rattle.adv7195_least.proofs.Differing.{beside-writable}
 use Rattle.adv7195_least.proofs.Candidates.{start-is}
 use Rattle.adv7195_least.proofs.Reached.{withPreparing, preparing-holds, preparing-end}
 use Rattle.adv7195_least.proofs.Ties.{apart-from}
+use Rattle.bits.specs.Lists.{Every}
 
 module _ (own : ℕ) (wanted : List ℕ) where
   -- an ascending list that ends in the wanted image holds its bytes

@@ -3,13 +3,13 @@
 use mathlib.Core.Path.{_≡_, refl, sym, ap, _∙_}
 use mathlib.Core.Logic.{_⊎_, inl, inr, ⊎-elim, _≢_}
 use mathlib.Core.Bool.{Bool, true, false, xor, false≢true}
-use mathlib.Core.List.{List, [], _∷_}
+use mathlib.Core.List.{List, [], _∷_, flatMap}
 use Prim.Native.Nat.{ℕ, _≤_, _<_}
 use native.Mathlib.Omega.{arith}
 use lib.ListN.{length, getD}
 use borrow.Author.Tests.{ne-eqb}
 use Rattle.bits.specs.Maps.{has}
-use Rattle.bus.specs.Transactions.{Transaction, end, Touches, Touched, Every, touches}
+use Rattle.bus.specs.Transactions.{Transaction, end, Touches, Touched, touches}
 use Rattle.bus.specs.Chip.{Kind, Chip}
 use Rattle.bus.specs.Run.{run, listEvents, after}
 use Rattle.bus.proofs.Play.{Kept, touches?, run-list, touched-or-same}
@@ -21,6 +21,7 @@ use Rattle.adv7195_bus.specs.Rules.{Rules}
 use Rattle.adv7195_bus.specs.Order.{interpolationBit, interpolation, flipped, byteFor, preparedBy}
 use Rattle.adv7195_bus.proofs.RuleLaws.{rules-kept}
 use Rattle.adv7195_bus.proofs.OrderLaws.{OrderedFrom, touches-in, touched?}
+use Rattle.bits.specs.Lists.{Every}
 
 -- two bits that don't differ are one
 pub xor-false : (a b : Bool) → xor a b ≡ false → a ≡ b
@@ -89,7 +90,7 @@ module _ (own : ℕ) where
 
   -- it touches 09
   pub goes-9 : (ts : List Transaction) (c : Chip) (w : List ℕ) → Going c ts w → Touched ts 0x09
-  unfolding run listEvents
+  unfolding run listEvents flatMap
   goes-9 [] c w g = absurd (g .flips (ap interpolation (g .ends)))
   goes-9 (t ∷ ts) c w g = split (touched? t 0x09) (λ h. goes-9 ts (next κ c t) w h)
     where
@@ -123,7 +124,7 @@ module _ (own : ℕ) where
 
   -- a list that goes on so is one
   pub apart : (ts : List Transaction) (c : Chip) (w : List ℕ) → Going c ts w → Apart ts (getD w 0x09 0 ≢ 0x3e)
-  unfolding run listEvents pull-first pull-later
+  unfolding run listEvents flatMap pull-first pull-later
   apart [] c w g = absurd (g .flips (ap interpolation (g .ends)))
   apart (t ∷ ts) c w g = split (touched? t 0x09) (λ h. apart ts (next κ c t) w h)
     where
@@ -170,7 +171,7 @@ module _ (own : ℕ) where
   -- an ascending list that keeps the order leaves MR36 where 3E was not the last byte for 09 before it, or it starts past 09
   pub ascending-leaves : (ts : List Transaction) (b : Bool) (c : Chip) (i : ℕ) → Ascending i ts → (b ≡ false) ⊎ (0x09 < i) → OrderedFrom κ b c ts
       → interpolation (c .registers) ≡ interpolation (after κ c ts .registers)
-  unfolding run listEvents
+  unfolding run listEvents flatMap
   ascending-leaves [] b c i a h o = refl
   ascending-leaves (t ∷ ts) b c i a h o =
       first h (touched? t 0x03) ∙ ascending-leaves ts (preparedBy b t) (next κ c t) (end t) (a .1) (onward h (touched? t 0x09)) (o .1)

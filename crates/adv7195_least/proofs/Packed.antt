@@ -11,7 +11,7 @@ use lib.Seq.{getD-set-same, getD-set-other}
 use borrow.Author.Tests.{eqb-true, eqb-false}
 use Rattle.refusals.specs.Refusal.{accepted}
 use Rattle.bus.specs.Registers.{differs}
-use Rattle.bus.specs.Transactions.{Transaction, Touched, Every, busBytes}
+use Rattle.bus.specs.Transactions.{Transaction, Touched, busBytes}
 use Rattle.bus.specs.Run.{idleAt, allAcknowledged, listEvents}
 use Rattle.bus.proofs.Acknowledged.{Fits, acknowledged-list}
 use Rattle.bus.proofs.CostLaws.{bytes-count}
@@ -37,6 +37,7 @@ use Rattle.adv7195_least.proofs.TaskLaws.{bound, plan-is, plan-covers, 
 use Rattle.adv7195_least.proofs.Differing.{beside-03, differs-writable, beside-writable}
 use Rattle.adv7195_least.proofs.Candidates.{span, low-rules, flipWeight, candidate, start-is, start-least}
 use Rattle.adv7195_least.proofs.Reached.{withPreparing, preparing-holds, preparing-end}
+use Rattle.bits.specs.Lists.{Every}
 
 -- ---- what the packing can hold
 

@@ -1,7 +1,7 @@
 -- Plans from the values after power-up (001, Table XI; registers that it doesn't list are 00), with their packings; and the largest plan. Assumes nothing.
 use mathlib.Core.Path.{_≡_, refl}
 use mathlib.Core.Bool.{Bool, not, xor, _||_}
-use mathlib.Core.List.{List, [], _∷_, _++_}
+use mathlib.Core.List.{List, [], _∷_, _++_, flatMap}
 use Prim.Native.Nat.{ℕ, _≤_}
 use native.Mathlib.Omega.{arith}
 use lib.Dec.{T, eqb, eqb→eq}
@@ -11,7 +11,8 @@ use Rattle.bits.proofs.Checks.{below, at-below}
 use Rattle.bus.specs.Transactions.{Transaction}
 use Rattle.bus.specs.Cost.{dataCount}
 use Rattle.bus.proofs.RegisterLaws.{among-true}
-use Rattle.packing.specs.Packing.{transactionBits, listBits, packedBits, packed}
+use Rattle.packing.specs.Packing.{transactionBits, packed}
+use Rattle.packing.specs.Written.{packedBits}
 use Rattle.packing.proofs.PackedLaws.{packed-length}
 use Rattle.unpacking.proofs.Tests.{bytes-lt}
 use Rattle.least_cost.specs.Weight.{weights}
@@ -137,7 +138,7 @@ pub record Packings : Type 0 where
 
 -- they are
 pub packings : Packings
-unfolding packed packedBits listBits transactionBits msbFirst byteBits msbValue firstBytes bytesOf
+unfolding packed packedBits flatMap transactionBits msbFirst byteBits msbValue firstBytes bytesOf
 packings = record {
   of-hatch = refl;
   of-flips = refl;

@@ -7,7 +7,7 @@ use Prim.Native.Nat.{ℕ}
 use Rattle.refusals.specs.Refusal.{accepted}
 use Rattle.refusals.specs.Verdict.{good}
 use Rattle.bits.proofs.FlagLaws.{holds}
-use Rattle.bus.specs.Chip.{fresh}
+use Rattle.bus.specs.Run.{idleAt}
 use Rattle.bus.specs.Address.{addressRight}
 use Rattle.packing.specs.Packing.{packed}
 use Rattle.adv7195_bus.specs.Rules.{allKeepRules}
@@ -33,7 +33,7 @@ module _ (image wanted : List ℕ) (χ : Change image wanted) where
   plan-order : keepsOrder image (planOf image wanted) ≡ true
   plan-order =
       let q = plan-reaches image wanted χ 0 0 in
-      order-agrees 0 (planOf image wanted) (fresh image) (q .rules) (χ .found) .1 (q .ordered)
+      order-agrees 0 (planOf image wanted) (idleAt 0 image) (q .rules) (χ .found) .1 (q .ordered)
 
   module _ (own : ℕ) (right : addressRight own ≡ true) where
     -- playing takes it

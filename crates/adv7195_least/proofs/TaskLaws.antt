@@ -7,7 +7,7 @@ use mathlib.Core.List.{List}
 use Prim.Native.Nat.{ℕ, suc, _+_, _-_, _*_, _≤_}
 use native.Mathlib.Omega.{arith}
 use lib.ListN.{getD}
-use Rattle.bus.specs.Transactions.{Transaction, end, Touches, Touched, Every}
+use Rattle.bus.specs.Transactions.{Transaction, end, Touches, Touched}
 use Rattle.bus.proofs.Play.{Kept}
 use Rattle.bus.proofs.Acknowledged.{Fits}
 use Rattle.bus.proofs.After.{later}
@@ -23,6 +23,7 @@ use Rattle.adv7195_bus.specs.Kind.{registerCount, adv7195}
 use Rattle.adv7195_bus.specs.Rules.{Rules, writable}
 use Rattle.adv7195_bus.proofs.RuleLaws.{writable-facts, rules-writable, rules-kept}
 use Rattle.adv7195_least.specs.Plan.{taskFor, planFor}
+use Rattle.bits.specs.Lists.{Every}
 
 -- a list that keeps the rule writes to registers that keep a byte
 pub all-kept : (own : ℕ) (ts : List Transaction) → Every Rules ts → Every (Kept (adv7195 own)) ts

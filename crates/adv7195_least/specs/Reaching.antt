@@ -5,11 +5,12 @@ use mathlib.Core.Bool.{true}
 use mathlib.Core.List.{List}
 use Prim.Native.Nat.{ℕ, _^_, _<_}
 use lib.ListN.{length, getD}
-use Rattle.bus.specs.Transactions.{Transaction, Every}
+use Rattle.bus.specs.Transactions.{Transaction}
 use Rattle.bus.specs.Run.{idleAt, run, listEvents}
 use Rattle.adv7195_bus.specs.Kind.{registerCount, unnamed, adv7195}
 use Rattle.adv7195_bus.specs.Rules.{Rules}
 use Rattle.adv7195_bus.specs.Order.{Ordered}
+use Rattle.bits.specs.Lists.{Every}
 
 -- from a starting image to a wanted one: both have a byte a register, and they agree on the registers that 001 doesn't name
 pub record Change (image wanted : List ℕ) : Type 0 where

@@ -8,12 +8,13 @@ use lib.ListN.{length, length-append}
 use borrow.Author.Tests.{leb-true}
 use Rattle.text.proofs.Numerals.{decimal-most}
 use Rattle.listing.specs.Lines.{countsLine, refusedLine}
-use Rattle.refusals.specs.Verdict.{good, refusedAt}
+use Rattle.refusals.specs.Verdict.{good, refusedAt, leftBy}
 use Rattle.template.specs.Template.{taken, filled, widths}
 use Rattle.adv7195_settings.specs.Numbers.{numberCount}
-use Rattle.adv7195_settings.specs.Reading.{readOf, readLeft, leftBy}
-use Rattle.adv7195_listing.specs.Lines.{lines, linesText, template}
+use Rattle.adv7195_settings.specs.Reading.{readOf, readLeft}
+use Rattle.adv7195_listing.specs.Lines.{lines, template}
 use Rattle.adv7195_listing.specs.Listing.{textBy, settingsText, textWidth}
+use Rattle.adv7195_settings.specs.Rows.{settingsHeld}
 
 -- how many numbers a template takes
 abbrev marks : List ℕ → ℕ
@@ -22,12 +23,12 @@ marks (b ∷ bs) = taken b + marks bs
 
 -- each number of the settings has its mark
 each-marked : marks template ≡ numberCount
-unfolding lines linesText
+unfolding lines
 each-marked = refl
 
 -- the lines have room
 pub lines-room : widths template ≤ textWidth
-unfolding widths lines linesText
+unfolding widths lines
 lines-room = leb-true (widths template) textWidth refl
 
 -- and so has the line of a refusal
@@ -40,7 +41,7 @@ module _ (image : List ℕ) (zs : List ℤ) (l : length zs ≡ numberCount) wher
   pub text-read : {left : List ℤ} → good tt ≡ readOf image (length zs) → left ≡ readLeft image zs → filled template left ≡ settingsText image
   unfolding settingsText
   text-read e m =
-      ap (filled template) (m ∙ ap (leftBy image zs) (sym e)) ∙ ap (textBy image) e ∙ ap (λ (n : ℕ). textBy image (readOf image n)) l
+      ap (filled template) (m ∙ ap (leftBy zs (settingsHeld image)) (sym e)) ∙ ap (textBy image) e ∙ ap (λ (n : ℕ). textBy image (readOf image n)) l
 
   -- a refusal
   pub text-refused : (n f : ℕ) → refusedAt n f ≡ readOf image (length zs) → refusedLine n f ≡ settingsText image

@@ -1,14 +1,14 @@
 -- Document 02, P13: the ADV7195's fields by number and name, one line each in field order; must-be-zero bits have numbers and no line. A line is a template:
 -- `%` stands for a setting in decimal, `#` for a curve's byte.
-use mathlib.Core.List.{List, [], _∷_, _++_}
+use mathlib.Core.List.{List, [], _∷_, _++_, foldr}
 use Prim.Native.Nat.{ℕ}
 use Prim.Native.String.{String}
 use Rattle.text.specs.Text.{lineEnd}
 use Rattle.writing.specs.Ascii.{ascii}
 
--- fields 1 to 13, of Mode Registers 0 and 1
-abbrev first : List String → List String
-first rest =
+-- the lines
+unfoldable pub lines : List String
+lines =
     "1 output standard %"
     ∷ "2 input control signals %"
     ∷ "3 input standard %"
@@ -20,12 +20,7 @@ first rest =
     ∷ "11 VBI open %"
     ∷ "12 undershoot limiter %"
     ∷ "13 sharpness filter %"
-    ∷ rest
-
--- fields 14 to 25, of Mode Registers 2 and 3
-abbrev second : List String → List String
-second rest =
-    "14 Y delay %"
+    ∷ "14 Y delay %"
     ∷ "15 colour delay %"
     ∷ "16 CGMS enable %"
     ∷ "17 CGMS CRC %"
@@ -34,12 +29,7 @@ second rest =
     ∷ "22 DAC B %"
     ∷ "23 DAC C %"
     ∷ "24 interpolation %"
-    ∷ rest
-
--- fields 26 to 38, of Mode Registers 4 to 6 and the colours
-abbrev third : List String → List String
-third rest =
-    "26 timing reset %"
+    ∷ "26 timing reset %"
     ∷ "28 RGB mode %"
     ∷ "29 sync on PrPb %"
     ∷ "30 colour output swap %"
@@ -51,12 +41,7 @@ third rest =
     ∷ "36 colour Cr %"
     ∷ "37 colour Cb %"
     ∷ "38 mode register 6 %"
-    ∷ rest
-
--- fields 39 to 52, of the filters, the CGMS data and the gamma curves
-abbrev fourth : List String
-fourth =
-    "39 filter gain A %"
+    ∷ "39 filter gain A %"
     ∷ "40 filter gain B %"
     ∷ "41 CGMS data %"
     ∷ "42 gamma curve A # # # # # # #"
@@ -72,15 +57,6 @@ fourth =
     ∷ "52 threshold C %"
     ∷ []
 
--- the lines
-unfoldable pub lines : List String
-lines = first (second (third fourth))
-
--- lines as one text
-unfoldable pub linesText : List String → List ℕ
-linesText [] = []
-linesText (l ∷ ls) = ascii l ++ lineEnd ++ linesText ls
-
--- the template
+-- the template: the lines as one text
 abbrev pub template : List ℕ
-template = linesText lines
+template = foldr (λ l rest. ascii l ++ lineEnd ++ rest) [] lines

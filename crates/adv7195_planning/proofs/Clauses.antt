@@ -15,7 +15,7 @@ use Rattle.bus.specs.Transactions.{busBytes}
 use Rattle.bus.specs.Address.{addressRight}
 use Rattle.packing.specs.Packing.{packed, anywhere}
 use Rattle.unpacking.specs.Unpacking.{CountedBy}
-use Rattle.planning.specs.Plan.{Counts, countsOf, packingOf, leftBy, done}
+use Rattle.planning.specs.Plan.{Counts, countsOf, packingOf, packedLeft, done}
 use Rattle.planning.proofs.AnswerLaws.{refused-short, left-packed}
 use Rattle.adv7195_bus.specs.Kind.{registerCount}
 use Rattle.adv7195_settings.specs.Numbers.{numberCount}
@@ -100,7 +100,7 @@ module _ (image : List ℕ) (zs : List ℤ) (bytes : (r : ℕ) → getD image r 
 
       -- the bytes answered are the packed plan
       packing : take l left ≡ packed (listOf image zs)
-      packing = left-packed (listOf image zs) plan left l t b (known .0) (memory ∙ ap (leftBy (listOf image zs) plan) (sym answer ∙ e))
+      packing = left-packed (listOf image zs) plan left l t b (known .0) (memory ∙ ap (packedLeft (listOf image zs) plan) (sym answer ∙ e))
 
       -- the numbers are those of the list that the bytes unpack to
       counted : CountedBy anywhere (take l left) l t b

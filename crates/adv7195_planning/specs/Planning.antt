@@ -12,7 +12,7 @@ use Rattle.refusals.specs.Order.{Place, firstOf, placesAt}
 use Rattle.bus.specs.Transactions.{Transaction}
 use Rattle.bus.specs.Address.{addressRight}
 use Rattle.packing.specs.Packing.{packed}
-use Rattle.planning.specs.Plan.{Counts, countsOf, leftBy}
+use Rattle.planning.specs.Plan.{Counts, countsOf, packedLeft}
 use Rattle.adv7195_bus.specs.Kind.{registerCount}
 use Rattle.adv7195_settings.specs.Numbers.{numberCount}
 use Rattle.adv7195_settings.specs.Wanted.{wantedBy}
@@ -45,4 +45,4 @@ planningOf image zs address room = firstOf (rowPlanned image zs address room) pl
 
 -- the lent plan that planning leaves
 abbrev pub planLeft : List ℕ → List ℤ → ℕ → List ℕ → List ℕ
-planLeft image zs address plan = leftBy (listOf image zs) plan (planningOf image zs address (length plan))
+planLeft image zs address plan = packedLeft (listOf image zs) plan (planningOf image zs address (length plan))

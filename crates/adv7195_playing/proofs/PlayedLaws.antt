@@ -9,7 +9,7 @@ use lib.ListN.{length}
 use Rattle.bits.proofs.FlagLaws.{both-true}
 use Rattle.refusals.specs.Refusal.{Judged, accepted, refused}
 use Rattle.refusals.specs.Verdict.{Verdict, good}
-use Rattle.bus.specs.Transactions.{Transaction, Every}
+use Rattle.bus.specs.Transactions.{Transaction}
 use Rattle.bus.specs.Address.{addressRight}
 use Rattle.bus.proofs.Play.{Kept}
 use Rattle.unpacking.specs.Unpacking.{counted}
@@ -23,6 +23,7 @@ use Rattle.adv7195_bus.specs.Order.{keepsOrder}
 use Rattle.adv7195_bus.proofs.RuleLaws.{agree-all, rules-kept}
 use Rattle.adv7195_playing.specs.Playing.{unpacked, takes, callOf}
 use Rattle.adv7195_playing.specs.Written.{Written}
+use Rattle.bits.specs.Lists.{Every}
 
 -- no register of this chip is unknown
 abbrev pub noMap : ℕ

@@ -8,7 +8,7 @@ use lib.Dec.{T}
 use lib.ListN.{length}
 use Rattle.bits.proofs.FlagLaws.{holds, both-true}
 use Rattle.bus.specs.Transactions.{Transaction}
-use Rattle.bus.specs.Chip.{fresh}
+use Rattle.bus.specs.Run.{idleAt}
 use Rattle.adv7195_bus.specs.Kind.{registerCount}
 use Rattle.adv7195_bus.specs.Rules.{allKeepRules}
 use Rattle.adv7195_bus.specs.Order.{keepsOrder}
@@ -23,8 +23,8 @@ pub test-holds : (own : ℕ) (image : List ℕ) (ts : List Transaction) → leng
 test-holds own image ts h = (
   λ e. let q = both-true (allKeepRules ts) (keepsOrder image ts) e in
       let rules = agree-all ts .0 (subst⁻¹ T (q .0) tt) in
-      (rules, order-agrees own ts (fresh image) rules h .0 (q .1)),
-  λ k. rw (holds (allKeepRules ts) (agree-all ts .1 (k .0)), order-agrees own ts (fresh image) (k .0) h .1 (k .1)),
+      (rules, order-agrees own ts (idleAt 0 image) rules h .0 (q .1)),
+  λ k. rw (holds (allKeepRules ts) (agree-all ts .1 (k .0)), order-agrees own ts (idleAt 0 image) (k .0) h .1 (k .1)),
 )
 
 -- so a plan is judged by those

@@ -9,7 +9,7 @@ use lib.ListN.{length, getD}
 use lib.Seq.{sets, length-sets}
 use Rattle.bits.specs.Maps.{has}
 use Rattle.bus.specs.Transactions.{Transaction, size, touches}
-use Rattle.bus.specs.Chip.{fresh}
+use Rattle.bus.specs.Run.{idleAt}
 use Rattle.bus.proofs.WrittenRun.{next-written}
 use Rattle.unpacking.proofs.Writing.{Turns, passes}
 use Rattle.adv7195_bus.specs.Kind.{registerCount, adv7195}
@@ -37,7 +37,7 @@ module _ (l : List ℕ) (t : Transaction) (long : length l ≡ registerCount) (k
   -- the byte in a register after it
   byte-written : (r : ℕ) → r < registerCount → getD (overwritten l t) r 0 ≡ byteAfter r (getD l r 0) t
   byte-written r h =
-      ap (λ (x : List ℕ). getD x r 0) (sym (next-written (adv7195 0) (fresh l) t (rules-kept 0 t k))) ∙ byte-after 0 r (fresh l) t h k long
+      ap (λ (x : List ℕ). getD x r 0) (sym (next-written (adv7195 0) (idleAt 0 l) t (rules-kept 0 t k))) ∙ byte-after 0 r (idleAt 0 l) t h k long
 
   -- whether 3E was the last byte for 09 is told by the registers after it
   pub prepared-held : (p : Bool) → preparedAfter p (overwritten l t) (t .subaddress) (size t) ≡ preparedBy p t

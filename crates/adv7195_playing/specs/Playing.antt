@@ -6,8 +6,8 @@ use mathlib.Core.List.{List}
 use Prim.Native.Nat.{ℕ}
 use Rattle.refusals.specs.Refusal.{Judged, numberOf}
 use Rattle.refusals.specs.Verdict.{Verdict, good, refusedAt}
-use Rattle.bus.specs.Transactions.{Transaction, Every}
-use Rattle.bus.specs.Chip.{fresh}
+use Rattle.bus.specs.Transactions.{Transaction}
+use Rattle.bus.specs.Run.{idleAt}
 use Rattle.packing.specs.Packing.{anywhere}
 use Rattle.unpacking.specs.Unpacking.{unpackBy}
 use Rattle.playing.specs.Playing.{Call}
@@ -16,6 +16,7 @@ use Rattle.adv7195_bus.specs.Rules.{Rules, allKeepRules}
 use Rattle.adv7195_bus.specs.Order.{Ordered, keepsOrder}
 use Rattle.adv7195_playing.specs.declared.Played.{Played}
 use Rattle.adv7195_playing.specs.declared.Played.the-variants.{Done, Refused}
+use Rattle.bits.specs.Lists.{Every}
 
 -- the transactions that a plan's bytes are the packing of, in any order and overlap, or refusal 9
 abbrev pub unpacked : List ℕ → Judged (List Transaction)
@@ -23,7 +24,7 @@ unpacked plan = unpackBy anywhere plan
 
 -- a list keeps the rule and the order, of the chip that holds an image
 abbrev pub Takes : ℕ → List ℕ → List Transaction → Type 0
-Takes own image ts = Every Rules ts × Ordered (adv7195 own) (fresh image) ts
+Takes own image ts = Every Rules ts × Ordered (adv7195 own) (idleAt 0 image) ts
 
 -- as a test of an unpacked list, which is the same (theorem `test-holds` of proofs/Rows.antt)
 abbrev pub takes : List ℕ → List Transaction → Bool

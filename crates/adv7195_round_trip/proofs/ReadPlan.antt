@@ -6,15 +6,14 @@ use Prim.Native.Nat.{ℕ, _≤_}
 use lib.IntN.{ℤ}
 use lib.ListN.{length, drop}
 use borrow.Author.Tests.{le-leb}
-use Rattle.refusals.specs.Verdict.{Verdict, good, after}
+use Rattle.refusals.specs.Verdict.{Verdict, good, after, leftBy}
 use Rattle.bus.specs.Transactions.{Transaction, busBytes}
 use Rattle.bus.specs.Address.{addressRight}
 use Rattle.packing.proofs.PackedLaws.{nothing}
-use Rattle.planning.specs.Plan.{Counts, packingOf, leftBy, done}
+use Rattle.planning.specs.Plan.{Counts, packingOf, packedLeft, done}
 use Rattle.adv7195_bus.specs.Kind.{registerCount}
 use Rattle.adv7195_settings.specs.Numbers.{numberCount}
 use Rattle.adv7195_settings.specs.Rows.{settingsHeld}
-use Rattle.adv7195_settings.specs.Reading as reading
 use Rattle.adv7195_settings.specs.Reading.{readOf, readLeft}
 use Rattle.adv7195_settings.proofs.ReadingLaws.{held-length, is-read}
 use Rattle.adv7195_least.specs.Plan.{planOf}
@@ -47,7 +46,8 @@ module _ (image : List ℕ) (zs : List ℤ) (means : MeansItself image zs) where
       record {
         answer = planned;
         memory =
-            ap₂ (λ (ts : List Transaction) (v : Verdict Counts). leftBy ts plan v) no-list planned ∙ ap (λ (bytes : List ℕ). bytes ++ drop 1 plan) nothing;
+            ap₂ (λ (ts : List Transaction) (v : Verdict Counts). packedLeft ts plan v) no-list planned
+            ∙ ap (λ (bytes : List ℕ). bytes ++ drop (length bytes) plan) nothing;
       }
 
 -- the theorem, of whatever numbers were lent to reading
@@ -55,5 +55,5 @@ pub nothing-to-do : (image : List ℕ) (lent : List ℤ) → readOf image (lengt
     → 1 ≤ length plan → EmptyPlan image (readLeft image lent) address plan
 nothing-to-do image lent read address plan right room =
     let r = is-read image (length lent) read in
-    subst (λ (zs : List ℤ). EmptyPlan image zs address plan) (sym (ap (reading.leftBy image lent) read))
+    subst (λ (zs : List ℤ). EmptyPlan image zs address plan) (sym (ap (leftBy lent (settingsHeld image)) read))
     (meant image (settingsHeld image) (means-itself image (r .judged)) (r .size) (held-length image) address plan right room)

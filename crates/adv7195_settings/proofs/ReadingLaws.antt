@@ -10,20 +10,20 @@ use lib.ListN.{length, replicate, length-replicate}
 use lib.Pow.{pow-pos}
 use borrow.Author.Tests.{eq-eqb, ne-eqb, eqb-true}
 use Rattle.bits.proofs.FlagLaws.{both}
-use Rattle.refusals.specs.Refusal.{Judged}
-use Rattle.refusals.specs.Verdict.{Verdict, good, refusedAt}
+use Rattle.refusals.specs.Refusal.{Judged, valueOr}
+use Rattle.refusals.specs.Verdict.{Verdict, good, refusedAt, leftBy}
 use Rattle.refusals.specs.Order.{firstOf, placesAt, Exactly}
 use Rattle.refusals.proofs.OrderLaws.{exactly}
 use Rattle.field_table.specs.declared.row.Row.{Row}
 use Rattle.field_table.specs.Coding.{outside, decode, plainOf}
-use Rattle.field_table.specs.Walk.{held, settingIn, numbersOf, rowFits}
+use Rattle.field_table.specs.Walk.{held, numbersOf, rowFits}
 use Rattle.field_table.proofs.PlainLaws.{Fits, row-fits, small, read-in, read-out}
 use Rattle.field_table.proofs.RoundTripLaws as table
 use Rattle.adv7195_bus.specs.Kind.{registerCount}
 use Rattle.adv7195_settings.specs.Fields.{byte, nibble, modes, outputs, blocks, filters, fields}
 use Rattle.adv7195_settings.specs.Numbers.{numberCount, partCount, cgmsPart, inBits, joins}
 use Rattle.adv7195_settings.specs.Rows.{imageRow, judgeOf, settingsHeld}
-use Rattle.adv7195_settings.specs.Reading.{rowRead, readOrder, readOf, leftBy, readLeft}
+use Rattle.adv7195_settings.specs.Reading.{rowRead, readOrder, readOf, readLeft}
 use Rattle.adv7195_settings.proofs.NumberLaws as lists
 use Rattle.adv7195_settings.proofs.PlaceLaws.{rows-alike}
 
@@ -74,24 +74,24 @@ is-read image count e = by (eqb (length image) registerCount) (eqb count numberC
     by false t p q e = absurd (never e)
 
 -- all that reading ensures, from the answer and what it leaves
-pub answered : (image : List ℕ) (zs : List ℤ) {v : Found} {l : List ℤ} → v ≡ readOf image (length zs) → l ≡ leftBy image zs v
+pub answered : (image : List ℕ) (zs : List ℤ) {v : Found} {l : List ℤ} → v ≡ readOf image (length zs) → l ≡ leftBy zs (settingsHeld image) v
     → (v ≡ readOf image (length zs)) × ((l ≡ readLeft image zs) × Exactly (rowRead image (length zs)) readOrder tt v)
 unfolding readOf
-answered image zs e h = (e, (h ∙ ap (leftBy image zs) e, exactly (rowRead image (length zs)) readOrder tt e))
+answered image zs e h = (e, (h ∙ ap (leftBy zs (settingsHeld image)) e, exactly (rowRead image (length zs)) readOrder tt e))
 
 -- ---- the settings held
 
 -- what a row's code is read as is a number of its bits
-read-bits : (row : Row) → T (rowFits row) → (c : ℕ) → T (inBits (row .width) (settingIn (decode (plainOf row) c)))
+read-bits : (row : Row) → T (rowFits row) → (c : ℕ) → T (inBits (row .width) (valueOr (pos 0) (decode (plainOf row) c)))
 read-bits row t c = by (outside row (pos c)) refl
   where
     fits : Fits row
     fits = row-fits row t
 
-    same : {j k : Judged ℤ} → j ≡ k → T (inBits (row .width) (settingIn j)) → T (inBits (row .width) (settingIn k))
-    same e h = subst (λ (j : Judged ℤ). T (inBits (row .width) (settingIn j))) e h
+    same : {j k : Judged ℤ} → j ≡ k → T (inBits (row .width) (valueOr (pos 0) j)) → T (inBits (row .width) (valueOr (pos 0) k))
+    same e h = subst (λ (j : Judged ℤ). T (inBits (row .width) (valueOr (pos 0) j))) e h
 
-    by : (b : Bool) → outside row (pos c) ≡ b → T (inBits (row .width) (settingIn (decode (plainOf row) c)))
+    by : (b : Bool) → outside row (pos c) ≡ b → T (inBits (row .width) (valueOr (pos 0) (decode (plainOf row) c)))
     by true o = same (read-out row fits c _ o refl) (lt→ltb 0 (2 ^ row .width) (pow-pos (row .width)))
     by false o = same (read-in row fits c o) (lt→ltb c (2 ^ row .width) (small row fits (pos c) o .1))
 

@@ -10,7 +10,7 @@ use lib.ListN.{length, getD}
 use Rattle.bits.specs.Fields.{bit}
 use Rattle.bits.proofs.FlagLaws.{first}
 use Rattle.bits.proofs.SameLaws.{same-registers}
-use Rattle.field_table.specs.Writes.{puts, Each}
+use Rattle.field_table.specs.Writes.{puts}
 use Rattle.field_table.proofs.WriteLaws.{AllFit, puts-length, puts-bit}
 use Rattle.field_table.proofs.ApartLaws.{puts-held}
 use Rattle.field_table.proofs.RoundTripLaws.{plain-fit, all-apart}
@@ -22,11 +22,12 @@ use Rattle.adv7195_settings.specs.Fields.{fields}
 use Rattle.adv7195_settings.specs.Numbers.{partsOf}
 use Rattle.adv7195_settings.specs.Wanted.{settingWrites, wantedBy, mustBeZero, fieldMask, zeroMask, Demanded}
 use Rattle.adv7195_settings.proofs.TableLaws.{fields-apart, fields-plain, fields-zero, fields-writable}
+use Rattle.bits.specs.Lists.{Every}
 
 -- ---- what settings set
 
 -- every value fits its bits, and these are bits of a register that may be written
-writes-fit : (zs : List ℤ) → Each (FitsIn writable) (settingWrites zs)
+writes-fit : (zs : List ℤ) → Every (FitsIn writable) (settingWrites zs)
 writes-fit zs = fields-fit writable (partsOf zs) fields fields-writable (plain-fit fields fields-plain)
 
 -- the same as the laws of writes have it

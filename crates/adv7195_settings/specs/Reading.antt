@@ -6,7 +6,7 @@ use Prim.Native.Nat.{ℕ}
 use lib.Dec.{eqb}
 use lib.IntN.{ℤ}
 use lib.ListN.{length}
-use Rattle.refusals.specs.Verdict.{Verdict, good, refusedAt}
+use Rattle.refusals.specs.Verdict.{Verdict, leftBy}
 use Rattle.refusals.specs.Order.{Place, firstOf, placesAt}
 use Rattle.adv7195_bus.specs.Kind.{registerCount}
 use Rattle.adv7195_settings.specs.Numbers.{numberCount}
@@ -25,11 +25,6 @@ readOrder = placesAt (1 ∷ 3 ∷ []) 0 ++ order
 unfoldable pub readOf : List ℕ → ℕ → Verdict (Unit {0})
 readOf image count = firstOf (rowRead image count) readOrder tt
 
--- the lent numbers after an answer: the settings that the image holds, or as they were
-abbrev pub leftBy : List ℕ → List ℤ → Verdict (Unit {0}) → List ℤ
-leftBy image zs (good u) = settingsHeld image
-leftBy image zs (refusedAt n f) = zs
-
 -- the lent numbers that reading leaves
 abbrev pub readLeft : List ℕ → List ℤ → List ℤ
-readLeft image zs = leftBy image zs (readOf image (length zs))
+readLeft image zs = leftBy zs (settingsHeld image) (readOf image (length zs))

@@ -1,6 +1,6 @@
 -- What the text of a planner's answer is, from the answer and what is left of the lent plan. Assumes nothing.
 use mathlib.Core.Path.{_≡_, refl, sym, ap, _∙_}
-use mathlib.Core.List.{List, _++_, append-nil}
+use mathlib.Core.List.{List, _++_, append-nil, flatMap}
 use Prim.Native.Nat.{ℕ, _≤_}
 use native.Mathlib.Omega.{arith}
 use lib.ListN.{length, take, drop, length-append}
@@ -16,8 +16,8 @@ use Rattle.listing.specs.declared.Word.the-variants.{Plan}
 use Rattle.listing.specs.Lines.{planLine, refusedLine}
 use Rattle.listing.specs.Written.{wordOf}
 use Rattle.listing.proofs.Beginning.{plan-word, refused-word}
-use Rattle.plan_listing.specs.PlanText.{transactionLines, planText}
-use Rattle.planning.specs.Plan.{Counts, countsOf, leftBy}
+use Rattle.plan_listing.specs.PlanText.{transactionLine}
+use Rattle.planning.specs.Plan.{Counts, countsOf, packedLeft}
 use Rattle.answer_listing.specs.AnswerText.{firstLine, packedBytes, linesBelow, textBelow, answerText, listIn, Holds}
 
 -- ---- a plan that holds an answer
@@ -37,12 +37,11 @@ module _ (plan : List ℕ) where
       absurd (omega arith)
 
   -- the first line and those that follow its word are the answer's text
-  pub text : (v : Verdict Counts) → Holds plan v → textBelow (firstLine v) (listIn plan v) ≡ answerText (listIn plan v) v
-  unfolding planText
+  pub text : (v : Verdict Counts) → Holds plan v → textBelow (firstLine v) (listIn plan v) ≡ answerText transactionLine (listIn plan v) v
   text (good n) h =
       let ts = listIn plan (good n) in
       ap (λ (w : Word). planLine (n .transactions) (n .busBytes) ++ linesBelow w ts) (plan-word (n .transactions) (n .busBytes))
-      ∙ ap (λ (k : Counts). planLine (k .transactions) (k .busBytes) ++ transactionLines ts) (sym (h .counts))
+      ∙ ap (λ (k : Counts). planLine (k .transactions) (k .busBytes) ++ flatMap transactionLine ts) (sym (h .counts))
   text (refusedAt n f) h =
       let line = refusedLine n f in
       ap (λ (w : Word). line ++ linesBelow w (listIn plan (refusedAt n f))) (refused-word n f) ∙ append-nil line
@@ -51,7 +50,7 @@ module _ (plan : List ℕ) where
 
 -- what a planner of a list answers and leaves of the lent plan: the list's counts and its bytes, which unpack to it, or a refusal
 pub record Plans (ts : List Transaction) (plan after : List ℕ) (v : Verdict Counts) : Type 0 where
-  pub left : after ≡ leftBy ts plan v
+  pub left : after ≡ packedLeft ts plan v
   pub counts : (n : Counts) → v ≡ good n → countsOf ts ≡ n
   pub unpacks : (n : Counts) → v ≡ good n → unpack (packed ts) ≡ accepted ts
 
@@ -60,8 +59,8 @@ module _ (ts : List Transaction) (plan after : List ℕ) where
   first-bytes : (n : Counts) → Plans ts plan after (good n) → take (n .length) after ≡ packed ts
   first-bytes n p =
       ap (take (n .length)) (p .left)
-      ∙ ap (λ (k : Counts). take (k .length) (packed ts ++ drop (n .length) plan)) (sym (p .counts n refl))
-      ∙ take-append-seam (packed ts) (drop (n .length) plan)
+      ∙ ap (λ (k : Counts). take (k .length) (packed ts ++ drop (length (packed ts)) plan)) (sym (p .counts n refl))
+      ∙ take-append-seam (packed ts) (drop (length (packed ts)) plan)
 
   -- they unpack to the list
   unpacked : (n : Counts) → Plans ts plan after (good n) → unpack (take (n .length) after) ≡ accepted ts
@@ -77,13 +76,13 @@ module _ (ts : List Transaction) (plan after : List ℕ) where
       let u = unpacked n p in
       let long : n .length ≡ length (packed ts) = sym (ap (λ (k : Counts). k .length) (p .counts n refl)) in
       record {
-        within = omega (arith, long, ap length (p .left), length-append (packed ts) (drop (n .length) plan));
+        within = omega (arith, long, ap length (p .left), length-append (packed ts) (drop (length (packed ts)) plan));
         well-formed = rw u;
         counts = ap (λ (j : Judged (List Transaction)). countsOf (listed j)) u ∙ p .counts n refl;
       }
   holds (refusedAt n f) p = tt
 
   -- and the answer's text is the list's
-  pub text-of : (v : Verdict Counts) → Plans ts plan after v → answerText (listIn after v) v ≡ answerText ts v
-  text-of (good n) p = ap planText (list-is n p)
-  text-of (refusedAt n f) p = refl
+  pub text-of : (text : Transaction → List ℕ) (v : Verdict Counts) → Plans ts plan after v → answerText text (listIn after v) v ≡ answerText text ts v
+  text-of text (good n) p = ap (λ (us : List Transaction). answerText text us (good n)) (list-is n p)
+  text-of text (refusedAt n f) p = refl

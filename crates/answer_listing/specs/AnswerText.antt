@@ -1,18 +1,18 @@
 -- Document 01, "Cases on each side": a program that plans prints transactions, bus bytes, then a line a transaction; or the refusal, by its number and
 -- its field.
 use mathlib.Core.Path.{_≡_}
-use mathlib.Core.List.{List, [], _++_}
+use mathlib.Core.List.{List, [], _++_, flatMap}
 use Prim.Native.Nat.{ℕ, _≤_}
 use lib.ListN.{length, take}
 use Rattle.refusals.specs.Verdict.{Verdict, good, refusedAt}
-use Rattle.bus.specs.Transactions.{Transaction}
+use Rattle.bus.specs.Transactions.{Transaction, busBytes}
 use Rattle.unpacking.specs.Unpacking.{unpack}
 use Rattle.unpacking.specs.Listed.{listed, Accepted}
 use Rattle.listing.specs.declared.Word.{Word}
 use Rattle.listing.specs.declared.Word.the-variants.{Plan, Refused, Other}
 use Rattle.listing.specs.Lines.{planLine, refusedLine}
 use Rattle.listing.specs.Written.{wordOf}
-use Rattle.plan_listing.specs.PlanText.{transactionLines, planText}
+use Rattle.plan_listing.specs.PlanText.{transactionLine}
 use Rattle.planning.specs.Plan.{Counts, countsOf}
 
 -- the first line of an answer: the plan's transactions and bus bytes, or the refusal
@@ -27,7 +27,7 @@ packedBytes (refusedAt n f) = 0
 
 -- the lines that follow a word: a line a transaction below PLAN, none below another
 abbrev pub linesBelow : Word → List Transaction → List ℕ
-linesBelow Plan ts = transactionLines ts
+linesBelow Plan ts = flatMap transactionLine ts
 linesBelow Refused ts = []
 linesBelow Other ts = []
 
@@ -35,10 +35,10 @@ linesBelow Other ts = []
 abbrev pub textBelow : List ℕ → List Transaction → List ℕ
 textBelow line ts = line ++ linesBelow (wordOf line) ts
 
--- the text of an answer: that of the plan's transactions, or the line of the refusal
-abbrev pub answerText : List Transaction → Verdict Counts → List ℕ
-answerText ts (good n) = planText ts
-answerText ts (refusedAt n f) = refusedLine n f
+-- the text of an answer: transactions, bus bytes, then the text of each transaction; or the line of the refusal
+abbrev pub answerText : (Transaction → List ℕ) → List Transaction → Verdict Counts → List ℕ
+answerText text ts (good n) = planLine (length ts) (busBytes ts) ++ flatMap text ts
+answerText text ts (refusedAt n f) = refusedLine n f
 
 -- the transactions of an answer: those that its bytes of the plan unpack to
 abbrev pub listIn : List ℕ → Verdict Counts → List Transaction

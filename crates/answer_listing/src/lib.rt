@@ -4,6 +4,7 @@ ghost use Rattle.unpacking.specs.Unpacking.{unpack};
 ghost use Rattle.unpacking.specs.Listed.{listed, Accepted};
 ghost use Rattle.text.specs.Line.{placeAfter, appended};
 ghost use Rattle.listing.specs.Written.{lineOf, wordOf};
+ghost use Rattle.plan_listing.specs.PlanText.{transactionLine};
 ghost use Rattle.planning.specs.Plan.{answerOf};
 ghost use Rattle.answer_listing.specs.AnswerText.{firstLine, packedBytes, textBelow, listIn, Holds, answerText};
 use listing::Line;
@@ -65,8 +66,8 @@ fn list_answer(out: &mut [u8], line: &[u8], plan: &[u8]) -> Place
 // Writes the text of what a planner answered, with the plan that it left, at the front of the memory lent.
 pub fn answer_listing(out: &mut [u8], planned: Planned, plan: &[u8]) -> Place
     requires { ⌜ Holds (now plan) (answerOf planned) ⌝ }
-    ensures answer { λ r. ⌜ r ≡ placeAfter (now (out .entry)) 0 (answerText (listIn (now (plan .entry)) (answerOf planned)) (answerOf planned)) ⌝ }
-    ensures memory { λ r. ⌜ now (out .exit) ≡ appended (now (out .entry)) 0 (answerText (listIn (now (plan .entry)) (answerOf planned)) (answerOf planned)) ⌝ }
+    ensures answer { λ r. ⌜ r ≡ placeAfter (now (out .entry)) 0 (answerText transactionLine (listIn (now (plan .entry)) (answerOf planned)) (answerOf planned)) ⌝ }
+    ensures memory { λ r. ⌜ now (out .exit) ≡ appended (now (out .entry)) 0 (answerText transactionLine (listIn (now (plan .entry)) (answerOf planned)) (answerOf planned)) ⌝ }
 {
     let packed = packed_bytes(planned);
     let line = first_line(planned);

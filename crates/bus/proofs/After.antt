@@ -2,7 +2,7 @@
 use mathlib.Core.Path.{_≡_, refl, sym, ap, _∙_}
 use mathlib.Core.Logic.{_⊎_, inl, inr}
 use mathlib.Core.Bool.{Bool, true, false, cond}
-use mathlib.Core.List.{List, [], _∷_}
+use mathlib.Core.List.{List, [], _∷_, flatMap}
 use Prim.Native.Nat.{ℕ, suc, _+_, _-_, _≤_, _<_}
 use native.Mathlib.Omega.{arith}
 use lib.Dec.{ltb}
@@ -10,9 +10,9 @@ use lib.ListN.{length, getD, set, length-set}
 use lib.Seq.{getD-set-same}
 use borrow.Author.Tests.{lt-ltb, ltb-true, ltb-false}
 use Rattle.bus.specs.Transactions.{Transaction, end, Touches}
-use Rattle.bus.specs.Chip.{Kind, Chip, store}
+use Rattle.bus.specs.Chip.{Kind, Chip}
 use Rattle.bus.specs.Run.{run, transactionEvents, listEvents, after}
-use Rattle.bus.proofs.Play.{Kept, stores, run-transaction, stores-other, run-list}
+use Rattle.bus.proofs.Play.{store, Kept, stores, run-transaction, stores-other, run-list}
 
 -- the first of some registers, or a later one
 pub later : (i x : ℕ) → i ≤ x → (x ≡ i) ⊎ (suc i ≤ x)
@@ -86,7 +86,7 @@ module _ (κ : Kind) where
   other-next c t r a = rw (run-transaction κ c t) (stores-other κ (t .bytes) (t .subaddress) (c .registers) r a)
 
   pub length-after : (ts : List Transaction) (c : Chip) → length (after κ c ts .registers) ≡ length (c .registers)
-  unfolding run listEvents
+  unfolding run listEvents flatMap
   length-after [] c = refl
   length-after (t ∷ ts) c =
       ap (λ d. length (d .registers)) (run-list κ (κ .address) c t ts) ∙ length-after ts (next c t) ∙ length-next c t

@@ -1,16 +1,16 @@
 -- What a list makes known: the registers that it touches, at the chip's own address, and none at another. Assumes nothing.
-use mathlib.Core.Path.{_≡_, refl, sym, ap, ap₂, _∙_, subst⁻¹}
+use mathlib.Core.Path.{_≡_, refl, sym, ap, ap₂, _∙_}
 use mathlib.Core.Logic.{_⊎_, inl, inr, ⊎-elim, _≢_, _↔_}
 use mathlib.Core.Bool.{Bool, true, false, cond, _&&_, _||_, or-false, or-assoc, false≢true}
-use mathlib.Core.List.{List, [], _∷_, _++_}
+use mathlib.Core.List.{List, [], _∷_, _++_, flatMap}
 use Prim.Native.Nat.{ℕ, zero, suc, _+_, _-_, _*_, _/_, _%_, _^_, _≤_, _<_, max}
 use native.Mathlib.Nat.{mod-lt, pow-suc, add-mul, mul-assoc, mul-comm, one-mul}
 use native.Mathlib.Omega.{arith}
 use lib.Bits.{bitOr, or-step, or-block, or-zero-r, or-shifted-r}
-use lib.Dec.{T, leb, ltb, leb→le, le→leb, ltb→lt, lt→ltb}
+use lib.Dec.{T, leb, ltb, eqb, leb→le, le→leb, ltb→lt, lt→ltb}
 use lib.ListN.{length}
 use lib.Pow.{pow-pos, pow-lt, split}
-use borrow.Author.Tests.{ltb-false, lt-ltb}
+use borrow.Author.Tests.{ltb-true, ltb-false, lt-ltb}
 use Rattle.bits.specs.Maps.{has}
 use Rattle.bits.proofs.DigitLaws.{digit}
 use Rattle.bits.proofs.FlagLaws.{both, first, second, either, left, right}
@@ -18,12 +18,13 @@ use Rattle.bits.proofs.SetLaws.{has-or, has-span, or-assoc as joined-assoc}
 use Rattle.bus.specs.declared.chip.Phase.{Phase}
 use Rattle.bus.specs.declared.chip.Phase.the-variants.{Idle, AwaitAddress, AwaitSubaddress, AwaitData, Sending}
 use Rattle.bus.specs.declared.chip.Event.{Event}
-use Rattle.bus.specs.declared.chip.Event.the-variants.{FromMaster}
-use Rattle.bus.specs.Transactions.{Transaction, size, end, Touches, Touched, Every, touches}
-use Rattle.bus.specs.Chip.{Kind, Chip, store, fromMaster, step}
-use Rattle.bus.specs.Run.{run, dataEvents, transactionEvents, listEvents}
-use Rattle.bus.specs.Known.{mark, marks, marksOf, stored, knownBy, knownAfter}
-use Rattle.bus.proofs.Play.{writing, idle, step-in, opened, called, not-called, opened-in, opened-elsewhere, Kept}
+use Rattle.bus.specs.declared.chip.Event.the-variants.{Start, FromMaster}
+use Rattle.bus.specs.Transactions.{Transaction, size, end, Touches, Touched, touches}
+use Rattle.bus.specs.Chip.{Kind, Chip, entering, accepted, refused, fromMaster, toMaster, step}
+use Rattle.bus.specs.Run.{run, transactionEvents, listEvents}
+use Rattle.bus.specs.Known.{mark, marks, marksOf, knownBy, knownAfter}
+use Rattle.bus.proofs.Play.{dataEvents, store, writing, idle, step-in, opened, called, not-called, opened-in, opened-elsewhere, Kept}
+use Rattle.bits.specs.Lists.{Every}
 
 -- ---- marked registers, as a number
 
@@ -115,13 +116,44 @@ has-marks-of (t ∷ ts) m r =
 
 -- ---- known registers
 
+-- an address is not stored, nor a subaddress, nor what the chip sends
+pub address-not-stored : (κ : Kind) (c : Chip) (b : ℕ) → fromMaster κ AwaitAddress c b .stored ≡ false
+unfolding fromMaster
+address-not-stored κ c b = by (eqb b (κ .address)) (eqb b (κ .address + 1))
+  where
+    by : (x y : Bool) → cond x (accepted (entering AwaitSubaddress c) false) (cond y (accepted (entering Sending c) false) (refused c)) .stored ≡ false
+    by true y = refl
+    by false true = refl
+    by false false = refl
+
+pub subaddress-not-stored : (κ : Kind) (c : Chip) (b : ℕ) → fromMaster κ AwaitSubaddress c b .stored ≡ false
+unfolding fromMaster
+subaddress-not-stored κ c b = by (ltb b (κ .count))
+  where
+    by : (x : Bool) → cond x (accepted (writing b (c .registers)) false) (refused c) .stored ≡ false
+    by true = refl
+    by false = refl
+
+pub sent-not-stored : (n : ℕ) (p : Phase) (c : Chip) (more : Bool) → toMaster n p c more .stored ≡ false
+unfolding toMaster
+sent-not-stored n Idle c more = refl
+sent-not-stored n AwaitAddress c more = refl
+sent-not-stored n AwaitSubaddress c more = refl
+sent-not-stored n AwaitData c more = refl
+sent-not-stored n Sending c more = refl
+
 -- a byte is stored in a register that the chip has
-pub stored-below : (κ : Kind) (p : Phase) (i : ℕ) → stored κ p i ≡ true → i < κ .count
-stored-below κ AwaitData i e = ltb→lt i (κ .count) (first (ltb i (κ .count)) (κ .keeps i) (subst⁻¹ T e tt))
-stored-below κ Idle i e = absurd (false≢true e)
-stored-below κ AwaitAddress i e = absurd (false≢true e)
-stored-below κ AwaitSubaddress i e = absurd (false≢true e)
-stored-below κ Sending i e = absurd (false≢true e)
+pub stored-below : (κ : Kind) (p : Phase) (c : Chip) (b : ℕ) → fromMaster κ p c b .stored ≡ true → c .pointer < κ .count
+unfolding fromMaster
+stored-below κ AwaitData c b s = by (ltb (c .pointer) (κ .count)) refl s
+  where
+    by : (x : Bool) → ltb (c .pointer) (κ .count) ≡ x → fromMaster κ AwaitData c b .stored ≡ true → c .pointer < κ .count
+    by true e h = ltb-true (c .pointer) (κ .count) e
+    by false e h = absurd (false≢true (rw e at h))
+stored-below κ Idle c b e = absurd (false≢true e)
+stored-below κ AwaitAddress c b e = absurd (false≢true (sym (address-not-stored κ c b) ∙ e))
+stored-below κ AwaitSubaddress c b e = absurd (false≢true (sym (subaddress-not-stored κ c b) ∙ e))
+stored-below κ Sending c b e = absurd (false≢true e)
 
 module _ (κ : Kind) where
   -- events one after the other
@@ -133,7 +165,7 @@ module _ (κ : Kind) where
 
   -- data and a stop make nothing known at an idle chip
   known-idle : (bs : List ℕ) (i : ℕ) (l : List ℕ) (known : ℕ) → knownAfter κ (idle i l) known (dataEvents bs) ≡ known
-  unfolding knownAfter knownBy dataEvents step fromMaster
+  unfolding knownAfter knownBy step fromMaster
   known-idle [] i l known = refl
   known-idle (b ∷ bs) i l known = known-idle bs i l known
 
@@ -141,22 +173,35 @@ module _ (κ : Kind) where
   known-data : (bs : List ℕ) (i : ℕ) (l : List ℕ) (known : ℕ)
       → ((x : ℕ) → i ≤ x → x < i + length bs → (x < κ .count) × (κ .keeps x ≡ true))
       → knownAfter κ (writing i l) known (dataEvents bs) ≡ marks known i (length bs)
-  unfolding knownAfter knownBy dataEvents marks
+  unfolding knownAfter knownBy step fromMaster marks
   known-data [] i l known h = refl
   known-data (b ∷ bs) i l known h =
       let here = h i (omega arith) (omega arith) in
       let inside = lt-ltb i (κ .count) (here .0) in
-      let kept : stored κ AwaitData i ≡ true = rw (inside, here .1) in
+      let kept : step κ (writing i l) (FromMaster b) .stored ≡ true = rw (inside, here .1) in
       ap₂ (λ d (x : ℕ). knownAfter κ d x (dataEvents bs)) (step-in κ i b l inside) (ap (λ (t : Bool). cond t (mark known i) known) kept)
       ∙ known-data bs (suc i) (store (κ .keeps) l i b) (mark known i) (λ x u v. h x (omega arith) (omega arith))
+
+  -- start, an address and a subaddress make nothing known
+  known-opened : (a i : ℕ) (es : List Event) (c d : Chip) (known : ℕ)
+      → step κ (step κ c Start .chip) (FromMaster a) .chip ≡ d → step κ d (FromMaster i) .stored ≡ false
+      → knownAfter κ c known (Start ∷ FromMaster a ∷ FromMaster i ∷ es) ≡ knownAfter κ (opened κ c a i) known es
+  unfolding knownAfter knownBy step
+  known-opened a i es c d known e f =
+      let called = step κ (step κ c Start .chip) (FromMaster a) .chip in
+      ap₂ (λ (x y : Bool).
+      let k = cond x (mark known (c .pointer)) known in
+      knownAfter κ (opened κ c a i) (cond y (mark k (called .pointer)) k) es)
+      (address-not-stored κ (entering AwaitAddress c) a) (ap (λ k. step κ k (FromMaster i) .stored) e ∙ f)
 
   -- a transaction makes known the registers that it touches
   known-transaction : (c : Chip) (known : ℕ) (t : Transaction) → Kept κ t
       → knownAfter κ c known (transactionEvents (κ .address) t) ≡ marks known (t .subaddress) (size t)
-  unfolding knownAfter knownBy transactionEvents dataEvents step marks
+  unfolding knownAfter knownBy transactionEvents step marks
   known-transaction c known t h =
       let i = t .subaddress in
-      ap (λ d. knownAfter κ (opened κ c (κ .address) i) (knownBy κ d known (FromMaster i)) (dataEvents (t .bytes))) (called κ c)
+      known-opened (κ .address) i (dataEvents (t .bytes)) c (entering AwaitSubaddress c) known (called κ c)
+      (subaddress-not-stored κ (entering AwaitSubaddress c) i)
       ∙ by (ltb i (κ .count)) refl (t .bytes) h
     where
       by : (b : Bool) → ltb (t .subaddress) (κ .count) ≡ b → (bs : List ℕ) → Kept κ (record { subaddress = t .subaddress; bytes = bs })
@@ -170,7 +215,7 @@ module _ (κ : Kind) where
   -- a list makes known the registers that it touches, as a number
   pub known-marks : (ts : List Transaction) (c : Chip) (known : ℕ) → Every (Kept κ) ts
       → knownAfter κ c known (listEvents (κ .address) ts) ≡ marksOf known ts
-  unfolding knownAfter listEvents marksOf
+  unfolding knownAfter listEvents flatMap marksOf
   known-marks [] c known h = refl
   known-marks (t ∷ ts) c known h =
       let es = transactionEvents (κ .address) t in
@@ -186,15 +231,15 @@ module _ (κ : Kind) where
   -- at an address that is not the chip's a list makes nothing known
   module _ (a : ℕ) (w : a ≢ κ .address) (r : a ≢ κ .address + 1) where
     nothing-known : (c : Chip) (known : ℕ) (t : Transaction) → knownAfter κ c known (transactionEvents a t) ≡ known
-    unfolding knownAfter knownBy transactionEvents step
+    unfolding transactionEvents step fromMaster
     nothing-known c known t =
         let i = t .subaddress in
-        ap (λ d. knownAfter κ (opened κ c a i) (knownBy κ d known (FromMaster i)) (dataEvents (t .bytes))) (not-called κ c a w r)
+        known-opened a i (dataEvents (t .bytes)) c (entering Idle c) known (not-called κ c a w r) refl
         ∙ ap (λ d. knownAfter κ d known (dataEvents (t .bytes))) (opened-elsewhere κ c a i w r)
         ∙ known-idle (t .bytes) (c .pointer) (c .registers) known
 
     pub known-elsewhere : (ts : List Transaction) (c : Chip) (known : ℕ) → knownAfter κ c known (listEvents a ts) ≡ known
-    unfolding knownAfter listEvents
+    unfolding knownAfter listEvents flatMap
     known-elsewhere [] c known = refl
     known-elsewhere (t ∷ ts) c known =
         let es = transactionEvents a t in

@@ -3,20 +3,21 @@
 use mathlib.Core.Path.{_≡_, refl, sym, ap, _∙_}
 use mathlib.Core.Logic.{_≢_}
 use mathlib.Core.Bool.{true}
-use mathlib.Core.List.{List, [], _∷_, _++_}
+use mathlib.Core.List.{List, [], _∷_, _++_, flatMap}
 use Prim.Native.Nat.{ℕ, suc, _+_, _-_, _≤_, _<_}
 use native.Mathlib.Omega.{arith}
 use lib.Dec.{eqb}
 use lib.ListN.{length, set}
 use lib.Seq.{sets, length-sets}
 use borrow.Author.Tests.{lt-ltb, ne-eqb}
-use Rattle.bus.specs.Transactions.{Transaction, size, end, Every}
+use Rattle.bus.specs.Transactions.{Transaction, size, end}
 use Rattle.bus.specs.Chip.{Kind, Chip}
 use Rattle.bus.specs.Run.{run, allAcknowledged, listEvents, after}
 use Rattle.bus.specs.Written.{allWritten}
 use Rattle.bus.proofs.Play.{Kept, stores, run-transaction, run-list}
 use Rattle.bus.proofs.Acknowledged.{Fits, acknowledged-list, unacknowledged-elsewhere}
 use Rattle.bus.proofs.After.{next}
+use Rattle.bits.specs.Lists.{Every}
 
 -- ---- the data of a list
 
@@ -50,7 +51,7 @@ module _ (κ : Kind) where
 
   -- so does a list
   pub run-written : (ts : List Transaction) (c : Chip) → Every (Kept κ) ts → after κ c ts .registers ≡ allWritten (c .registers) ts
-  unfolding run listEvents allWritten
+  unfolding run listEvents flatMap allWritten
   run-written [] c h = refl
   run-written (t ∷ ts) c h =
       ap (λ (d : Chip). d .registers) (run-list κ (κ .address) c t ts) ∙ run-written ts (next κ c t) (h .1)
@@ -70,6 +71,6 @@ module _ (κ : Kind) where
   -- at an address that is not the chip's only the empty list is
   pub only-empty : (a : ℕ) → a ≢ κ .address → a ≢ κ .address + 1 → (ts : List Transaction) (c : Chip)
       → allAcknowledged κ c (listEvents a ts) ≡ eqb (length ts) 0
-  unfolding listEvents allAcknowledged
+  unfolding listEvents flatMap allAcknowledged
   only-empty a w r [] c = refl
   only-empty a w r (t ∷ ts) c = unacknowledged-elsewhere κ a w r t ts c ∙ sym (ne-eqb (length (t ∷ ts)) 0 (λ p. omega arith))

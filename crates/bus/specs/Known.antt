@@ -1,14 +1,10 @@
 -- Document 02, P5: of a board we may know only some registers. A stored byte makes its register known; a byte that is dropped, and one that is read, make
 -- none known. Known registers are a map: bit r for register r.
-use mathlib.Core.Bool.{Bool, false, cond, _&&_}
+use mathlib.Core.Bool.{cond}
 use mathlib.Core.List.{List, [], _∷_}
 use Prim.Native.Nat.{ℕ, zero, suc, _+_, _^_}
-use lib.Dec.{ltb}
 use Rattle.bits.specs.Maps.{has}
-use Rattle.bus.specs.declared.chip.Phase.{Phase}
-use Rattle.bus.specs.declared.chip.Phase.the-variants.{Idle, AwaitAddress, AwaitSubaddress, AwaitData, Sending}
 use Rattle.bus.specs.declared.chip.Event.{Event}
-use Rattle.bus.specs.declared.chip.Event.the-variants.{Start, Stop, FromMaster, ToMaster}
 use Rattle.bus.specs.Transactions.{Transaction, size}
 use Rattle.bus.specs.Chip.{Kind, Chip, step}
 
@@ -26,20 +22,9 @@ unfoldable pub marksOf : ℕ → List Transaction → ℕ
 marksOf map [] = map
 marksOf map (t ∷ ts) = marksOf (marks map (t .subaddress) (size t)) ts
 
--- a byte from the master is stored at the pointer: the chip waits for data, and has a register there that keeps them
-abbrev pub stored : Kind → Phase → ℕ → Bool
-stored κ Idle pointer = false
-stored κ AwaitAddress pointer = false
-stored κ AwaitSubaddress pointer = false
-stored κ AwaitData pointer = ltb pointer (κ .count) && κ .keeps pointer
-stored κ Sending pointer = false
-
 -- the known registers after an event
 unfoldable pub knownBy : Kind → Chip → ℕ → Event → ℕ
-knownBy κ c known Start = known
-knownBy κ c known Stop = known
-knownBy κ c known (FromMaster b) = cond (stored κ (c .phase) (c .pointer)) (mark known (c .pointer)) known
-knownBy κ c known (ToMaster more) = known
+knownBy κ c known e = cond (step κ c e .stored) (mark known (c .pointer)) known
 
 -- the known registers after some events
 unfoldable pub knownAfter : Kind → Chip → ℕ → List Event → ℕ

@@ -3,7 +3,8 @@ ghost use mathlib.Core.Path.{_≡_};
 ghost use mathlib.Core.List.{List};
 ghost use Prim.Native.Nat.{ℕ, _≤_, _<_};
 ghost use Rattle.bits.specs.Maps.{mapWidth};
-ghost use Rattle.bus.specs.Known.{mark as markOf, stored as storedOf, knownBy};
+ghost use Rattle.bus.specs.Chip.{fromMaster};
+ghost use Rattle.bus.specs.Known.{mark as markOf, knownBy};
 ghost use Rattle.bus.specs.Lent.{kindOf, chipAt};
 use crate::chip::Event;
 use crate::chip::Phase;
@@ -17,9 +18,9 @@ fn mark(map: u64, register: usize) -> u64
     map | (1 << register)
 }
 
-// Whether a byte from the master is stored at the pointer of a chip with that many registers, whatever its address.
+// Whether a byte from the master is stored at the pointer of a chip with that many registers, whatever its address, the bytes that it holds and the byte.
 fn stored(phase: Phase, pointer: usize, dropped: u64, registers: usize) -> bool
-    ensures answer { λ r. ⌜ ((own : ℕ) → r ≡ storedOf (kindOf own dropped registers) phase pointer) ⌝ }
+    ensures answer { λ r. ⌜ ((own : ℕ) (bytes : List ℕ) (byte : ℕ) → r ≡ fromMaster (kindOf own dropped registers) phase (chipAt phase pointer bytes) byte .stored) ⌝ }
 {
     match phase {
         Phase::AwaitData => pointer < registers && !bits::maps::has(dropped, pointer as u64),

@@ -9,7 +9,7 @@ use borrow.Author.Tests.{not-false}
 use Rattle.refusals.specs.Verdict.{Verdict, good}
 use Rattle.refusals.specs.Order.{placesAt}
 use Rattle.refusals.proofs.OrderLaws.{good-none}
-use Rattle.planning.specs.Plan.{Counts, countsOf, leftBy}
+use Rattle.planning.specs.Plan.{Counts, countsOf, packedLeft}
 use Rattle.answer_listing.proofs.AnswerLaws.{Plans}
 use Rattle.adv7194_bus.specs.Kind.{boardAddress}
 use Rattle.adv7194_captions.specs.Pairs.{pairsRight, captionList}
@@ -30,7 +30,7 @@ module _ (extended ordinary : List ℤ) (plan : List ℕ) where
       → (v : Verdict Counts) → v ≡ captionPlanning extended ordinary boardAddress (length plan) → Plans (captionList extended ordinary) plan after v
   plans after memory v answer =
       record {
-        left = memory ∙ ap (leftBy (captionList extended ordinary) plan) (sym answer);
+        left = memory ∙ ap (packedLeft (captionList extended ordinary) plan) (sym answer);
         counts = λ n e. answered n (sym answer ∙ e) .0;
         unpacks = λ n e. captions-unpack extended ordinary (answered n (sym answer ∙ e) .1);
       }

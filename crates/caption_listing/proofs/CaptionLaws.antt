@@ -8,7 +8,7 @@ use lib.Dec.{eqb}
 use lib.IntN.{ℤ, pos}
 use lib.ListN.{length, take, drop}
 use borrow.Author.Tests.{le-leb}
-use Rattle.bus.specs.Transactions.{Transaction, size, busBytes, Every}
+use Rattle.bus.specs.Transactions.{Transaction, size, busBytes}
 use Rattle.bus.specs.Cost.{dataCount}
 use Rattle.bus.proofs.CostLaws.{bytes-count}
 use Rattle.packing.specs.Packing.{packed}
@@ -16,8 +16,8 @@ use Rattle.packing.proofs.PackedLaws.{packed-length}
 use Rattle.text.proofs.Numerals.{decimal-most}
 use Rattle.text.specs.Text.{leading, decimal}
 use Rattle.listing.specs.Lines.{countsLine, refusedLine}
-use Rattle.plan_listing.specs.PlanText.{planText}
-use Rattle.plan_listing.proofs.TextLaws.{first-length, text-length}
+use Rattle.plan_listing.specs.PlanText.{transactionLine}
+use Rattle.plan_listing.proofs.TextLaws.{planText, first-length, text-length}
 use Rattle.answer_listing.specs.AnswerText.{answerText}
 use Rattle.adv7194_bus.specs.Kind.{boardAddress}
 use Rattle.adv7194_captions.specs.Pairs.{captionField, pairsRight, captionList}
@@ -26,6 +26,7 @@ use Rattle.adv7194_captions.proofs.ListLaws.{captions-length, captions-sized}
 use Rattle.adv7194_captions.proofs.RowLaws.{wrong-pairs, right-pairs}
 use Rattle.adv7194_caption_planning.specs.Demands.{captionBytes}
 use Rattle.caption_listing.specs.CaptionText.{pairsText, captionText}
+use Rattle.bits.specs.Lists.{Every}
 
 -- the most bytes of a text
 abbrev pub mostText : ℕ
@@ -48,13 +49,13 @@ module _ (extended ordinary : List ℤ) where
   unfolding pairsText
   right-text h =
       let ts = captionList extended ordinary in
-      ap (answerText ts) (right-pairs extended ordinary boardAddress captionBytes refl h)
+      ap (answerText transactionLine ts) (right-pairs extended ordinary boardAddress captionBytes refl h)
       ∙ rw (le-leb (length (packed ts)) captionBytes (captions-length extended ordinary h))
 
   -- others are refused
   pub wrong-text : pairsRight extended ordinary ≡ false → pairsText extended ordinary ≡ refusedLine 3 captionField
   unfolding pairsText
-  wrong-text h = ap (answerText (captionList extended ordinary)) (wrong-pairs extended ordinary boardAddress captionBytes refl h)
+  wrong-text h = ap (answerText transactionLine (captionList extended ordinary)) (wrong-pairs extended ordinary boardAddress captionBytes refl h)
 
   -- a plan's text is short
   planned-short : pairsRight extended ordinary ≡ true → length (planText (captionList extended ordinary)) ≤ mostText

@@ -7,6 +7,7 @@ use lib.Dec.{eqb}
 use lib.IntN.{ℤ, pos}
 use lib.ListN.{length, take, drop}
 use Rattle.listing.specs.Lines.{refusedLine}
+use Rattle.plan_listing.specs.PlanText.{transactionLine}
 use Rattle.answer_listing.specs.AnswerText.{answerText}
 use Rattle.adv7194_bus.specs.Kind.{boardAddress}
 use Rattle.adv7194_captions.specs.Pairs.{captionField, captionList}
@@ -16,7 +17,7 @@ use Rattle.adv7194_caption_planning.specs.Demands.{captionBytes}
 
 -- the text of one or both pairs planned, with room for the longest plan
 unfoldable pub pairsText : List ℤ → List ℤ → List ℕ
-pairsText extended ordinary = answerText (captionList extended ordinary) (captionPlanning extended ordinary boardAddress captionBytes)
+pairsText extended ordinary = answerText transactionLine (captionList extended ordinary) (captionPlanning extended ordinary boardAddress captionBytes)
 
 -- the text for an input's bytes
 unfoldable pub captionText : List ℕ → List ℕ

@@ -2,12 +2,12 @@
 mod parts;
 
 ghost use mathlib.Core.Bool.{cond};
-ghost use mathlib.Core.List.{[]};
+ghost use mathlib.Core.List.{[], flatMap};
 ghost use Prim.Native.Nat.{_+_, _*_, _≤_, _<_};
 ghost use lib.ListN.{length};
 ghost use Rattle.writing.specs.Put.{Put};
 ghost use Rattle.adv7194_compare.specs.Differences.{fieldDiffers, fieldsDiffering};
-ghost use Rattle.compare_fields.specs.FieldLines.{fieldLine, linesOf};
+ghost use Rattle.compare_fields.specs.FieldLines.{fieldLine};
 ghost use Rattle.compare_fields.specs.Widths.{fieldWidth};
 use adv7194_compare::LAST_FIELD;
 use adv7194_compare::field_differs;
@@ -69,7 +69,7 @@ pub fn field_lines(
     right: &[i32],
 ) -> usize
     requires { ⌜ at + fieldWidth * 28 ≤ length (now line) ⌝ }
-    ensures written { λ r. ⌜ Put (fieldWidth * 28) (now (line .entry)) at (linesOf (fieldLine readable (now (a .entry)) (now (b .entry)) (now (left .entry)) (now (right .entry))) (fieldsDiffering (now (a .entry)) (now (b .entry)))) (now (line .exit)) r ⌝ }
+    ensures written { λ r. ⌜ Put (fieldWidth * 28) (now (line .entry)) at (flatMap (fieldLine readable (now (a .entry)) (now (b .entry)) (now (left .entry)) (now (right .entry))) (fieldsDiffering (now (a .entry)) (now (b .entry)))) (now (line .exit)) r ⌝ }
 {
     let mut place = at;
     let mut field: u8 = 1;

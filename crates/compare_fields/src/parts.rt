@@ -1,14 +1,18 @@
 // What is shown of a field on one side: its setting, or its raw code. Each function answers the place after what it wrote.
+ghost use mathlib.Core.Bool.{cond};
+ghost use mathlib.Core.List.{[], reverse, flatMap};
 ghost use Prim.Native.Nat.{_+_, _≤_, _<_};
 ghost use lib.ListN.{length};
+ghost use Rattle.text.specs.Text.{hexByte, hexText};
 ghost use Rattle.adv7194_bus.specs.Kind.{registerCount};
 ghost use Rattle.adv7194_table.specs.Blocks.{word};
 ghost use Rattle.adv7194_table.specs.RawCodes.{rawCode};
+ghost use Rattle.writing.specs.Ascii.{ascii};
 ghost use Rattle.writing.specs.Put.{Put};
 ghost use Rattle.adv7194_names.specs.Widths.{curveWidth};
-ghost use Rattle.adv7194_listing.specs.Faults.{hexText};
 ghost use Rattle.compare_fields.specs.Widths.{rawWidth, sideWidth};
-ghost use Rattle.compare_fields.specs.Values.{ownText, wordText, fieldValue, markOf, sideOf};
+ghost use Rattle.compare_fields.specs.Values.{ownText, fieldValue, sideOf};
+ghost use Rattle.field_table.specs.Blocks.{slice};
 use adv7194_bus::REGISTERS;
 use adv7194_lines::kinds::put_curve;
 use adv7194_lines::kinds::put_signalling;
@@ -64,7 +68,7 @@ fn put_raw(line: &mut [u8], at: usize, image: &[u8], field: u8) -> usize
 // Writes the subcarrier word, the highest byte first.
 fn put_word(line: &mut [u8], at: usize, image: &[u8]) -> usize
     requires { ⌜ at + curveWidth ≤ length (now line) ⌝ }
-    ensures written { λ r. ⌜ Put curveWidth (now (line .entry)) at (wordText (now (image .entry)) (word .register) (word .registers)) (now (line .exit)) r ⌝ }
+    ensures written { λ r. ⌜ Put curveWidth (now (line .entry)) at (flatMap hexByte (reverse (slice 0 (now (image .entry)) (word .register) (word .registers)))) (now (line .exit)) r ⌝ }
 {
     let first = block_of(WORD).register;
     let numbers = [
@@ -118,7 +122,7 @@ pub(crate) fn put_side(
 // Writes what tells a raw code.
 pub(crate) fn put_mark(line: &mut [u8], at: usize, readable: bool) -> usize
     requires { ⌜ at + 4 ≤ length (now line) ⌝ }
-    ensures written { λ r. ⌜ Put 4 (now (line .entry)) at (markOf readable) (now (line .exit)) r ⌝ }
+    ensures written { λ r. ⌜ Put 4 (now (line .entry)) at (cond readable [] (ascii " raw")) (now (line .exit)) r ⌝ }
 {
     if readable {
         return at;

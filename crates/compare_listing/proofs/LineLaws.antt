@@ -1,7 +1,7 @@
 -- The lines of the registers that differ; and how many differences there are, by the ones of their map. Assumes nothing.
 use mathlib.Core.Path.{_≡_, refl, sym, ap, ap₂, _∙_}
 use mathlib.Core.Bool.{Bool, true, false, cond}
-use mathlib.Core.List.{List, [], _∷_, _++_}
+use mathlib.Core.List.{List, [], _∷_, _++_, flatMap}
 use Prim.Native.Nat.{ℕ, zero, suc, _+_, _*_, _/_, _%_, _^_, _<_}
 use native.Mathlib.Nat.{pow-suc}
 use native.Mathlib.Omega.{arith}
@@ -18,12 +18,11 @@ use Rattle.adv7194_table.specs.RawCodes.{outsideBits}
 use Rattle.adv7194_table.proofs.TableLaws.{order-is}
 use Rattle.adv7194_compare.specs.Differences.{those, fieldDiffers, fieldsDiffering, registerDiffers, registersDiffering, mapOf}
 use Rattle.adv7194_compare.proofs.DifferenceLaws.{mapFrom, map-next, map-none, fields-map}
-use Rattle.compare_fields.specs.FieldLines.{linesOf}
 use Rattle.compare_fields.proofs.LineLaws.{thoseFrom, linesFrom}
 use Rattle.compare_listing.specs.CompareText.{registerLine}
 
 -- the lines of the registers that differ
-pub register-lines-all : (a b : List ℕ) (f : ℕ → List ℕ) → linesFrom (registerDiffers a b) f 0 registerCount ≡ linesOf f (registersDiffering a b)
+pub register-lines-all : (a b : List ℕ) (f : ℕ → List ℕ) → linesFrom (registerDiffers a b) f 0 registerCount ≡ flatMap f (registersDiffering a b)
 unfolding registersDiffering
 register-lines-all a b f = refl
 

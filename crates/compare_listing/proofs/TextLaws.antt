@@ -8,7 +8,7 @@ use Rattle.listing.specs.Lines.{refusedLine}
 use Rattle.adv7194_settings.specs.Held.{settingsHeld}
 use Rattle.adv7194_compare.specs.Compare.{canBeRead, whole}
 use Rattle.compare_fields.specs.FieldLines.{fieldLine}
-use Rattle.compare_listing.specs.CompareText.{sideText, sidesText, compareText}
+use Rattle.compare_listing.specs.CompareText.{sideText, compareText}
 
 module _ (a b : List ℕ) where
   -- raw codes don't depend on numbers
@@ -20,7 +20,8 @@ module _ (a b : List ℕ) where
   left-numbers y z false v = refl
 
   pub by-reading : (y z : List ℤ) {s t u : Bool} {x x' : List ℤ} → u ≡ (s && t) → s ≡ canBeRead a → t ≡ canBeRead b
-      → x ≡ cond (canBeRead a) (settingsHeld a) y → x' ≡ cond (canBeRead b) (settingsHeld b) z → sideText u a b x x' ≡ sidesText a b
+      → x ≡ cond (canBeRead a) (settingsHeld a) y → x' ≡ cond (canBeRead b) (settingsHeld b) z
+      → sideText u a b x x' ≡ sideText (canBeRead a && canBeRead b) a b (settingsHeld a) (settingsHeld b)
   by-reading y z {s} {t} {u} {x} {x'} e f g h k = rw (e, f, g, h, k) (left-numbers y z (canBeRead a) (canBeRead b))
 
   -- by the lengths
@@ -32,6 +33,6 @@ module _ (a b : List ℕ) where
   unfolding compareText
   second-short h k = rw (h, k)
 
-  pub both-whole : whole a ≡ true → whole b ≡ true → sidesText a b ≡ compareText a b
+  pub both-whole : whole a ≡ true → whole b ≡ true → sideText (canBeRead a && canBeRead b) a b (settingsHeld a) (settingsHeld b) ≡ compareText a b
   unfolding compareText
   both-whole h k = rw (h, k)

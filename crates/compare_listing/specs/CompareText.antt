@@ -2,7 +2,7 @@
 -- with both settings, or both raw codes where reading refuses either image; then a line for each register that differs in bits outside all fields. Or the
 -- refusal.
 use mathlib.Core.Bool.{Bool, cond, _&&_}
-use mathlib.Core.List.{List, _++_}
+use mathlib.Core.List.{List, _++_, flatMap}
 use Prim.Native.Nat.{ℕ, _+_}
 use lib.IntN.{ℤ}
 use lib.ListN.{length}
@@ -13,7 +13,7 @@ use Rattle.adv7194_settings.specs.Held.{settingsHeld}
 use Rattle.writing.specs.Ascii.{ascii}
 use Rattle.adv7194_compare.specs.Differences.{fieldsDiffering, registersDiffering}
 use Rattle.adv7194_compare.specs.Compare.{canBeRead, whole}
-use Rattle.compare_fields.specs.FieldLines.{fieldLine, linesOf}
+use Rattle.compare_fields.specs.FieldLines.{fieldLine}
 
 -- `DIFFERENCES n`
 unfoldable pub countLine : ℕ → List ℕ
@@ -27,13 +27,9 @@ registerLine a b r = ascii "register " ++ hexByte r ++ space ++ hexByte (outside
 unfoldable pub sideText : Bool → List ℕ → List ℕ → List ℤ → List ℤ → List ℕ
 sideText both a b za zb =
     countLine (length (fieldsDiffering a b) + length (registersDiffering a b))
-    ++ linesOf (fieldLine both a b za zb) (fieldsDiffering a b)
-    ++ linesOf (registerLine a b) (registersDiffering a b)
-
--- the text of two images of the right length
-abbrev pub sidesText : List ℕ → List ℕ → List ℕ
-sidesText a b = sideText (canBeRead a && canBeRead b) a b (settingsHeld a) (settingsHeld b)
+    ++ flatMap (fieldLine both a b za zb) (fieldsDiffering a b)
+    ++ flatMap (registerLine a b) (registersDiffering a b)
 
 -- the text of two images
 unfoldable pub compareText : List ℕ → List ℕ → List ℕ
-compareText a b = cond (whole a && whole b) (sidesText a b) (refusedLine 1 0)
+compareText a b = cond (whole a && whole b) (sideText (canBeRead a && canBeRead b) a b (settingsHeld a) (settingsHeld b)) (refusedLine 1 0)

@@ -6,9 +6,11 @@ ghost use lib.ListN.{length};
 ghost use Rattle.text.specs.Line.{placeAfter, appended};
 ghost use Rattle.listing.specs.Lines.{refusedLine};
 ghost use Rattle.writing.specs.Put.{Put};
+ghost use Rattle.adv7194_settings.specs.Held.{settingsHeld};
+ghost use Rattle.adv7194_compare.specs.Compare.{canBeRead};
 ghost use Rattle.adv7194_compare.specs.Differences.{fieldsDiffering, registersDiffering};
 ghost use Rattle.compare_listing.specs.Widths.{textWidth};
-ghost use Rattle.compare_listing.specs.CompareText.{sideText, sidesText, compareText};
+ghost use Rattle.compare_listing.specs.CompareText.{sideText, compareText};
 use adv7194_compare::fields_differing;
 use adv7194_compare::registers_differing;
 use adv7194_compare::taken;
@@ -83,8 +85,8 @@ fn both(first: bool, second: bool) -> bool
 
 // Reads two images of the right length, and writes their text at the front of the memory lent.
 fn list_images(out: &mut [u8], a: &[u8], b: &[u8]) -> Place
-    ensures answer { λ r. ⌜ r ≡ placeAfter (now (out .entry)) 0 (sidesText (now (a .entry)) (now (b .entry))) ⌝ }
-    ensures memory { λ r. ⌜ now (out .exit) ≡ appended (now (out .entry)) 0 (sidesText (now (a .entry)) (now (b .entry))) ⌝ }
+    ensures answer { λ r. ⌜ r ≡ placeAfter (now (out .entry)) 0 (sideText (canBeRead (now (a .entry)) && canBeRead (now (b .entry))) (now (a .entry)) (now (b .entry)) (settingsHeld (now (a .entry))) (settingsHeld (now (b .entry)))) ⌝ }
+    ensures memory { λ r. ⌜ now (out .exit) ≡ appended (now (out .entry)) 0 (sideText (canBeRead (now (a .entry)) && canBeRead (now (b .entry))) (now (a .entry)) (now (b .entry)) (settingsHeld (now (a .entry))) (settingsHeld (now (b .entry)))) ⌝ }
 {
     let mut left = [0i32; NUMBERS];
     let mut right = [0i32; NUMBERS];

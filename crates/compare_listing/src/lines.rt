@@ -1,12 +1,11 @@
 // The lines of the registers of two images that differ in bits outside all fields. Each function answers the place after what it wrote.
 ghost use mathlib.Core.Bool.{cond};
-ghost use mathlib.Core.List.{[]};
+ghost use mathlib.Core.List.{[], flatMap};
 ghost use Prim.Native.Nat.{_+_, _*_, _≤_, _<_};
 ghost use lib.ListN.{length};
 ghost use Rattle.adv7194_bus.specs.Kind.{registerCount};
 ghost use Rattle.writing.specs.Put.{Put};
 ghost use Rattle.adv7194_compare.specs.Differences.{registerDiffers, registersDiffering};
-ghost use Rattle.compare_fields.specs.FieldLines.{linesOf};
 ghost use Rattle.compare_listing.specs.CompareText.{registerLine};
 ghost use Rattle.compare_listing.specs.Widths.{registerWidth};
 use adv7194_bus::REGISTERS;
@@ -41,7 +40,7 @@ fn register_line(line: &mut [u8], at: usize, a: &[u8], b: &[u8], register: usize
 // Writes a line for each register that differs in bits outside all fields.
 pub(crate) fn register_lines(line: &mut [u8], at: usize, a: &[u8], b: &[u8]) -> usize
     requires { ⌜ at + registerWidth * 54 ≤ length (now line) ⌝ }
-    ensures written { λ r. ⌜ Put (registerWidth * 54) (now (line .entry)) at (linesOf (registerLine (now (a .entry)) (now (b .entry))) (registersDiffering (now (a .entry)) (now (b .entry)))) (now (line .exit)) r ⌝ }
+    ensures written { λ r. ⌜ Put (registerWidth * 54) (now (line .entry)) at (flatMap (registerLine (now (a .entry)) (now (b .entry))) (registersDiffering (now (a .entry)) (now (b .entry)))) (now (line .exit)) r ⌝ }
 {
     let mut place = at;
     let mut register: usize = 0;

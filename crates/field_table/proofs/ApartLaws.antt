@@ -14,8 +14,9 @@ use borrow.Author.Tests.{eqb-true, eqb-false}
 use Rattle.bits.specs.Fields.{field, withField}
 use Rattle.bits.proofs.FieldLaws.{above, under, write-back}
 use Rattle.bits.proofs.FlagLaws.{first, second, either}
-use Rattle.field_table.specs.Writes.{Write, put, puts, held, Each, AllHeld}
+use Rattle.field_table.specs.Writes.{Write, put, puts, held, AllHeld}
 use Rattle.field_table.proofs.WriteLaws.{AllFit}
+use Rattle.bits.specs.Lists.{Every}
 
 -- ---- no two set the same bit
 
@@ -100,7 +101,7 @@ puts-held image (w ∷ ws) t h =
 
 -- the bits of each write are its value already
 abbrev pub AllThere : List ℕ → List Write → Type 0
-AllThere image ws = Each (λ w. held image w ≡ w .value) ws
+AllThere image ws = Every (λ w. held image w ≡ w .value) ws
 
 -- such writes leave the image
 pub puts-there : (image : List ℕ) (ws : List Write) → AllThere image ws → puts image ws ≡ image

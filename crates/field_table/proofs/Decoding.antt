@@ -13,9 +13,14 @@ use Rattle.refusals.specs.Refusal.{accepted, refused}
 use Rattle.rounding.proofs.First.{first-is, first-found, flag}
 use Rattle.rounding.proofs.Range.{both-l, both-r}
 use Rattle.field_table.specs.Rows.{refusalOutside}
-use Rattle.field_table.specs.Coding.{Field, outside, codeOf, encode, has, hasAt, settingAt, span, leastMagnitude, decode}
+use Rattle.field_table.specs.Coding.{Field, outside, codeOf, encode, has, hasAt, settingAt, leastMagnitude, decode}
 use Rattle.field_table.specs.RoundTrip.{onlyZero}
 use Rattle.field_table.proofs.Judging.{inside-coded, neither-l, neither-r}
+use Rattle.field_table.specs.declared.row.Row.{Row}
+
+-- the largest magnitude of a setting
+abbrev span : Row → ℕ
+span r = max (natAbs (r .low)) (natAbs (r .high))
 
 -- s has the code, and every other setting that has it is further from zero
 pub record NearestZero (f : Field) (c : ℕ) (s : ℤ) : Type 0 where

@@ -14,10 +14,11 @@ use Rattle.bits.specs.Fields.{bit, withField}
 use Rattle.bits.proofs.FieldLaws.{with-lt}
 use Rattle.bits.proofs.FlagLaws.{first, second}
 use Rattle.field_table.specs.Coding.{Field}
-use Rattle.field_table.specs.Writes.{Write, put, puts, sets, bitAfter, Each}
+use Rattle.field_table.specs.Writes.{Write, put, puts, sets, bitAfter}
 use Rattle.field_table.specs.Walk.{given, writesOf, bitsFit}
 use Rattle.field_table.proofs.WriteLaws.{AllFit}
 use Rattle.field_table.proofs.RoundTripLaws.{All, CodesFit}
+use Rattle.bits.specs.Lists.{Every}
 
 -- ---- writes
 
@@ -28,12 +29,12 @@ pub record FitsIn (P : ℕ → Bool) (w : Write) : Type 0 where
   pub fits : w .value < 2 ^ w .width
 
 -- what holds of each of some writes and of each of others
-pub each-append : (Q : Write → Type 0) (vs ws : List Write) → Each Q vs → Each Q ws → Each Q (vs ++ ws)
+pub each-append : (Q : Write → Type 0) (vs ws : List Write) → Every Q vs → Every Q ws → Every Q (vs ++ ws)
 each-append Q [] ws p q = q
 each-append Q (v ∷ vs) ws p q = (p .0, each-append Q vs ws (p .1) q)
 
 -- the same as the laws of writes have it, where the registers that pass are the first n at most
-pub all-fit : (P : ℕ → Bool) (n : ℕ) → ((r : ℕ) → T (P r) → r < n) → (ws : List Write) → Each (FitsIn P) ws → AllFit n ws
+pub all-fit : (P : ℕ → Bool) (n : ℕ) → ((r : ℕ) → T (P r) → r < n) → (ws : List Write) → Every (FitsIn P) ws → AllFit n ws
 all-fit P n h [] f = tt
 all-fit P n h (w ∷ ws) f = ((h (w .register) (f .0 .passes), inl (f .0 .fits)), all-fit P n h ws (f .1))
 
@@ -43,7 +44,7 @@ rowsIn P [] = true
 rowsIn P (f ∷ fs) = (P (f .row .register) && bitsFit (f .row)) && rowsIn P fs
 
 -- so do the writes of fields whose codes fit
-pub fields-fit : (P : ℕ → Bool) (zs : List ℤ) (fs : List Field) → T (rowsIn P fs) → All CodesFit fs → Each (FitsIn P) (writesOf zs fs)
+pub fields-fit : (P : ℕ → Bool) (zs : List ℤ) (fs : List Field) → T (rowsIn P fs) → All CodesFit fs → Every (FitsIn P) (writesOf zs fs)
 unfolding rowsIn writesOf
 fields-fit P zs [] t k = tt
 fields-fit P zs (f ∷ fs) t k =
@@ -78,7 +79,7 @@ set-bytes l r v b h i = split (eqb i r) refl (ltb r (length l)) refl
         rw (List·getD-eq-default (set l r v) 0 q) (omega arith)
 
 -- bytes after such writes are bytes
-pub puts-bytes : (P : ℕ → Bool) (ws : List Write) (l : List ℕ) → Each (FitsIn P) ws → Bytes l → Bytes (puts l ws)
+pub puts-bytes : (P : ℕ → Bool) (ws : List Write) (l : List ℕ) → Every (FitsIn P) ws → Bytes l → Bytes (puts l ws)
 unfolding puts
 puts-bytes P [] l f b = b
 puts-bytes P (w ∷ ws) l f b =
@@ -87,7 +88,7 @@ puts-bytes P (w ∷ ws) l f b =
     (with-lt 8 (w .place) (w .width) (getD l (w .register) 0) (w .value) (b (w .register)) (f .0 .inside) (f .0 .fits)))
 
 -- a register that doesn't pass the test stays
-pub puts-stay : (P : ℕ → Bool) (ws : List Write) (l : List ℕ) (r : ℕ) → Each (FitsIn P) ws → P r ≡ false → getD (puts l ws) r 0 ≡ getD l r 0
+pub puts-stay : (P : ℕ → Bool) (ws : List Write) (l : List ℕ) (r : ℕ) → Every (FitsIn P) ws → P r ≡ false → getD (puts l ws) r 0 ≡ getD l r 0
 unfolding puts
 puts-stay P [] l r f e = refl
 puts-stay P (w ∷ ws) l r f e =
@@ -95,7 +96,7 @@ puts-stay P (w ∷ ws) l r f e =
     ∙ getD-set-other l (w .register) r _ 0 (λ p. subst T (subst (λ (k : ℕ). P k ≡ false) p e) (f .0 .passes))
 
 -- a bit that no write sets is as found
-pub untouched : (found : ℕ) (ws : List Write) (r i : ℕ) → Each (λ w. T (not (sets w r i))) ws → bitAfter found ws r i ≡ found
+pub untouched : (found : ℕ) (ws : List Write) (r i : ℕ) → Every (λ w. T (not (sets w r i))) ws → bitAfter found ws r i ≡ found
 unfolding bitAfter
 untouched found [] r i h = refl
 untouched found (w ∷ ws) r i h = by (sets w r i) (h .0) (untouched found ws r i (h .1))

@@ -8,7 +8,7 @@ use lib.IntN.{ℤ, pos, negsuc, negℤ}
 use lib.Pow.{pow-pos}
 use lib.Signed.{ltZ}
 use borrow.Author.Tests.{ltb-false}
-use Rattle.refusals.specs.Refusal.{Judged, accepted, refused, codeIn}
+use Rattle.refusals.specs.Refusal.{Judged, accepted, refused, valueOr}
 use Rattle.rounding.proofs.Range.{Between, everywhere, over, eqZ, eqZ→eq}
 use Rattle.field_table.specs.Coding.{Field, outside, isCode, encode, codeOf}
 
@@ -23,11 +23,11 @@ unfolding encode
 inside-coded f s c e h = rw (e, h)
 
 -- codes fit their bits where those of settings in the range do: a refusal stands for 0
-pub fits-inside : (f : Field) → ((z : ℤ) → outside (f .row) z ≡ false → codeOf f z < 2 ^ f .row .width) → (z : ℤ) → codeIn (encode f z) < 2 ^ f .row .width
+pub fits-inside : (f : Field) → ((z : ℤ) → outside (f .row) z ≡ false → codeOf f z < 2 ^ f .row .width) → (z : ℤ) → valueOr 0 (encode f z) < 2 ^ f .row .width
 unfolding encode
 fits-inside f h z = by (outside (f .row) z) _ refl
   where
-    by : (b : Bool) (n : ℕ) → outside (f .row) z ≡ b → codeIn (cond b (refused n) (accepted (codeOf f z))) < 2 ^ f .row .width
+    by : (b : Bool) (n : ℕ) → outside (f .row) z ≡ b → valueOr 0 (cond b (refused n) (accepted (codeOf f z))) < 2 ^ f .row .width
     by true n e = pow-pos (f .row .width)
     by false n e = h z e
 

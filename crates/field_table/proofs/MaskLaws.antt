@@ -18,10 +18,9 @@ use Rattle.bits.proofs.FieldLaws.{bit-inside, write-back}
 use Rattle.bits.proofs.FlagLaws.{first, second, either, fails, holds}
 use Rattle.bits.proofs.SetLaws.{has-and, has-or, has-span, same-map, none-has}
 use Rattle.rounding.proofs.Range.{imp, imp→}
-use Rattle.refusals.specs.Refusal.{codeIn}
 use Rattle.field_table.specs.declared.row.Row.{Row}
 use Rattle.field_table.specs.Coding.{Field, outside, encode, plainOf}
-use Rattle.field_table.specs.Writes.{Write, sets, bitAfter, Each, AllHeld}
+use Rattle.field_table.specs.Writes.{Write, sets, bitAfter, AllHeld}
 use Rattle.field_table.specs.Walk.{given, rowWrite, writesOf, rowFits}
 use Rattle.field_table.specs.Masks.{rowBits, maskWhere}
 use Rattle.field_table.specs.RoundTrip.{rowsApart, apartFrom, allApart, onlyZero}
@@ -30,6 +29,8 @@ use Rattle.field_table.proofs.Decoding.{only-zero}
 use Rattle.field_table.proofs.PlainLaws.{Fits, row-fits, code-out, code-in, read-in, small}
 use Rattle.field_table.proofs.RoundTripLaws.{All, allPlain, each-plain}
 use Rattle.field_table.proofs.FitLaws.{untouched}
+use Rattle.refusals.specs.Refusal.{valueOr}
+use Rattle.bits.specs.Lists.{Every}
 
 -- ---- which bits a mask has
 
@@ -139,7 +140,7 @@ both-all P (x ∷ xs) r = by (P (x .row)) _ _ _ (both-all P xs r)
     by false l m n h = omega arith
 
 -- no write of a table sets a bit that no row has
-none-sets : (zs : List ℤ) (fs : List Field) (r i : ℕ) → someSets (λ row. true) fs r i ≡ false → Each (λ w. T (not (sets w r i))) (writesOf zs fs)
+none-sets : (zs : List ℤ) (fs : List Field) (r i : ℕ) → someSets (λ row. true) fs r i ≡ false → Every (λ w. T (not (sets w r i))) (writesOf zs fs)
 unfolding writesOf
 none-sets zs [] r i e = tt
 none-sets zs (x ∷ xs) r i e =
@@ -157,7 +158,7 @@ kept-bit P zs fs found r i t e =
 -- ---- must-be-zero bits
 
 -- 0 is the code of any number in a row that has no setting but 0
-pub zero-code : (row : Row) → T (rowFits row) → T (onlyZero row) → (z : ℤ) → codeIn (encode (plainOf row) z) ≡ 0
+pub zero-code : (row : Row) → T (rowFits row) → T (onlyZero row) → (z : ℤ) → valueOr 0 (encode (plainOf row) z) ≡ 0
 zero-code row t o z = by (outside row z) refl
   where
     fits : Fits row
@@ -167,9 +168,9 @@ zero-code row t o z = by (outside row z) refl
     none (pos n) e = ap natAbs (only-zero (plainOf row) n (pos n) (sym (read-in row fits n e)) o)
     none (negsuc n) e = absurd (small row fits (negsuc n) e .0)
 
-    by : (b : Bool) → outside row z ≡ b → codeIn (encode (plainOf row) z) ≡ 0
-    by true e = sym (ap codeIn (code-out row z _ e refl))
-    by false e = sym (ap codeIn (code-in row z e)) ∙ none z e
+    by : (b : Bool) → outside row z ≡ b → valueOr 0 (encode (plainOf row) z) ≡ 0
+    by true e = sym (ap (valueOr 0) (code-out row z _ e refl))
+    by false e = sym (ap (valueOr 0) (code-in row z e)) ∙ none z e
 
 -- a row that fits, and has no setting but 0 where it passes the test
 abbrev pub zeroFits : (Row → Bool) → Row → Bool
@@ -183,7 +184,7 @@ bit-zero k j b i e l h =
 
 -- where every field is as its coding makes it, the bits of rows without any other setting are zero
 some-zero : (P : Row → Bool) (zs : List ℤ) (fs : List Field) (out : List ℕ) (r i : ℕ)
-    → All (λ f. P (f .row) ≡ true → (z : ℤ) → codeIn (encode f z) ≡ 0) fs → AllHeld out (writesOf zs fs) → T (someSets P fs r i) → bit i (getD out r 0) ≡ 0
+    → All (λ f. P (f .row) ≡ true → (z : ℤ) → valueOr 0 (encode f z) ≡ 0) fs → AllHeld out (writesOf zs fs) → T (someSets P fs r i) → bit i (getD out r 0) ≡ 0
 unfolding writesOf
 some-zero P zs [] out r i k h t = absurd t
 some-zero P zs (x ∷ xs) out r i k h t =
@@ -205,7 +206,7 @@ pub zero-bit : (P : Row → Bool) (zs : List ℤ) (fs : List Field) (out : List 
 zero-bit P zs fs out r i t z h e =
     some-zero P zs fs out r i (each-plain (zeroFits P) _ codes fs z) h (subst T (sym (eq-eqb (bit i (maskWhere P fs r)) 1 e) ∙ mask-has P fs r i t) tt)
   where
-    codes : (row : Row) → T (zeroFits P row) → P row ≡ true → (z : ℤ) → codeIn (encode (plainOf row) z) ≡ 0
+    codes : (row : Row) → T (zeroFits P row) → P row ≡ true → (z : ℤ) → valueOr 0 (encode (plainOf row) z) ≡ 0
     codes row t e =
         let last = imp (P row) (onlyZero row) in
         zero-code row (first (rowFits row) last t) (imp→ (P row) (onlyZero row) (second (rowFits row) last t) e)

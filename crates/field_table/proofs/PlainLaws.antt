@@ -9,7 +9,7 @@ use lib.IntN.{ℤ, pos, negsuc, natAbs}
 use lib.Pow.{pow-mono}
 use lib.Signed.{ltZ, nonNeg, pos-natAbs}
 use borrow.Author.Tests.{ltb-true, ltb-false, le-ltb, lt-ltb}
-use Rattle.refusals.specs.Refusal.{accepted, refused, codeIn}
+use Rattle.refusals.specs.Refusal.{accepted, refused, valueOr}
 use Rattle.bits.proofs.FlagLaws.{first, second}
 use Rattle.field_table.specs.declared.row.Row.{Row}
 use Rattle.field_table.specs.Rows.{refusalOutside}
@@ -83,7 +83,7 @@ module _ (r : Row) (fits : Fits r) where
   byte = pow-mono {j = 8} (omega (arith, fits .bits))
 
   -- so codes fit their bits
-  pub code-fits : (z : ℤ) → codeIn (encode (plainOf r) z) < 2 ^ r .width
+  pub code-fits : (z : ℤ) → valueOr 0 (encode (plainOf r) z) < 2 ^ r .width
   unfolding codeBy
   code-fits = fits-inside (plainOf r) (λ z o. small z o .1)
 

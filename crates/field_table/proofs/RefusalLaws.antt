@@ -2,7 +2,7 @@
 use mathlib.Core.Path.{_≡_, refl, sym, ap, _∙_, fun-ext}
 use mathlib.Core.Logic.{⊎-elim}
 use mathlib.Core.Bool.{Bool, true, false, not, cond, _&&_, _||_, and-false}
-use mathlib.Core.List.{List, [], _∷_}
+use mathlib.Core.List.{List, [], _∷_, flatMap}
 use Prim.Native.Nat.{ℕ, suc, _^_, _≤_, _<_}
 use native.Mathlib.Omega.{arith}
 use lib.Dec.{T, eqb, leb, ltb, leb→le, le→leb, eqb→eq}
@@ -11,10 +11,11 @@ use borrow.Author.Tests.{eq-eqb, ne-eqb, eqb-true, eqb-false}
 use Rattle.bits.proofs.FlagLaws.{both, first, second, either}
 use Rattle.refusals.specs.Refusal.{Judged, accepted, refused, refusedBy}
 use Rattle.refusals.specs.Verdict.{Verdict, good, refusedAt, after, faultOf}
-use Rattle.refusals.specs.Order.{firstOf, placesAt}
+use Rattle.refusals.specs.Order.{firstOf, placesAt, placesIn}
 use Rattle.field_table.specs.Coding.{Field, outside, isCode, codeOf, encode, hasAt, settingAt, leastMagnitude, decode}
 use Rattle.field_table.specs.Walk.{given, held, codingOf, checkOf, readingOf, judgeOf}
-use Rattle.field_table.specs.Refusals.{someRow, rowHolds, rowHeld, fieldsAfter, placesOf, orderOf, ascendsFrom}
+use Rattle.field_table.specs.Refusals.{someRow, rowHolds, rowHeld, fieldsAfter, orderOf, ascendsFrom}
+use Rattle.field_table.proofs.PlaceLaws.{rangeRows}
 
 -- a verdict without a value
 abbrev Found : Type 0
@@ -88,8 +89,8 @@ module _ {A : Type 0} (j : Field → Judged A) (is-sound : (f : Field) → T (so
 
   -- the first that holds of a field and those after it
   places : (h : ℕ → ℕ → Bool) (f : ℕ) (fs : List ℕ)
-      → firstOf h (placesOf (f ∷ fs)) (tt {0}) ≡ cond (h 3 f) (refusedAt 3 f) (cond (h 4 f) (refusedAt 4 f) (firstOf h (placesOf fs) tt))
-  unfolding firstOf placesOf placesAt
+      → firstOf h (placesIn rangeRows (f ∷ fs)) (tt {0}) ≡ cond (h 3 f) (refusedAt 3 f) (cond (h 4 f) (refusedAt 4 f) (firstOf h (placesIn rangeRows fs) tt))
+  unfolding firstOf placesIn placesAt flatMap
   places h f fs = refl
 
   -- the field that the rows after a row have at least
@@ -146,8 +147,8 @@ module _ {A : Type 0} (j : Field → Judged A) (is-sound : (f : Field) → T (so
 
   -- a row's field and those after it
   from-row : (x : Field) (xs : List Field) → T (ascendsFrom (next x) xs)
-      → firstOf (rows xs) (placesOf (x .row .field ∷ fieldsAfter (x .row .field) xs)) tt ≡ faults j xs
-      → firstOf (rows (x ∷ xs)) (placesOf (x .row .field ∷ fieldsAfter (x .row .field) xs)) tt ≡ faults j (x ∷ xs)
+      → firstOf (rows xs) (placesIn rangeRows (x .row .field ∷ fieldsAfter (x .row .field) xs)) tt ≡ faults j xs
+      → firstOf (rows (x ∷ xs)) (placesIn rangeRows (x .row .field ∷ fieldsAfter (x .row .field) xs)) tt ≡ faults j (x ∷ xs)
   from-row x xs t later = by (j x) refl (is-sound x)
     where
       f : ℕ
@@ -157,20 +158,20 @@ module _ {A : Type 0} (j : Field → Judged A) (is-sound : (f : Field) → T (so
       fs = fieldsAfter f xs
 
       by : (v : Judged A) → j x ≡ v → T (sound (noneReserved x) v)
-          → firstOf (rows (x ∷ xs)) (placesOf (f ∷ fs)) tt ≡ after (faultOf f v) (faults j xs)
-      by (accepted a) e s = ap (λ h. firstOf h (placesOf (f ∷ fs)) tt) (row-passes x xs e) ∙ later
+          → firstOf (rows (x ∷ xs)) (placesIn rangeRows (f ∷ fs)) tt ≡ after (faultOf f v) (faults j xs)
+      by (accepted a) e s = ap (λ h. firstOf h (placesIn rangeRows (f ∷ fs)) tt) (row-passes x xs e) ∙ later
       by (refused n) e s = ⊎-elim three four (either (eqb n 3) (eqb n 4 && not (noneReserved x)) s)
         where
           past : (b : Bool) → noneReserved x ≡ b → T (not b) → rows xs 3 f ≡ false
           past true d q = absurd q
           past false d q = none-below 3 f (next x) xs (rw d (omega arith)) t
 
-          three : T (eqb n 3) → firstOf (rows (x ∷ xs)) (placesOf (f ∷ fs)) (tt {0}) ≡ refusedAt n f
+          three : T (eqb n 3) → firstOf (rows (x ∷ xs)) (placesIn rangeRows (f ∷ fs)) (tt {0}) ≡ refusedAt n f
           three q =
               let p = eqb→eq n 3 q in
               places (rows (x ∷ xs)) f fs ∙ rw (p, row-refused x xs 3 (e ∙ ap refused p))
 
-          four : T (eqb n 4 && not (noneReserved x)) → firstOf (rows (x ∷ xs)) (placesOf (f ∷ fs)) (tt {0}) ≡ refusedAt n f
+          four : T (eqb n 4 && not (noneReserved x)) → firstOf (rows (x ∷ xs)) (placesIn rangeRows (f ∷ fs)) (tt {0}) ≡ refusedAt n f
           four q =
               let p = eqb→eq n 4 (first (eqb n 4) (not (noneReserved x)) q) in
               let none = past (noneReserved x) refl (second (eqb n 4) (not (noneReserved x)) q) in
@@ -179,8 +180,8 @@ module _ {A : Type 0} (j : Field → Judged A) (is-sound : (f : Field) → T (so
               ∙ rw (p, not-three, row-refused x xs 4 (e ∙ ap refused p))
 
   -- a field and those after it, of rows from that field on
-  from-field : (f k : ℕ) (xs : List Field) → f ≤ k → T (ascendsFrom k xs) → firstOf (rows xs) (placesOf (f ∷ fieldsAfter f xs)) tt ≡ faults j xs
-  unfolding fieldsAfter firstOf placesOf placesAt someRow
+  from-field : (f k : ℕ) (xs : List Field) → f ≤ k → T (ascendsFrom k xs) → firstOf (rows xs) (placesIn rangeRows (f ∷ fieldsAfter f xs)) tt ≡ faults j xs
+  unfolding fieldsAfter firstOf placesIn placesAt someRow flatMap
   from-field f k [] l t = refl
   from-field f k (x ∷ xs) l t =
       by (eqb f (x .row .field)) refl
@@ -189,8 +190,8 @@ module _ {A : Type 0} (j : Field → Judged A) (is-sound : (f : Field) → T (so
       g : ℕ
       g = x .row .field
 
-      by : (b : Bool) → eqb f g ≡ b → firstOf (rows (x ∷ xs)) (placesOf (g ∷ fieldsAfter g xs)) tt ≡ faults j (x ∷ xs)
-          → firstOf (rows (x ∷ xs)) (placesOf (f ∷ cond b (fieldsAfter g xs) (g ∷ fieldsAfter g xs))) tt ≡ faults j (x ∷ xs)
+      by : (b : Bool) → eqb f g ≡ b → firstOf (rows (x ∷ xs)) (placesIn rangeRows (g ∷ fieldsAfter g xs)) tt ≡ faults j (x ∷ xs)
+          → firstOf (rows (x ∷ xs)) (placesIn rangeRows (f ∷ cond b (fieldsAfter g xs) (g ∷ fieldsAfter g xs))) tt ≡ faults j (x ∷ xs)
       by true e h = rw (eqb-true f g e) h
       by false e h =
           let d = eqb-false f g e in
@@ -201,14 +202,14 @@ module _ {A : Type 0} (j : Field → Judged A) (is-sound : (f : Field) → T (so
 
   -- a whole table
   from-table : (xs : List Field) → T (ascendsFrom 1 xs) → firstOf (rows xs) (orderOf xs) tt ≡ faults j xs
-  unfolding fieldsAfter firstOf placesOf
+  unfolding fieldsAfter firstOf placesIn flatMap
   from-table [] t = refl
   from-table (x ∷ xs) t =
       let f = x .row .field in
       let a = here 1 x xs t in
       let e : eqb 0 f ≡ false = ne-eqb 0 f (omega arith) in
       let later = rest 1 x xs t in
-      ap (λ b. firstOf (rows (x ∷ xs)) (placesOf (cond b (fieldsAfter f xs) (f ∷ fieldsAfter f xs))) tt) e
+      ap (λ b. firstOf (rows (x ∷ xs)) (placesIn rangeRows (cond b (fieldsAfter f xs) (f ∷ fieldsAfter f xs))) tt) e
       ∙ from-row x xs later (from-field f (next x) xs (next-from x) later)
 
 -- ---- settings and images

@@ -12,13 +12,13 @@ use lib.IntN.{ℤ, pos}
 use lib.ListN.{length, getD, length-set, List·getD-eq-default}
 use lib.Seq.{getD-set-same, getD-set-other, ext-getD}
 use borrow.Author.Tests.{eqb-true, eqb-false, ltb-true, ltb-false}
-use Rattle.refusals.specs.Refusal.{Judged, accepted, refused, codeIn}
+use Rattle.refusals.specs.Refusal.{Judged, accepted, refused, valueOr}
 use Rattle.refusals.specs.Verdict.{Verdict, good, after, faultOf}
 use Rattle.bits.proofs.FlagLaws.{first, second}
 use Rattle.field_table.specs.declared.row.Row.{Row}
 use Rattle.field_table.specs.Coding.{Coding, plain, offset, signMagnitude, rounded, roundedSigned, Field, encode, decode, plainOf}
 use Rattle.field_table.specs.Writes.{puts, AllHeld}
-use Rattle.field_table.specs.Walk.{given, held, settingIn, codingOf, checkOf, writeOf, writesOf, readingOf, judgeOf, store, numbersOf, rowFits, within}
+use Rattle.field_table.specs.Walk.{given, held, codingOf, checkOf, writeOf, writesOf, readingOf, judgeOf, store, numbersOf, rowFits, within}
 use Rattle.field_table.specs.RoundTrip.{rowsApart, apartFrom, allApart, someAt, onlyZero, ownNumbers, allNumbered, MeansItself, ReadsBack}
 use Rattle.field_table.proofs.Decoding.{decode-coded, only-zero}
 use Rattle.field_table.proofs.PlainLaws.{row-fits, code-fits, read-coded}
@@ -46,7 +46,7 @@ rest-good f (refused n) v e = let z : _≡_ {A = ℕ} 0 1 = cc in absurd (omega 
 
 -- a field's reading is its setting
 abbrev IsRead : List ℕ → Field → Type 0
-IsRead image f = readingOf image f ≡ accepted (settingIn (readingOf image f))
+IsRead image f = readingOf image f ≡ accepted (valueOr (pos 0) (readingOf image f))
 
 judge-each : (image : List ℕ) (fs : List Field) → judgeOf image fs ≡ good tt → All (IsRead image) fs
 unfolding judgeOf
@@ -54,7 +54,7 @@ judge-each image [] e = tt
 judge-each image (f ∷ fs) e =
     let j = readingOf image f in
     let g = first-good (f .row .field) j (judgeOf image fs) e in
-    (g .1 ∙ ap (λ x. accepted (settingIn x)) (sym (g .1)), judge-each image fs (rest-good (f .row .field) j (judgeOf image fs) e))
+    (g .1 ∙ ap (λ x. accepted (valueOr (pos 0) x)) (sym (g .1)), judge-each image fs (rest-good (f .row .field) j (judgeOf image fs) e))
 
 -- storing keeps how many numbers there are
 pub numbers-length : (image : List ℕ) (zs : List ℤ) (fs : List Field) → length (numbersOf image zs fs) ≡ length zs
@@ -76,7 +76,7 @@ numbers-kept image zs (f ∷ fs) k t = by (eqb k (f .row .index)) refl t (number
 
 -- each field's number is its setting
 numbers-each : (image : List ℕ) (zs : List ℤ) (fs : List Field) → T (ownNumbers (length zs) fs) → All (IsRead image) fs
-    → All (λ f. given (numbersOf image zs fs) (f .row) ≡ settingIn (readingOf image f)) fs
+    → All (λ f. given (numbersOf image zs fs) (f .row) ≡ valueOr (pos 0) (readingOf image f)) fs
 unfolding numbersOf ownNumbers
 numbers-each image zs [] t h = tt
 numbers-each image zs (f ∷ fs) t h =
@@ -88,7 +88,7 @@ numbers-each image zs (f ∷ fs) t h =
     size = numbers-length image (store image zs f) fs ∙ length-set zs (f .row .index) _
 
     by : (b : Bool) → ltb (f .row .index) (length zs) ≡ b → T (cond b (not (someAt (f .row .index) fs)) (onlyZero (f .row)))
-        → given (numbersOf image (store image zs f) fs) (f .row) ≡ settingIn (readingOf image f)
+        → given (numbersOf image (store image zs f) fs) (f .row) ≡ valueOr (pos 0) (readingOf image f)
     by true e u = numbers-kept image _ fs (f .row .index) u ∙ getD-set-same zs (f .row .index) _ (pos 0) (ltb-true (f .row .index) (length zs) e)
     by false e u =
         List·getD-eq-default (numbersOf image (store image zs f) fs) (pos 0) (omega (arith, ltb-false (f .row .index) (length zs) e, size))
@@ -104,7 +104,7 @@ module _ (image : List ℕ) (zs : List ℤ) where
   there : (fs : List Field) → All (λ f. codingOf zs f ≡ accepted (held image (f .row))) fs → AllThere image (writesOf zs fs)
   unfolding writesOf
   there [] h = tt
-  there (f ∷ fs) h = (sym (ap codeIn (h .0)), there fs (h .1))
+  there (f ∷ fs) h = (sym (ap (valueOr 0) (h .0)), there fs (h .1))
 
 -- what was read, placed over its image, is that image: whatever the codings, since a setting that was read has the code
 pub means-itself : (image : List ℕ) (zs : List ℤ) (fs : List Field) → T (ownNumbers (length zs) fs) → judgeOf image fs ≡ good tt
@@ -115,7 +115,7 @@ means-itself image zs fs own e =
     let coded = both fs each (numbers-each image zs fs own each) in
     record { passes = passed image new fs coded; same = puts-there image (writesOf new fs) (there image new fs coded) }
   where
-    both : (gs : List Field) → All (IsRead image) gs → All (λ f. given (numbersOf image zs fs) (f .row) ≡ settingIn (readingOf image f)) gs
+    both : (gs : List Field) → All (IsRead image) gs → All (λ f. given (numbersOf image zs fs) (f .row) ≡ valueOr (pos 0) (readingOf image f)) gs
         → All (λ f. codingOf (numbersOf image zs fs) f ≡ accepted (held image (f .row))) gs
     both [] h k = tt
     both (f ∷ gs) h k = (ap (encode f) (k .0) ∙ decode-coded f (held image (f .row)) _ (h .0), both gs (h .1) (k .1))
@@ -124,7 +124,7 @@ means-itself image zs fs own e =
 
 -- a field's coding is its code
 abbrev IsCoded : List ℤ → Field → Type 0
-IsCoded zs f = codingOf zs f ≡ accepted (codeIn (codingOf zs f))
+IsCoded zs f = codingOf zs f ≡ accepted (valueOr 0 (codingOf zs f))
 
 check-each : (zs : List ℤ) (fs : List Field) → checkOf zs fs ≡ good tt → All (IsCoded zs) fs
 unfolding checkOf
@@ -132,7 +132,7 @@ check-each zs [] e = tt
 check-each zs (f ∷ fs) e =
     let j = codingOf zs f in
     let g = first-good (f .row .field) j (checkOf zs fs) e in
-    (g .1 ∙ ap (λ x. accepted (codeIn x)) (sym (g .1)), check-each zs fs (rest-good (f .row .field) j (checkOf zs fs) e))
+    (g .1 ∙ ap (λ x. accepted (valueOr 0 x)) (sym (g .1)), check-each zs fs (rest-good (f .row .field) j (checkOf zs fs) e))
 
 -- the writes of fields that are apart are apart
 apart-from : (zs : List ℤ) (f : Field) (fs : List Field) → apartFrom (f .row) fs ≡ writes.apartFrom (writeOf zs f) (writesOf zs fs)
@@ -147,7 +147,7 @@ all-apart zs (f ∷ fs) = ap₂ (λ a b. a && b) (apart-from zs f fs) (all-apart
 
 -- a field's codes fit its bits
 abbrev pub CodesFit : Field → Type 0
-CodesFit f = (z : ℤ) → codeIn (encode f z) < 2 ^ f .row .width
+CodesFit f = (z : ℤ) → valueOr 0 (encode f z) < 2 ^ f .row .width
 
 -- the writes of fields whose codes fit do
 pub all-fit : (zs : List ℤ) (n : ℕ) (fs : List Field) → All CodesFit fs → T (within n fs) → AllFit n (writesOf zs fs)
@@ -159,7 +159,7 @@ all-fit zs n (f ∷ fs) h t =
 
 -- what an image holds after them
 all-held : (zs : List ℤ) (image : List ℕ) (fs : List Field) → All CodesFit fs → AllHeld image (writesOf zs fs)
-    → All (λ f. held image (f .row) ≡ codeIn (codingOf zs f)) fs
+    → All (λ f. held image (f .row) ≡ valueOr 0 (codingOf zs f)) fs
 unfolding writesOf
 all-held zs image [] k h = tt
 all-held zs image (f ∷ fs) k h = (h .0 ∙ mod-eq-of-lt (k .0 (given zs (f .row))), all-held zs image fs (k .1) (h .1))
@@ -181,7 +181,7 @@ module _ (image : List ℕ) (zs : List ℤ) where
       by true e q =
           let same = eqb-true k (f .row .index) e in
           inl (ap (λ i. getD (store image old f) i (pos 0)) same
-          ∙ getD-set-same old (f .row .index) _ (pos 0) (omega (arith, same, size, lt)) ∙ ap settingIn (h .0) ∙ ap (λ i. getD zs i (pos 0)) (sym same))
+          ∙ getD-set-same old (f .row .index) _ (pos 0) (omega (arith, same, size, lt)) ∙ ap (valueOr (pos 0)) (h .0) ∙ ap (λ i. getD zs i (pos 0)) (sym same))
       by false e (inl q) = inl (getD-set-other old (f .row .index) k _ (pos 0) (eqb-false k (f .row .index) e) ∙ q)
       by false e (inr t) = inr t
 
@@ -220,7 +220,7 @@ reads-back image zs fs own fits inside apart all e =
     let h = all-held zs (puts image ws) fs fits (puts-held image ws (subst T (all-apart zs fs) apart) (all-fit zs (length image) fs fits inside)) in
     read (puts image ws) zs fs all (both fs own (check-each zs fs e) h)
   where
-    both : (gs : List Field) → All OwnCodes gs → All (IsCoded zs) gs → All (λ f. held (puts image (writesOf zs fs)) (f .row) ≡ codeIn (codingOf zs f)) gs
+    both : (gs : List Field) → All OwnCodes gs → All (IsCoded zs) gs → All (λ f. held (puts image (writesOf zs fs)) (f .row) ≡ valueOr 0 (codingOf zs f)) gs
         → All (λ f. readingOf (puts image (writesOf zs fs)) f ≡ accepted (given zs (f .row))) gs
     both [] o h k = tt
     both (f ∷ gs) o h k = (ap (decode f) (k .0) ∙ o .0 (given zs (f .row)) _ (h .0), both gs (o .1) (h .1) (k .1))

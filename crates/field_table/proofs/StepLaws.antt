@@ -2,14 +2,14 @@
 use mathlib.Core.Path.{_≡_, refl, sym, ap, _∙_}
 use mathlib.Core.List.{List, [], _∷_, _++_}
 use Prim.Native.Nat.{ℕ}
-use lib.IntN.{ℤ}
+use lib.IntN.{ℤ, pos}
 use lib.ListN.{set}
-use Rattle.refusals.specs.Refusal.{Judged, codeIn}
+use Rattle.refusals.specs.Refusal.{Judged, valueOr}
 use Rattle.refusals.specs.Verdict.{Verdict, after, faultOf}
 use Rattle.refusals.proofs.VerdictLaws.{after-good, after-assoc}
 use Rattle.field_table.specs.Coding.{Field}
 use Rattle.field_table.specs.Writes.{put, puts}
-use Rattle.field_table.specs.Walk.{codingOf, codingFault, checkOf, rowWrite, writeOf, writesOf, readingOf, readingFault, judgeOf, settingIn, store, numbersOf}
+use Rattle.field_table.specs.Walk.{codingOf, codingFault, checkOf, rowWrite, writeOf, writesOf, readingOf, readingFault, judgeOf, store, numbersOf}
 
 -- one field more, at the end
 check-snoc : (zs : List ℤ) (fs : List Field) (f : Field) → checkOf zs (fs ++ (f ∷ [])) ≡ after (checkOf zs fs) (codingFault zs f)
@@ -83,14 +83,15 @@ module _ {image : List ℕ} {v : Verdict (Unit {0})} {zs : List ℤ} {fs : List 
 
 -- what a coder answered is the field's coding
 pub coded-step : (zs : List ℤ) (f : Field) (v : Verdict (Unit {0})) (image : List ℕ) {x : Verdict (Unit {0})} {l : List ℕ} {j : Judged ℕ} → j ≡ codingOf zs f
-    → (x ≡ after v (faultOf (f .row .field) j)) × (l ≡ put image (rowWrite (f .row) (codeIn j)))
+    → (x ≡ after v (faultOf (f .row .field) j)) × (l ≡ put image (rowWrite (f .row) (valueOr 0 j)))
     → (x ≡ after v (codingFault zs f)) × (l ≡ put image (writeOf zs f))
 coded-step zs f v image e h =
-    (h .0 ∙ ap (λ k. after v (faultOf (f .row .field) k)) e, h .1 ∙ ap (λ k. put image (rowWrite (f .row) (codeIn k))) e)
+    (h .0 ∙ ap (λ k. after v (faultOf (f .row .field) k)) e, h .1 ∙ ap (λ k. put image (rowWrite (f .row) (valueOr 0 k))) e)
 
 -- what a reader answered is the field's reading
 pub decoded-step : (image : List ℕ) (f : Field) (v : Verdict (Unit {0})) (zs : List ℤ) {x : Verdict (Unit {0})} {l : List ℤ} {j : Judged ℤ}
     → j ≡ readingOf image f
-    → (x ≡ after v (faultOf (f .row .field) j)) × (l ≡ set zs (f .row .index) (settingIn j)) → (x ≡ after v (readingFault image f)) × (l ≡ store image zs f)
+    → (x ≡ after v (faultOf (f .row .field) j)) × (l ≡ set zs (f .row .index) (valueOr (pos 0) j))
+    → (x ≡ after v (readingFault image f)) × (l ≡ store image zs f)
 decoded-step image f v zs e h =
-    (h .0 ∙ ap (λ k. after v (faultOf (f .row .field) k)) e, h .1 ∙ ap (λ k. set zs (f .row .index) (settingIn k)) e)
+    (h .0 ∙ ap (λ k. after v (faultOf (f .row .field) k)) e, h .1 ∙ ap (λ k. set zs (f .row .index) (valueOr (pos 0) k)) e)

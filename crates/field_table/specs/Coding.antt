@@ -82,13 +82,9 @@ hasAt f c m = has f c (pos m) || has f c (negℤ (pos m))
 abbrev pub settingAt : Field → ℕ → ℕ → ℤ
 settingAt f c m = cond (has f c (pos m)) (pos m) (negℤ (pos m))
 
--- the largest magnitude of a setting
-abbrev pub span : Row → ℕ
-span r = max (natAbs (r .low)) (natAbs (r .high))
-
--- the magnitude nearest zero of a setting that has the code c
+-- the magnitude nearest zero of a setting that has the code c; none is larger than the range's ends
 abbrev pub leastMagnitude : Field → ℕ → ℕ
-leastMagnitude f c = first (hasAt f c) (suc (span (f .row)))
+leastMagnitude f c = first (hasAt f c) (suc (max (natAbs (f .row .low)) (natAbs (f .row .high))))
 
 -- a code's setting: the one nearest zero that has that code. A code that no setting has is refused as the row says, a number that is no code by 3
 unfoldable pub decode : Field → ℕ → Judged ℤ

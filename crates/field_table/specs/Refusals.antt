@@ -1,12 +1,12 @@
 -- Document 01, "Refusals", rows 3 and 4, as they hold at a field of settings and of an image, for a table of fields of one number; and the order in which they
 -- are checked: the table's fields one after the other, at each 3 and then 4.
 use mathlib.Core.Bool.{Bool, true, false, cond, _&&_, _||_}
-use mathlib.Core.List.{List, [], _∷_, _++_}
+use mathlib.Core.List.{List, [], _∷_}
 use Prim.Native.Nat.{ℕ, suc}
 use lib.Dec.{eqb, leb}
 use lib.IntN.{ℤ}
 use Rattle.refusals.specs.Refusal.{refusedBy}
-use Rattle.refusals.specs.Order.{Place, placesAt}
+use Rattle.refusals.specs.Order.{Place, placesIn}
 use Rattle.field_table.specs.Coding.{Field}
 use Rattle.field_table.specs.Walk.{codingOf, readingOf}
 
@@ -32,14 +32,9 @@ unfoldable pub fieldsAfter : ℕ → List Field → List ℕ
 fieldsAfter f [] = []
 fieldsAfter f (x ∷ xs) = unless f (x .row .field) (fieldsAfter (x .row .field) xs)
 
--- some fields, one after the other: at each 3 and then 4
-unfoldable pub placesOf : List ℕ → List Place
-placesOf [] = []
-placesOf (f ∷ fs) = placesAt (3 ∷ 4 ∷ []) f ++ placesOf fs
-
--- the checking order of a table; fields are numbered from 1
+-- the checking order of a table: at each field 3 and then 4; fields are numbered from 1
 abbrev pub orderOf : List Field → List Place
-orderOf fs = placesOf (fieldsAfter 0 fs)
+orderOf fs = placesIn (λ f. 3 ∷ 4 ∷ []) (fieldsAfter 0 fs)
 
 -- the table's fields ascend from field f on, and a row with reserved codes is the last of its field: a test
 unfoldable pub ascendsFrom : ℕ → List Field → Bool

@@ -8,7 +8,7 @@ use lib.IntN.{ℤ, pos, natAbs}
 use lib.Signed.{nonNeg}
 use lib.ListN.{getD, set}
 use Rattle.bits.specs.Fields.{field}
-use Rattle.refusals.specs.Refusal.{Judged, accepted, refused, codeIn}
+use Rattle.refusals.specs.Refusal.{Judged, valueOr}
 use Rattle.refusals.specs.Verdict.{Verdict, good, after, faultOf}
 use Rattle.field_table.specs.declared.row.Row.{Row}
 use Rattle.field_table.specs.Coding.{Field, encode, decode}
@@ -21,11 +21,6 @@ given zs r = getD zs (r .index) (pos 0)
 -- the code that an image holds in a row's bits
 abbrev pub held : List ℕ → Row → ℕ
 held image r = field (r .bit) (r .width) (getD image (r .register) 0)
-
--- the setting of a reading; 0 where it is a refusal
-abbrev pub settingIn : Judged ℤ → ℤ
-settingIn (accepted z) = z
-settingIn (refused n) = pos 0
 
 -- ---- settings
 
@@ -47,7 +42,7 @@ rowWrite r v = record { register = r .register; place = r .bit; width = r .width
 
 -- a field's bits set to its setting's code
 abbrev pub writeOf : List ℤ → Field → Write
-writeOf zs f = rowWrite (f .row) (codeIn (codingOf zs f))
+writeOf zs f = rowWrite (f .row) (valueOr 0 (codingOf zs f))
 
 -- what the settings put in an image
 unfoldable pub writesOf : List ℤ → List Field → List Write
@@ -70,7 +65,7 @@ judgeOf image (f ∷ fs) = after (readingFault image f) (judgeOf image fs)
 
 -- numbers with a field's setting at its index
 abbrev pub store : List ℕ → List ℤ → Field → List ℤ
-store image zs f = set zs (f .row .index) (settingIn (readingOf image f))
+store image zs f = set zs (f .row .index) (valueOr (pos 0) (readingOf image f))
 
 -- numbers with each field's setting at its index
 unfoldable pub numbersOf : List ℕ → List ℤ → List Field → List ℤ

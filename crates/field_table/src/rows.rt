@@ -4,13 +4,14 @@ ghost use mathlib.Core.Path.{_≡_};
 ghost use Prim.Native.Nat.{_^_, _<_};
 ghost use lib.Dec.{T};
 ghost use lib.ListN.{set};
-ghost use Rattle.refusals.specs.Refusal.{codeIn};
 ghost use Rattle.refusals.specs.Verdict.{after, faultOf};
 ghost use Rattle.field_table.specs.Rows.{rowOf};
 ghost use Rattle.field_table.specs.Coding.{plainOf};
 ghost use Rattle.field_table.specs.Writes.{put as putOf};
-ghost use Rattle.field_table.specs.Walk.{codingFault, rowWrite, writeOf, readingFault, store as storeOf, settingIn, bitsFit, rowFits};
+ghost use Rattle.field_table.specs.Walk.{codingFault, rowWrite, writeOf, readingFault, store as storeOf, bitsFit, rowFits};
 ghost use Rattle.field_table.specs.Answers.{checkedAs, codedAs, decodedAs};
+ghost use lib.IntN.{pos};
+ghost use Rattle.refusals.specs.Refusal.{valueOr};
 use crate::Checked;
 use crate::places::given;
 use crate::places::held;
@@ -57,9 +58,9 @@ fn reading_fault(decoded: Decoded, field: u8) -> Checked
 
 // What a setting's coder answered, placed in a row's bits: 0 where it is a refusal, which is given with the row's field.
 pub fn want_coded(before: Checked, coded: Coded, packed: u64, image: &mut [u8]) -> Checked
-    requires { ⌜ T (bitsFit (rowOf packed)) × (codeIn (codedAs coded) < 2 ^ (rowOf packed .width)) ⌝ }
+    requires { ⌜ T (bitsFit (rowOf packed)) × (valueOr 0 (codedAs coded) < 2 ^ (rowOf packed .width)) ⌝ }
     ensures answer { λ r. ⌜ checkedAs r ≡ after (checkedAs before) (faultOf (rowOf packed .field) (codedAs coded)) ⌝ }
-    ensures memory { λ r. ⌜ now (image .exit) ≡ putOf (now (image .entry)) (rowWrite (rowOf packed) (codeIn (codedAs coded))) ⌝ }
+    ensures memory { λ r. ⌜ now (image .exit) ≡ putOf (now (image .entry)) (rowWrite (rowOf packed) (valueOr 0 (codedAs coded))) ⌝ }
 {
     let row = row_of(packed);
     let Coded::Code(c) = coded else {
@@ -84,7 +85,7 @@ pub fn want_row(before: Checked, packed: u64, numbers: &[i32], image: &mut [u8])
 // What a code's reader answered, stored at a row's index: 0 where it is a refusal, which is given with the row's field.
 pub fn read_decoded(before: Checked, decoded: Decoded, packed: u64, numbers: &mut [i32]) -> Checked
     ensures answer { λ r. ⌜ checkedAs r ≡ after (checkedAs before) (faultOf (rowOf packed .field) (decodedAs decoded)) ⌝ }
-    ensures memory { λ r. ⌜ now (numbers .exit) ≡ set (now (numbers .entry)) (rowOf packed .index) (settingIn (decodedAs decoded)) ⌝ }
+    ensures memory { λ r. ⌜ now (numbers .exit) ≡ set (now (numbers .entry)) (rowOf packed .index) (valueOr (pos 0) (decodedAs decoded)) ⌝ }
 {
     let row = row_of(packed);
     let Decoded::Setting(z) = decoded else {

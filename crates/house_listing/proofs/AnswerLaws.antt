@@ -9,7 +9,7 @@ use Rattle.refusals.specs.Verdict.{Verdict, good}
 use Rattle.bus.specs.Transactions.{Transaction}
 use Rattle.packing.specs.Packing.{packed}
 use Rattle.unpacking.specs.Unpacking.{unpack}
-use Rattle.planning.specs.Plan.{Counts, countsOf, leftBy}
+use Rattle.planning.specs.Plan.{Counts, countsOf, packedLeft}
 use Rattle.answer_listing.proofs.AnswerLaws.{Plans}
 use Rattle.adv7194_bus.specs.Kind.{registerCount}
 use Rattle.adv7194_bus.specs.Kind.{boardAddress}
@@ -53,7 +53,7 @@ module _ (image plan : List ℕ) where
         → Plans list plan after v
     plans bytes after memory =
         record {
-          left = memory ∙ ap (leftBy list plan) (sym answer);
+          left = memory ∙ ap (packedLeft list plan) (sym answer);
           counts = λ n e. sized v came n e .1;
           unpacks = λ n e. unpacked bytes (sized v came n e .0);
         }

@@ -2,35 +2,34 @@
 use mathlib.Core.Path.{_≡_, refl, ap, _∙_}
 use mathlib.Core.Bool.{Bool, true, false}
 use mathlib.Core.Logic.{_⊎_, inl, inr, ⊎-elim}
-use mathlib.Core.List.{List, [], _∷_}
+use mathlib.Core.List.{List, [], _∷_, flatMap}
 use Prim.Native.Nat.{ℕ, _≤_, _^_, _<_}
 use native.Mathlib.Omega.{arith}
 use lib.Dec.{eqb}
 use lib.ListN.{length, getD}
 use borrow.Author.Tests.{eqb-true, eqb-false}
 use Rattle.refusals.specs.Verdict.{good}
-use Rattle.refusals.specs.Order.{firstOf, placesAt}
+use Rattle.refusals.specs.Order.{firstOf, placesAt, placesIn}
 use Rattle.bus.specs.Transactions.{Transaction, busBytes}
 use Rattle.bus.specs.Cost.{dataCount}
 use Rattle.bus.proofs.CostLaws.{bytes-count}
-use Rattle.packing.specs.Packing.{packedBits}
+use Rattle.packing.specs.Written.{packedBits}
 use Rattle.packing.proofs.PackedLaws.{packedBits-length}
 use Rattle.text.proofs.Numerals.{decimal-most}
 use Rattle.text.specs.Text.{leading, decimal}
 use Rattle.listing.specs.Lines.{countsLine, refusedLine}
-use Rattle.plan_listing.specs.PlanText.{planText}
-use Rattle.plan_listing.proofs.TextLaws.{first-length, text-length}
+use Rattle.plan_listing.specs.PlanText.{transactionLine}
+use Rattle.plan_listing.proofs.TextLaws.{planText, first-length, text-length}
 use Rattle.answer_listing.specs.AnswerText.{answerText}
 use Rattle.adv7194_bus.specs.Kind.{registerCount}
 use Rattle.adv7194_bus.specs.Kind.{boardAddress}
 use Rattle.adv7194_bus.specs.Limit.{noLimit}
 use Rattle.field_table.specs.Coding.{encode}
-use Rattle.field_table.specs.Blocks.{numbersFrom}
 use Rattle.adv7194_table.specs.Fields.{numberCount, timing, output, picture, dnr}
-use Rattle.adv7194_table.specs.Table.{singles, table, orderOf}
+use Rattle.adv7194_table.specs.Table.{table, orderOf}
 use Rattle.adv7194_gamma.specs.Curve.{curveOf, curveCodes}
 use Rattle.adv7194_signalling.specs.Signalling.{signallingCodes}
-use Rattle.adv7194_settings.specs.Order.{placesOf, order}
+use Rattle.adv7194_settings.specs.Order.{order, rowsAt}
 use Rattle.adv7194_settings.specs.Rows.{someOf, rowHolds, checkOf}
 use Rattle.adv7194_settings.specs.House.{house}
 use Rattle.adv7194_settings.proofs.ReadingLaws.{none-unknown}
@@ -44,14 +43,15 @@ use Rattle.adv7194_planning.proofs.Outcomes.{Passed}
 use Rattle.adv7194_planning.proofs.KnownLaws.{none-unfixed}
 use Rattle.adv7194_planning.proofs.Clauses.{change, told}
 use Rattle.house_listing.specs.HouseText.{boardIn, houseTextIn, houseText}
+use Rattle.field_table.specs.Blocks.{slice}
 
 -- the most bytes of a text
 abbrev pub mostText : ℕ
 mostText = 138
 
 -- the house setting has no fault at any place
-no-fault : firstOf (rowHolds house) (placesOf (orderOf table)) (tt {0}) ≡ good (tt {0})
-unfolding firstOf placesAt placesOf orderOf rowHolds someOf table singles timing output picture dnr house encode numbersFrom signallingCodes curveCodes curveOf
+no-fault : firstOf (rowHolds house) (placesIn rowsAt (orderOf table)) (tt {0}) ≡ good (tt {0})
+unfolding firstOf placesAt placesIn orderOf rowHolds someOf table timing output picture dnr house encode slice signallingCodes curveCodes curveOf flatMap
 no-fault = refl
 
 -- so it is accepted
@@ -67,7 +67,8 @@ house-count = refl
 -- an image that isn't 54 bytes is refused so
 pub not-an-image : (image : List ℕ) → (length image ≡ registerCount → ⊥) → houseText image ≡ refusedLine 1 0
 unfolding houseTextIn
-not-an-image image h = ap (answerText (listOf (boardIn image) house noLimit)) (wrong-length (boardIn image) house boardAddress noLimit wideBytes h)
+not-an-image image h =
+    ap (answerText transactionLine (listOf (boardIn image) house noLimit)) (wrong-length (boardIn image) house boardAddress noLimit wideBytes h)
 
 -- that line
 refused-length : length (refusedLine 1 0) ≡ 12
@@ -115,7 +116,7 @@ module _ (image : List ℕ) (bytes : (r : ℕ) → getD image r 0 < 2 ^ 8) (h : 
   unfolding houseTextIn listOf
   an-image =
       let room = wide-room aim changes tells wide in
-      ap (answerText (listOf (boardIn image) house noLimit))
+      ap (answerText transactionLine (listOf (boardIn image) house noLimit))
       (passed (boardIn image) house boardAddress noLimit wideBytes h refl refl house-count house-good
       ∙ no-row (boardIn image) house boardAddress noLimit wideBytes (all-passed .fixed) room)
 

@@ -2,6 +2,7 @@
 -- transaction; or the refusal, by its number and its field. The image is known in full. Document 02, P6: it plans with 54.
 use mathlib.Core.List.{List}
 use Prim.Native.Nat.{ℕ}
+use Rattle.plan_listing.specs.PlanText.{transactionLine}
 use Rattle.answer_listing.specs.AnswerText.{answerText}
 use Rattle.adv7194_bus.specs.Kind.{boardAddress}
 use Rattle.adv7194_bus.specs.Limit.{noLimit}
@@ -18,7 +19,7 @@ boardIn image = boardOf image allKnown
 
 -- the text of the house setting planned over an image, with a lent plan of that many bytes
 unfoldable pub houseTextIn : List ℕ → ℕ → List ℕ
-houseTextIn image room = answerText (listOf (boardIn image) house noLimit) (planningOf (boardIn image) house boardAddress noLimit room)
+houseTextIn image room = answerText transactionLine (listOf (boardIn image) house noLimit) (planningOf (boardIn image) house boardAddress noLimit room)
 
 -- the text with room for the longest plan: what the program prints
 abbrev pub houseText : List ℕ → List ℕ

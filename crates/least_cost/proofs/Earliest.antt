@@ -8,13 +8,14 @@ use native.Mathlib.Omega.{arith}
 use lib.ListN.{length}
 use lib.Dec.{ltb}
 use borrow.Author.Tests.{ltb-true, ltb-false}
-use Rattle.bus.specs.Transactions.{Transaction, end, Every}
+use Rattle.bus.specs.Transactions.{Transaction, end}
 use Rattle.least_cost.specs.Task.{Task, Allowed, CoversFrom}
 use Rattle.least_cost.specs.Weight.{byteWeight, weights, leastClosed, leastOpen}
 use Rattle.least_cost.specs.Plan.{Open, leaving, scan, extend, best}
 use Rattle.least_cost.proofs.WeightLaws.{closed-need, reach}
 use Rattle.least_cost.proofs.LowerBound.{least-from}
 use Rattle.least_cost.proofs.Best.{extend-goes, extend-leaves, best-true, best-goes}
+use Rattle.bits.specs.Lists.{Every}
 
 -- a list of some weight is not empty
 pub no-weight : (ts : List Transaction) → weights ts ≤ 0 → ts ≡ []

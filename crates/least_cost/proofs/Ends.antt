@@ -1,11 +1,11 @@
 -- A list that holds the wanted bytes ends in them, and an ascending list holds the bytes that it ends in. Assumes nothing.
 use mathlib.Core.Path.{_≡_, sym, ap, _∙_}
 use mathlib.Core.Logic.{_⊎_, inl, inr, ⊎-elim}
-use mathlib.Core.List.{List, [], _∷_}
+use mathlib.Core.List.{List, [], _∷_, flatMap}
 use Prim.Native.Nat.{ℕ, _≤_, _<_}
 use native.Mathlib.Omega.{arith}
 use lib.ListN.{length, getD}
-use Rattle.bus.specs.Transactions.{Transaction, end, Touches, Touched, Every}
+use Rattle.bus.specs.Transactions.{Transaction, end, Touches, Touched}
 use Rattle.bus.specs.Chip.{Kind, Chip}
 use Rattle.bus.specs.Run.{run, listEvents, after}
 pub use Rattle.bus.proofs.Play.{Kept}
@@ -13,12 +13,13 @@ use Rattle.bus.proofs.Play.{touches?, run-list, touched-or-same}
 use Rattle.bus.proofs.After.{next, length-next, touched-next, other-next}
 use Rattle.least_cost.specs.Order.{Ascending, Holds}
 use Rattle.least_cost.proofs.Spans.{ascending-past}
+use Rattle.bits.specs.Lists.{Every}
 
 module _ (κ : Kind) where
   -- a register ends in its wanted byte where a list that holds the wanted bytes touches it, or the chip had it before
   pub ends-in : (want : ℕ → ℕ) (ts : List Transaction) (c : Chip) (r : ℕ) → Every (Kept κ) ts → Every (Holds want) ts
       → r < length (c .registers) → Touched ts r ⊎ (getD (c .registers) r 0 ≡ want r) → getD (after κ c ts .registers) r 0 ≡ want r
-  unfolding run listEvents
+  unfolding run listEvents flatMap
   ends-in want [] c r k h g (inl a) = absurd a
   ends-in want [] c r k h g (inr u) = u
   ends-in want (t ∷ ts) c r (k, ks) (h, hs) g s =
@@ -36,7 +37,7 @@ module _ (κ : Kind) where
   -- what an ascending list ends in are its data
   pub ascending-holds : (ts : List Transaction) (c : Chip) (i : ℕ) → Ascending i ts → Every (Kept κ) ts → κ .count ≤ length (c .registers)
       → Every (Holds (λ x. getD (after κ c ts .registers) x 0)) ts
-  unfolding run listEvents
+  unfolding run listEvents flatMap
   ascending-holds [] c i a k g = tt
   ascending-holds (t ∷ ts) c i a (k, ks) g =
       let n = length-next κ c t in

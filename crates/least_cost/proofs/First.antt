@@ -7,7 +7,7 @@ use Prim.Native.Nat.{ℕ, zero, suc, _+_, _-_, _≤_}
 use native.Mathlib.Omega.{arith}
 use lib.Dec.{ltb}
 use borrow.Author.Tests.{ltb-true, ltb-false}
-use Rattle.bus.specs.Transactions.{Transaction, size, end, Every}
+use Rattle.bus.specs.Transactions.{Transaction, size, end}
 use Rattle.least_cost.specs.Order.{Before, SameSpans}
 use Rattle.least_cost.specs.Task.{Task, Allowed, Covers, CoversFrom}
 use Rattle.least_cost.specs.Weight.{weights, leastClosed}
@@ -15,6 +15,7 @@ use Rattle.least_cost.specs.Plan.{begin, scan, extend, best, plan}
 use Rattle.least_cost.proofs.WeightLaws.{closed-skip}
 use Rattle.least_cost.proofs.Best.{scan-need, scan-skip}
 use Rattle.least_cost.proofs.Earliest.{no-weight, ended, Met, met, past}
+use Rattle.bits.specs.Lists.{Every}
 
 -- a list comes before another, or has the same starts and lengths
 abbrev pub Leads : List Transaction → List Transaction → Type 0

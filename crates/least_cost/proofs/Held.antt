@@ -10,13 +10,14 @@ use lib.Dec.{ltb}
 use lib.ListN.{length, getD, List·getD-eq-default}
 use lib.Seq.{ext-getD}
 use borrow.Author.Tests.{ltb-true, ltb-false}
-use Rattle.bus.specs.Transactions.{Transaction, size, Touched, Every}
+use Rattle.bus.specs.Transactions.{Transaction, size, Touched}
 use Rattle.bus.specs.Chip.{Kind, Chip}
 use Rattle.bus.specs.Run.{after}
 use Rattle.bus.proofs.Play.{Kept}
 use Rattle.bus.proofs.After.{length-after}
 use Rattle.least_cost.specs.Order.{Holds}
 use Rattle.least_cost.proofs.Ends.{ends-in}
+use Rattle.bits.specs.Lists.{Every}
 
 -- data that are wanted bytes are bytes
 pub holds-bytes : (want : ℕ → ℕ) → ((x : ℕ) → want x < 2 ^ 8) → (t : Transaction) → Holds want t → (i : ℕ) → getD (t .bytes) i 0 < 2 ^ 8

@@ -5,11 +5,12 @@ use mathlib.Core.Bool.{Bool, true, false, _||_, false≢true}
 use Prim.Native.Nat.{ℕ, zero, suc, _+_, _≤_, _<_}
 use native.Mathlib.Omega.{arith}
 use lib.ListN.{length}
-use Rattle.bus.specs.Transactions.{Transaction, end, Every}
+use Rattle.bus.specs.Transactions.{Transaction, end}
 use Rattle.least_cost.specs.Task.{Task, Sound}
 use Rattle.least_cost.specs.Plan.{Open, scan, extend, best, plan}
 use Rattle.bus.proofs.After.{later}
 use Rattle.least_cost.proofs.Gaps.{Later, gap-3-ends}
+use Rattle.bits.specs.Lists.{Every}
 
 -- x is needed, or one of the two registers after it
 abbrev pub near : (ℕ → Bool) → ℕ → Bool

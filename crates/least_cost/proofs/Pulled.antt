@@ -4,8 +4,9 @@ use mathlib.Core.Logic.{_⊎_, inl, inr, ⊎-elim}
 use mathlib.Core.List.{List, _∷_}
 use Prim.Native.Nat.{ℕ, _+_}
 use native.Mathlib.Omega.{arith}
-use Rattle.bus.specs.Transactions.{Transaction, Touches, Touched, Every}
+use Rattle.bus.specs.Transactions.{Transaction, Touches, Touched}
 use Rattle.least_cost.specs.Weight.{weight, weights}
+use Rattle.bits.specs.Lists.{Every}
 
 -- one of a list's transactions, that touches register r, and the others, where all have the property P
 pub record Pulled (P : Transaction → Type 0) (ts : List Transaction) (r : ℕ) : Type 0 where

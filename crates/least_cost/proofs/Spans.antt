@@ -6,9 +6,10 @@ use Prim.Native.Nat.{ℕ, _+_, _-_, _<_}
 use native.Mathlib.Omega.{arith}
 use lib.ListN.{getD}
 use lib.Seq.{ext-getD}
-use Rattle.bus.specs.Transactions.{Transaction, size, end, Touched, Every}
+use Rattle.bus.specs.Transactions.{Transaction, size, end, Touched}
 use Rattle.least_cost.specs.Order.{SameSpans, Ascending, Holds}
 use Rattle.least_cost.proofs.Attained.{ascending-from}
+use Rattle.bits.specs.Lists.{Every}
 
 -- two transactions of one span that hold the wanted bytes are one
 pub same-transaction : (want : ℕ → ℕ) (t u : Transaction) → t .subaddress ≡ u .subaddress → size t ≡ size u → Holds want t → Holds want u → t ≡ u

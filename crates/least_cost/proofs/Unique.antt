@@ -7,7 +7,7 @@ use native.Mathlib.Omega.{arith}
 use lib.ListN.{length}
 use lib.Dec.{ltb}
 use borrow.Author.Tests.{ltb-true, ltb-false}
-use Rattle.bus.specs.Transactions.{Transaction, end, Every}
+use Rattle.bus.specs.Transactions.{Transaction, end}
 use Rattle.least_cost.specs.Order.{Ascending, Holds}
 use Rattle.least_cost.specs.Task.{Task, Allowed, CoversFrom, Covers}
 use Rattle.least_cost.specs.Weight.{byteWeight, weights, leastClosed, leastOpen}
@@ -17,6 +17,7 @@ use Rattle.least_cost.proofs.Best.{NoTie, scan-need, scan-skip, extend-
 use Rattle.least_cost.proofs.Attained.{ascending-from, Wanted, wanted-more}
 use Rattle.least_cost.proofs.Spans.{same-transaction, ascending-past}
 use Rattle.least_cost.proofs.Earliest.{no-weight, ended, Met, met, past}
+use Rattle.bits.specs.Lists.{Every}
 
 module _ (p : Task) (want : ℕ → ℕ) where
   -- the data that an open transaction goes on with are the wanted bytes

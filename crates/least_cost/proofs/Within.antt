@@ -6,7 +6,7 @@ use Prim.Native.Nat.{ℕ, _-_, _≤_, _<_}
 use native.Mathlib.Omega.{arith}
 use lib.Dec.{ltb}
 use borrow.Author.Tests.{ltb-true, ltb-false, lt-ltb}
-use Rattle.bus.specs.Transactions.{Transaction, size, end, Every}
+use Rattle.bus.specs.Transactions.{Transaction, size, end}
 use Rattle.least_cost.specs.Order.{NoDearer}
 use Rattle.least_cost.specs.Task.{Task, Allowed, Sound, Free, Limited}
 use Rattle.least_cost.specs.Plan.{plan, greedyPlan}
@@ -14,6 +14,7 @@ use Rattle.least_cost.specs.Cheapest.{Does, OnlyOne}
 use Rattle.least_cost.proofs.Alike.{greedy-alike}
 use Rattle.least_cost.proofs.Cheapest.{map-every, optimal, does-task, cheapest, only-greedy}
 use Rattle.least_cost.proofs.Segments.{later-limited}
+use Rattle.bits.specs.Lists.{Every}
 
 -- two things that hold of each transaction of a list hold together
 both-every : (P Q : Transaction → Type 0) (ts : List Transaction) → Every P ts → Every Q ts → Every (λ t. P t × Q t) ts

@@ -17,8 +17,8 @@ use Rattle.shifting.specs.Shifted.{between, shifted, lastFrom}
 use Rattle.bus.specs.Transactions.{Transaction}
 use Rattle.packing.proofs.FillLaws.{msb-zero, take-bytes, filled-bytes}
 use Rattle.packing.specs.declared.Pending.{Pending}
-use Rattle.packing.specs.Packing.{listBits, packedBits, packed}
-use Rattle.packing.specs.Written.{Sound, Put, written, finishedWith}
+use Rattle.packing.specs.Packing.{packed}
+use Rattle.packing.specs.Written.{listBits, packedBits, Sound, Put, written, finishedWith}
 
 -- ---- one string after another
 

@@ -3,7 +3,7 @@
 -- next is a parameter, for a chip whose packing allows any order.
 use mathlib.Core.Path.{_≡_}
 use mathlib.Core.Bool.{Bool, true, _&&_}
-use mathlib.Core.List.{List, [], _∷_, _++_}
+use mathlib.Core.List.{List, [], _∷_, _++_, flatMap}
 use Prim.Native.Nat.{ℕ, _+_, _*_, _/_}
 use lib.Dec.{T, leb, ltb}
 use lib.ListN.{length}
@@ -15,18 +15,9 @@ use Rattle.bus.specs.Transactions.{Transaction, size, end}
 unfoldable pub transactionBits : Transaction → List Bool
 transactionBits t = msbFirst 6 (t .subaddress) ++ (msbFirst 6 (size t) ++ byteBits (t .bytes))
 
--- the bits of transactions, one after the other
-unfoldable pub listBits : List Transaction → List Bool
-listBits [] = []
-listBits (t ∷ ts) = transactionBits t ++ listBits ts
-
--- the bits of a plan: the transaction count, then the transactions
-unfoldable pub packedBits : List Transaction → List Bool
-packedBits ts = msbFirst 6 (length ts) ++ listBits ts
-
--- the packed plan
+-- the packed plan: the transaction count, then the transactions, one after the other; zero bits fill the last byte
 unfoldable pub packed : List Transaction → List ℕ
-packed ts = bytesOf (packedBits ts)
+packed ts = bytesOf (msbFirst 6 (length ts) ++ flatMap transactionBits ts)
 
 -- the bytes of a packed plan with that many transactions and that many data bytes in all: 6 bits, 12 for each transaction and 8 for each data byte,
 -- in whole bytes (theorem `packed-length` of proofs/PackedLaws.antt: every such plan has these)

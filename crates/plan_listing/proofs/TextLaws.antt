@@ -1,16 +1,24 @@
 -- The text of a plan: how long it is, and that its parts are written one after the other. Assumes nothing.
 use mathlib.Core.Path.{_≡_, refl, sym, ap, _∙_}
-use mathlib.Core.List.{List, [], _∷_, _++_, append-assoc, append-nil}
+use mathlib.Core.List.{List, [], _∷_, _++_, append-assoc, append-nil, flatMap}
 use Prim.Native.Nat.{ℕ, _+_, _*_, _≤_, _<_}
 use native.Mathlib.Omega.{arith}
 use lib.ListN.{length, set, length-append}
 use Rattle.bus.specs.Transactions.{Transaction, size, busBytes}
 use Rattle.bus.specs.Cost.{dataCount}
 use Rattle.text.specs.Line.{appended}
-use Rattle.text.specs.Text.{space, decimal, hexByte}
+use Rattle.text.specs.Text.{space, lineEnd, decimal, hexByte, hexText}
 use Rattle.text.proofs.Appending.{in-a-row, stored}
 use Rattle.listing.specs.Lines.{countsLine, planLine}
-use Rattle.plan_listing.specs.PlanText.{dataText, transactionLine, transactionLines, planText}
+use Rattle.plan_listing.specs.PlanText.{transactionLine}
+
+-- the data, a space before each, and the line end
+abbrev pub dataText : List ℕ → List ℕ
+dataText bs = hexText bs ++ lineEnd
+
+-- the text of a plan: transactions, bus bytes, then the lines
+abbrev pub planText : List Transaction → List ℕ
+planText ts = planLine (length ts) (busBytes ts) ++ flatMap transactionLine ts
 
 -- ---- lengths
 
@@ -21,7 +29,7 @@ first-length n k = simp length-append (omega arith)
 
 -- three bytes a datum, and the line end
 pub data-length : (bs : List ℕ) → length (dataText bs) ≡ 3 * length bs + 1
-unfolding dataText hexByte
+unfolding hexText flatMap hexByte
 data-length [] = refl
 data-length (b ∷ bs) = omega (arith, data-length bs)
 
@@ -30,15 +38,14 @@ pub line-length : (t : Transaction) → length (transactionLine t) ≡ 3 * (size
 unfolding transactionLine hexByte
 line-length t = omega (arith, data-length (t .bytes))
 
-pub lines-length : (ts : List Transaction) → length (transactionLines ts) ≡ 3 * (length ts + dataCount ts)
-unfolding transactionLines dataCount
+pub lines-length : (ts : List Transaction) → length (flatMap transactionLine ts) ≡ 3 * (length ts + dataCount ts)
+unfolding flatMap dataCount
 lines-length [] = refl
-lines-length (t ∷ ts) = omega (arith, length-append (transactionLine t) (transactionLines ts), line-length t, lines-length ts)
+lines-length (t ∷ ts) = omega (arith, length-append (transactionLine t) (flatMap transactionLine ts), line-length t, lines-length ts)
 
 -- the whole
 pub text-length : (ts : List Transaction) → length (planText ts) ≡ length (planLine (length ts) (busBytes ts)) + 3 * (length ts + dataCount ts)
-unfolding planText
-text-length ts = omega (arith, length-append (planLine (length ts) (busBytes ts)) (transactionLines ts), lines-length ts)
+text-length ts = omega (arith, length-append (planLine (length ts) (busBytes ts)) (flatMap transactionLine ts), lines-length ts)
 
 -- ---- one part after the other
 
@@ -46,7 +53,7 @@ module _ (out : List ℕ) (at : ℕ) where
   -- a datum, and then the others
   pub datum : (b : ℕ) (bs : List ℕ) → at + (3 + length (dataText bs)) ≤ length out
       → appended (appended (set out at 0x20) (at + 1) (hexByte b)) (at + 3) (dataText bs) ≡ appended out at (dataText (b ∷ bs))
-  unfolding dataText hexByte
+  unfolding hexText flatMap hexByte
   datum b bs h =
       ap (λ (l : List ℕ). appended (appended l (at + 1) (hexByte b)) (at + 3) (dataText bs)) (stored out at 0x20 (omega arith))
       ∙ ap (λ (l : List ℕ). appended l (at + 3) (dataText bs)) (in-a-row out at space (hexByte b) (omega arith))
@@ -54,7 +61,7 @@ module _ (out : List ℕ) (at : ℕ) where
 
   -- no datum more: the line end
   pub no-datum : at < length out → set out at 0x0a ≡ appended out at (dataText [])
-  unfolding dataText
+  unfolding hexText flatMap
   no-datum h = stored out at 0x0a h
 
   -- a subaddress, and then the data
@@ -65,13 +72,13 @@ module _ (out : List ℕ) (at : ℕ) where
 
 -- ---- one transaction after the other
 
-pub lines-append : (ts us : List Transaction) → transactionLines (ts ++ us) ≡ transactionLines ts ++ transactionLines us
-unfolding transactionLines
-lines-append [] us = refl
-lines-append (t ∷ ts) us =
-    ap (λ (l : List ℕ). transactionLine t ++ l) (lines-append ts us) ∙ sym (append-assoc (transactionLine t) (transactionLines ts) (transactionLines us))
+module _ (text : Transaction → List ℕ) where
+  pub lines-append : (ts us : List Transaction) → flatMap text (ts ++ us) ≡ flatMap text ts ++ flatMap text us
+  unfolding flatMap
+  lines-append [] us = refl
+  lines-append (t ∷ ts) us = ap (λ (l : List ℕ). text t ++ l) (lines-append ts us) ∙ sym (append-assoc (text t) (flatMap text ts) (flatMap text us))
 
--- one transaction more
-pub lines-more : (ts : List Transaction) (t : Transaction) → transactionLines ts ++ transactionLine t ≡ transactionLines (ts ++ (t ∷ []))
-unfolding transactionLines
-lines-more ts t = ap (λ (l : List ℕ). transactionLines ts ++ l) (sym (append-nil (transactionLine t))) ∙ sym (lines-append ts (t ∷ []))
+  -- one transaction more
+  pub lines-more : (ts : List Transaction) (t : Transaction) → flatMap text ts ++ text t ≡ flatMap text (ts ++ (t ∷ []))
+  unfolding flatMap
+  lines-more ts t = ap (λ (l : List ℕ). flatMap text ts ++ l) (sym (append-nil (text t))) ∙ sym (lines-append ts (t ∷ []))

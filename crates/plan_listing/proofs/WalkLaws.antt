@@ -1,6 +1,6 @@
 -- A walk through a well-formed plan that writes the line of each transaction. Assumes nothing.
 use mathlib.Core.Path.{_≡_, ap, ap₂, _∙_, subst}
-use mathlib.Core.List.{List, [], _∷_, _++_}
+use mathlib.Core.List.{List, [], _∷_, _++_, flatMap}
 use mathlib.Core.Logic.{⊎-elim}
 use Prim.Native.Nat.{ℕ, _+_, _-_, _*_, _^_, _≤_, _<_}
 use native.Mathlib.Nat.{sub-zero}
@@ -29,19 +29,19 @@ use Rattle.unpacking.proofs.Walking.{Walked, walk-begins, walk-goes, walk-ends,
 use Rattle.text.specs.Line.{zeros, appended}
 use Rattle.text.proofs.Appending.{Written, begun, next}
 use Rattle.text.proofs.Zeros.{length-zeros}
-use Rattle.plan_listing.specs.PlanText.{transactionLine, transactionLines}
+use Rattle.plan_listing.specs.PlanText.{transactionLine}
 use Rattle.plan_listing.proofs.TextLaws.{line-length, lines-append, lines-more}
 
 -- the transactions passed, and their lines written
 pub record Listing (out₀ : List ℕ) (at : ℕ) (plan out : List ℕ) (cursor : Cursor) (end : ℕ) : Type 0 where
   pub done : List Transaction
   pub walked : Walked plan Ascending done cursor
-  pub written : Written out₀ at (transactionLines done) out end
+  pub written : Written out₀ at (flatMap transactionLine done) out end
 
 -- none was
 pub listing-begins : (out plan : List ℕ) (at : ℕ) (c : Cursor) → c ≡ beginning plan Ascending → ((i : ℕ) → getD plan i 0 < 2 ^ 8) → at ≤ length out
     → Listing out at plan out c at
-unfolding transactionLines
+unfolding flatMap
 listing-begins out plan at c e bytes h = record { done = []; walked = rw e (walk-begins plan Ascending bytes); written = begun out at h }
 
 -- ---- the data of a transaction that was found
@@ -79,16 +79,16 @@ module _ {plan : List ℕ} {done : List Transaction} {c : Cursor} (w : Walked pl
 
 -- the lines of transactions passed are no longer than those of all
 passed-lines : {plan : List ℕ} {done : List Transaction} {c : Cursor} → Walked plan Ascending done c → Accepted plan
-    → length (transactionLines done) ≤ length (transactionLines (listed (unpack plan)))
+    → length (flatMap transactionLine done) ≤ length (flatMap transactionLine (listed (unpack plan)))
 passed-lines {plan} {done} w e =
     let p = passed-first w e in
-    let all = ap (λ (ts : List Transaction). length (transactionLines ts)) (p .1) in
-    omega (arith, all, ap length (lines-append done (p .0)), length-append (transactionLines done) (transactionLines (p .0)))
+    let all = ap (λ (ts : List Transaction). length (flatMap transactionLine ts)) (p .1) in
+    omega (arith, all, ap length (lines-append transactionLine done (p .0)), length-append (flatMap transactionLine done) (flatMap transactionLine (p .0)))
 
 -- ---- the lines of a well-formed plan
 
 module _ {out₀ : List ℕ} {at : ℕ} {plan out : List ℕ} {c : Cursor} {end : ℕ} (l : Listing out₀ at plan out c end) (e : Accepted plan)
-    (room : at + length (transactionLines (listed (unpack plan))) ≤ length out₀) {subaddress count : ℕ} {first : Place} {after : Cursor}
+    (room : at + length (flatMap transactionLine (listed (unpack plan))) ≤ length out₀) {subaddress count : ℕ} {first : Place} {after : Cursor}
     (g : Went plan c subaddress count first after) where
   abbrev found : Transaction
   found = transactionAt plan subaddress count first
@@ -100,8 +100,8 @@ module _ {out₀ : List ℕ} {at : ℕ} {plan out : List ℕ} {c : Cursor} {end 
   pub line-room : end + 3 * (count + 1) ≤ length out₀
   line-room =
       let passed = passed-lines (walk-goes (l .walked) g) e in
-      let both = ap length (lines-more (l .done) found) in
-      omega (arith, long, passed, both, length-append (transactionLines (l .done)) (transactionLine found), l .written .here, room)
+      let both = ap length (lines-more transactionLine (l .done) found) in
+      omega (arith, long, passed, both, length-append (flatMap transactionLine (l .done)) (transactionLine found), l .written .here, room)
 
   -- which was written
   pub listing-goes : (now : List ℕ) (place : ℕ) → now ≡ appended out end (transactionLine found) → place ≡ end + 3 * (count + 1)
@@ -112,5 +112,5 @@ module _ {out₀ : List ℕ} {at : ℕ} {plan out : List ℕ} {c : Cursor} {end 
       record {
         done = l .done ++ (found ∷ []);
         walked = walk-goes (l .walked) g;
-        written = subst (λ (t : List ℕ). Written out₀ at t now place) (lines-more (l .done) found) more;
+        written = subst (λ (t : List ℕ). Written out₀ at t now place) (lines-more transactionLine (l .done) found) more;
       }

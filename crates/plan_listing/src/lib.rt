@@ -1,13 +1,13 @@
 // The lines of a packed plan: one for each transaction, below a heading.
 ghost use mathlib.Core.Path.{_≡_};
-ghost use mathlib.Core.List.{_++_};
+ghost use mathlib.Core.List.{_++_, flatMap};
 ghost use Prim.Native.Nat.{_+_, _*_, _≤_};
 ghost use lib.ListN.{length};
 ghost use Rattle.bus.specs.Cost.{dataCount};
 ghost use Rattle.unpacking.specs.Unpacking.{unpack};
 ghost use Rattle.unpacking.specs.Listed.{listed, Accepted};
 ghost use Rattle.text.specs.Line.{placeAfter, appended};
-ghost use Rattle.plan_listing.specs.PlanText.{transactionLine, transactionLines};
+ghost use Rattle.plan_listing.specs.PlanText.{transactionLine};
 ghost use Rattle.plan_listing.specs.Listing.{listingOf, listingIn, listedAs};
 use refusals::Refusal;
 use text::Place;
@@ -69,9 +69,9 @@ pub fn put_line(out: &mut [u8], at: usize, subaddress: u8, bytes: &[u8]) -> usiz
 
 // Writes a line a transaction of a well-formed plan, where there is room for them, and answers the place after them.
 fn put_lines(out: &mut [u8], at: usize, plan: &[u8]) -> usize
-    requires { ⌜ Accepted (now plan) × (at + length (transactionLines (listed (unpack (now plan)))) ≤ length (now out)) ⌝ }
-    ensures answer { λ r. ⌜ r ≡ at + length (transactionLines (listed (unpack (now (plan .entry))))) ⌝ }
-    ensures memory { λ r. ⌜ now (out .exit) ≡ appended (now (out .entry)) at (transactionLines (listed (unpack (now (plan .entry))))) ⌝ }
+    requires { ⌜ Accepted (now plan) × (at + length (flatMap transactionLine (listed (unpack (now plan)))) ≤ length (now out)) ⌝ }
+    ensures answer { λ r. ⌜ r ≡ at + length (flatMap transactionLine (listed (unpack (now (plan .entry))))) ⌝ }
+    ensures memory { λ r. ⌜ now (out .exit) ≡ appended (now (out .entry)) at (flatMap transactionLine (listed (unpack (now (plan .entry))))) ⌝ }
 {
     let mut cursor = begin(plan, Order::Ascending);
     let mut end = at;
@@ -96,8 +96,8 @@ fn put_lines(out: &mut [u8], at: usize, plan: &[u8]) -> usize
 // Writes a heading and the lines of a well-formed plan with that many transactions, or nothing where there is no room for all of it.
 fn put_plan(out: &mut [u8], heading: &[u8], plan: &[u8], transactions: u8) -> Place
     requires { ⌜ Accepted (now plan) × (length (listed (unpack (now plan))) ≡ transactions) ⌝ }
-    ensures answer { λ r. ⌜ r ≡ placeAfter (now (out .entry)) 0 (now (heading .entry) ++ transactionLines (listed (unpack (now (plan .entry))))) ⌝ }
-    ensures memory { λ r. ⌜ now (out .exit) ≡ appended (now (out .entry)) 0 (now (heading .entry) ++ transactionLines (listed (unpack (now (plan .entry))))) ⌝ }
+    ensures answer { λ r. ⌜ r ≡ placeAfter (now (out .entry)) 0 (now (heading .entry) ++ flatMap transactionLine (listed (unpack (now (plan .entry))))) ⌝ }
+    ensures memory { λ r. ⌜ now (out .exit) ≡ appended (now (out .entry)) 0 (now (heading .entry) ++ flatMap transactionLine (listed (unpack (now (plan .entry))))) ⌝ }
 {
     let data = data_bytes(plan, transactions);
     if out.len() < heading.len() {

@@ -11,7 +11,7 @@ use borrow.Author.Tests.{leb-true, leb-false, le-ltb, lt-ltb}
 use Rattle.refusals.specs.Verdict.{good, refusedAt}
 use Rattle.bus.specs.Transactions.{Transaction}
 use Rattle.packing.specs.Packing.{packed}
-use Rattle.planning.specs.Plan.{Counts, countsOf, packingOf, leftBy, done}
+use Rattle.planning.specs.Plan.{Counts, countsOf, packingOf, packedLeft, done}
 
 -- the row of the room alone answers what packing a list does
 pub by-room : (ts : List Transaction) (room : ℕ)
@@ -42,7 +42,7 @@ refused-short ts room n f e = by (leb (length (packed ts)) room) refl e
 
 -- the bytes answered are the packed list
 pub left-packed : (ts : List Transaction) (plan after : List ℕ) (l t b : ℕ) → countsOf ts ≡ record { length = l; transactions = t; busBytes = b }
-    → after ≡ leftBy ts plan (done l t b) → take l after ≡ packed ts
+    → after ≡ packedLeft ts plan (done l t b) → take l after ≡ packed ts
 left-packed ts plan after l t b same e =
     let n : l ≡ length (packed ts) = sym (ap (λ (n : Counts). n .length) same) in
-    ap (take l) e ∙ ap (λ (k : ℕ). take k (packed ts ++ drop k plan)) n ∙ take-append-seam (packed ts) (drop (length (packed ts)) plan)
+    ap (take l) e ∙ ap (λ (k : ℕ). take k (packed ts ++ drop (length (packed ts)) plan)) n ∙ take-append-seam (packed ts) (drop (length (packed ts)) plan)

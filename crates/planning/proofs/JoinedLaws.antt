@@ -1,7 +1,7 @@
 -- The plan where no limit is in force is the runs of the registers covered, and what is packed after its first transaction. Assumes nothing.
 use mathlib.Core.Path.{_≡_, refl, sym, ap, _∙_}
 use mathlib.Core.Bool.{Bool, true, false, not, _&&_}
-use mathlib.Core.List.{List, [], _∷_, _++_, append-assoc}
+use mathlib.Core.List.{List, [], _∷_, _++_, append-assoc, flatMap}
 use Prim.Native.Nat.{ℕ, zero, suc, _+_, _-_, _*_, _^_, _≤_, _<_}
 use native.Mathlib.Nat.{sub-zero}
 use native.Mathlib.Omega.{arith}
@@ -11,11 +11,11 @@ use lib.Seq.{drop-drop, length-take-le}
 use Rattle.bits.specs.Strings.{msbFirst, byteBits, bytesOf}
 use Rattle.bits.specs.Maps.{mapWidth, has, complement}
 use Rattle.bits.proofs.ByteLaws.{byteBits-length, bytesOf-length}
-use Rattle.bus.specs.Transactions.{Transaction, size, Every}
+use Rattle.bus.specs.Transactions.{Transaction, size}
 use Rattle.bus.specs.Cost.{dataCount}
 use Rattle.packing.specs.declared.Pending.{Pending}
-use Rattle.packing.specs.Packing.{transactionBits, listBits, packed}
-use Rattle.packing.specs.Written.{Put, Room, written, finishedWith}
+use Rattle.packing.specs.Packing.{transactionBits, packed}
+use Rattle.packing.specs.Written.{listBits, Put, Room, written, finishedWith}
 use Rattle.packing.proofs.PackedLaws.{transactionBits-length}
 use Rattle.least_cost.specs.Task.{Task}
 use Rattle.least_cost.specs.Plan.{Open, begin, taking, leaving, joining, scan, extend, greedyPlan}
@@ -29,6 +29,7 @@ use Rattle.planning.specs.Plan.{listOf, Mapped, joinedBy}
 use Rattle.planning.proofs.RunLaws.{closed, opened, uncovered, covered-ok}
 use Rattle.planning.proofs.CountLaws.{Maps}
 use Rattle.planning.proofs.PlanLaws.{has-without, mapped-list, opening, begun-room, begun-done}
+use Rattle.bits.specs.Lists.{Every}
 
 -- ---- the maps of the plan
 
@@ -189,7 +190,7 @@ module _ (t : Transaction) (ts : List Transaction) (plan : List ℕ) (first : Pe
     (is : first ≡ opening n) (fits : length (packed (t ∷ ts)) ≤ length plan) where
   -- the bits of all
   all-bits : length (listBits (t ∷ ts)) ≡ 12 + size t * 8 + length (listBits ts)
-  unfolding listBits
+  unfolding flatMap
   all-bits = length-append (transactionBits t) (listBits ts) ∙ omega (arith, transactionBits-length t)
 
   -- it has room
@@ -204,7 +205,7 @@ module _ (t : Transaction) (ts : List Transaction) (plan : List ℕ) (first : Pe
     -- and then the plan is the packing of all
     pub later-done : (after : List ℕ) → after ≡ finishedWith mid (written mid r ++ listBits ts)
         → after ≡ packed (t ∷ ts) ++ drop (length (packed (t ∷ ts))) plan
-    unfolding listBits
+    unfolding flatMap
     later-done after e =
         begun-done (t ∷ ts) plan first n few told is after
         (e ∙ finished-after plan mid first (transactionBits t) r (listBits ts) (omega (arith, later-room)) k)

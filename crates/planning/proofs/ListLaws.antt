@@ -9,7 +9,7 @@ use lib.ListN.{length, getD, take}
 use lib.Seq.{slice, length-slice, getD-take, getD-drop}
 use borrow.Author.Tests.{ltb-true, lt-ltb, le-ltb, leb-true, leb-false, le-leb, lt-leb, eq-eqb, ne-eqb, eqb-true}
 use Rattle.bits.specs.Maps.{mapWidth, has}
-use Rattle.bus.specs.Transactions.{Transaction, size, end, Every}
+use Rattle.bus.specs.Transactions.{Transaction, size, end}
 use Rattle.least_cost.specs.Order.{Ascending, Holds}
 use Rattle.least_cost.specs.Plan.{scan}
 use Rattle.least_cost.proofs.Spans.{same-transaction}
@@ -18,6 +18,7 @@ use Rattle.cutting.specs.Spans.{touched, begun}
 use Rattle.cutting.specs.Task.{mapTask}
 use Rattle.planning.specs.Registers.{before}
 use Rattle.planning.specs.Plan.{listFrom}
+use Rattle.bits.specs.Lists.{Every}
 
 -- a transaction with data, which are the wanted bytes
 pub record Good (w : List ℕ) (t : Transaction) : Type 0 where

@@ -11,11 +11,11 @@ use borrow.Author.Tests.{ltb-true, ltb-false, le-leb, lt-leb}
 use Rattle.bits.specs.Maps.{has}
 use Rattle.bits.proofs.SetLaws.{has-and}
 use Rattle.refusals.specs.Verdict.{Verdict, refusedAt}
-use Rattle.bus.specs.Transactions.{Transaction, end, Every, busBytes}
+use Rattle.bus.specs.Transactions.{Transaction, end, busBytes}
 use Rattle.bus.proofs.CostLaws.{bytes-count}
 use Rattle.packing.specs.declared.Pending.{Pending}
-use Rattle.packing.specs.Packing.{listBits, packed}
-use Rattle.packing.specs.Written.{Sound as SoundPending, Room, written, finishedWith}
+use Rattle.packing.specs.Packing.{packed}
+use Rattle.packing.specs.Written.{listBits, Sound as SoundPending, Room, written, finishedWith}
 use Rattle.packing.proofs.PackedLaws.{listBits-length, packed-length}
 use Rattle.packing.proofs.PutLaws.{begun as begun-with, finished-packed}
 use Rattle.least_cost.specs.Order.{Ascending}
@@ -30,6 +30,7 @@ use Rattle.planning.specs.Plan.{Counts, listOf, Mapped, packingOf, planA
 use Rattle.planning.proofs.ShiftLaws.{has-past, has-not}
 use Rattle.planning.proofs.ListLaws.{Good, list-is, begun-touched, touched-begun}
 use Rattle.planning.proofs.CountLaws.{Maps, list-counted, count-le, no-start}
+use Rattle.bits.specs.Lists.{Every}
 
 -- ---- the maps of the plan
 

@@ -10,12 +10,12 @@ use lib.Dec.{leb}
 use lib.ListN.{length, getD, drop}
 use Rattle.bits.specs.Maps.{mapWidth, has, complement}
 use Rattle.refusals.specs.Refusal.{numberOf}
-use Rattle.refusals.specs.Verdict.{Verdict, good, refusedAt}
+use Rattle.refusals.specs.Verdict.{Verdict, good, refusedAt, leftBy}
 use Rattle.bus.specs.Transactions.{Transaction, busBytes}
 use Rattle.bus.specs.Cost.{dataCount}
 use Rattle.packing.specs.declared.Pending.{Pending}
-use Rattle.packing.specs.Packing.{listBits, packed}
-use Rattle.packing.specs.Written.{Sound, Room}
+use Rattle.packing.specs.Packing.{packed}
+use Rattle.packing.specs.Written.{listBits, Sound, Room}
 use Rattle.least_cost.specs.Plan.{scan, greedyPlan}
 use Rattle.cutting.specs.Task.{largestCount, mapTask}
 use Rattle.planning.specs.declared.plan.Planned.{Planned}
@@ -85,13 +85,12 @@ abbrev pub packingOf : List Transaction → ℕ → Verdict Counts
 packingOf ts room = cond (leb (length (packed ts)) room) (good (countsOf ts)) (refusedAt 10 0)
 
 -- the lent plan after an answer: the packed list, and what was past it; as it was after a refusal
-abbrev pub leftBy : List Transaction → List ℕ → Verdict Counts → List ℕ
-leftBy ts plan (good n) = packed ts ++ drop (n .length) plan
-leftBy ts plan (refusedAt n f) = plan
+abbrev pub packedLeft : List Transaction → List ℕ → Verdict Counts → List ℕ
+packedLeft ts plan v = leftBy plan (packed ts ++ drop (length (packed ts)) plan) v
 
 -- the lent plan after packing a list into it
 abbrev pub planAfter : List Transaction → List ℕ → List ℕ
-planAfter ts plan = leftBy ts plan (packingOf ts (length plan))
+planAfter ts plan = packedLeft ts plan (packingOf ts (length plan))
 
 -- a plan of that many bytes, transactions and bus bytes
 abbrev pub done : ℕ → ℕ → ℕ → Verdict Counts

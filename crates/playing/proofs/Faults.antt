@@ -10,8 +10,7 @@ use Rattle.refusals.specs.Verdict.{Verdict, good, refusedAt}
 use Rattle.refusals.specs.Order.{placesAt, firstOf, Exactly}
 use Rattle.refusals.proofs.OrderLaws.{exactly}
 use Rattle.bus.specs.Transactions.{Transaction}
-use Rattle.bus.specs.Chip.{fresh}
-use Rattle.bus.specs.Run.{run, allAcknowledged, listEvents}
+use Rattle.bus.specs.Run.{idleAt, run, allAcknowledged, listEvents}
 use Rattle.bus.specs.Known.{knownAfter}
 use Rattle.bus.specs.Address.{addressRight}
 use Rattle.playing.specs.Playing.{Call, judged, rowPlayed, playOrder, acknowledged, playOf, registersLeft, knownLeft}
@@ -51,14 +50,15 @@ module _ (c : Call) (known : ℕ) where
       plan-fault n p = refuses n (rw (eq-eqb (length (c .image)) (c .kind .count) h, e, f, p, ← only-nine c n p))
 
       none : (ts : List Transaction) → judged c ≡ accepted ts
-          → playOf c ≡ good (allAcknowledged (c .kind) (fresh (c .image)) (listEvents (c .used) ts))
+          → playOf c ≡ good (allAcknowledged (c .kind) (idleAt 0 (c .image)) (listEvents (c .used) ts))
       unfolding playOf rowPlayed playOrder placesAt firstOf
       none ts p = rw (eq-eqb (length (c .image)) (c .kind .count) h, e, f, p)
 
       -- it is played
       pub plan-played : (ts : List Transaction) → judged c ≡ accepted ts
-          → Left c known (good (allAcknowledged (c .kind) (fresh (c .image)) (listEvents (c .used) ts)))
-          (run (c .kind) (fresh (c .image)) (listEvents (c .used) ts) .registers) (knownAfter (c .kind) (fresh (c .image)) known (listEvents (c .used) ts))
+          → Left c known (good (allAcknowledged (c .kind) (idleAt 0 (c .image)) (listEvents (c .used) ts)))
+          (run (c .kind) (idleAt 0 (c .image)) (listEvents (c .used) ts) .registers)
+          (knownAfter (c .kind) (idleAt 0 (c .image)) known (listEvents (c .used) ts))
       unfolding registersLeft knownLeft
       plan-played ts p = record { answer = sym (none ts p); stored = rw (none ts p, p); marked = rw (none ts p, p) }
 

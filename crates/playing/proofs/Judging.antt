@@ -8,12 +8,13 @@ use native.Mathlib.Omega.{arith}
 use lib.Dec.{T, leb}
 use Rattle.bits.proofs.FlagLaws.{first, second}
 use Rattle.refusals.specs.Refusal.{Judged, accepted, refused}
-use Rattle.bus.specs.Transactions.{Transaction, size, end, Every}
+use Rattle.bus.specs.Transactions.{Transaction, size, end}
 use Rattle.packing.specs.Packing.{encodable, arranged}
 use Rattle.unpacking.specs.Unpacking.{unpackBy}
 use Rattle.unpacking.proofs.Tests.{encodable-facts}
 use Rattle.unpacking.proofs.Exact.{unpacks-packed, exact, in-order, refused-nine}
 use Rattle.playing.specs.Playing.{Call, judgedIf, judged, JudgedBy}
+use Rattle.bits.specs.Lists.{Every}
 
 module _ (test : List Transaction → Bool) where
   -- what it is judged as, by what the test says

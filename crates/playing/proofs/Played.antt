@@ -10,9 +10,8 @@ use lib.Dec.{eqb}
 use lib.ListN.{length}
 use Rattle.refusals.specs.Refusal.{Judged, accepted, refused}
 use Rattle.refusals.specs.Verdict.{good}
-use Rattle.bus.specs.Transactions.{Transaction, size, Every}
-use Rattle.bus.specs.Chip.{fresh}
-use Rattle.bus.specs.Run.{run, allAcknowledged, listEvents}
+use Rattle.bus.specs.Transactions.{Transaction, size}
+use Rattle.bus.specs.Run.{idleAt, run, allAcknowledged, listEvents}
 use Rattle.bus.specs.Written.{allWritten}
 use Rattle.bus.specs.Known.{knownAfter, marksOf}
 use Rattle.bus.specs.Address.{addressRight}
@@ -24,6 +23,7 @@ use Rattle.unpacking.specs.Unpacking.{unpackBy, counted}
 use Rattle.playing.specs.Playing.{Call, judged}
 use Rattle.playing.proofs.Judging.{was-taken, unpacked-sized}
 use Rattle.playing.proofs.Faults.{Left, plan-played}
+use Rattle.bits.specs.Lists.{Every}
 
 module _ (c : Call) (known : ℕ) (h : length (c .image) ≡ c .kind .count) (e : addressRight (c .used) ≡ true) (f : addressRight (c .kind .address) ≡ true) where
   -- at the chip's own address
@@ -38,14 +38,14 @@ module _ (c : Call) (known : ℕ) (h : length (c .image) ≡ c .kind .count) (e 
         marked = sym marks ∙ l .marked;
       }
     where
-      acks : Every (λ t. 0 < size t) ts → allAcknowledged (c .kind) (fresh (c .image)) (listEvents (c .used) ts) ≡ true
-      acks sized = rw same (run-acknowledged (c .kind) ts (fresh (c .image)) kept sized)
+      acks : Every (λ t. 0 < size t) ts → allAcknowledged (c .kind) (idleAt 0 (c .image)) (listEvents (c .used) ts) ≡ true
+      acks sized = rw same (run-acknowledged (c .kind) ts (idleAt 0 (c .image)) kept sized)
 
-      stores : run (c .kind) (fresh (c .image)) (listEvents (c .used) ts) .registers ≡ allWritten (c .image) ts
-      stores = rw same (run-written (c .kind) ts (fresh (c .image)) kept)
+      stores : run (c .kind) (idleAt 0 (c .image)) (listEvents (c .used) ts) .registers ≡ allWritten (c .image) ts
+      stores = rw same (run-written (c .kind) ts (idleAt 0 (c .image)) kept)
 
-      marks : knownAfter (c .kind) (fresh (c .image)) known (listEvents (c .used) ts) ≡ marksOf known ts
-      marks = rw same (known-marks (c .kind) ts (fresh (c .image)) known kept)
+      marks : knownAfter (c .kind) (idleAt 0 (c .image)) known (listEvents (c .used) ts) ≡ marksOf known ts
+      marks = rw same (known-marks (c .kind) ts (idleAt 0 (c .image)) known kept)
 
   -- at another
   pub played-elsewhere : c .used ≢ c .kind .address → (n : ℕ) → counted (judged c) ≡ accepted n → Left c known (good (eqb n 0)) (c .image) known
@@ -58,8 +58,8 @@ module _ (c : Call) (known : ℕ) (h : length (c .image) ≡ c .kind .count) (e 
           let l = plan-played c known h e f ts p in
           record {
             answer =
-                sym (ap good (only-empty (c .kind) (c .used) wrong read ts (fresh (c .image)) ∙ ap (λ (k : ℕ). eqb k 0) same)) ∙ l .answer;
-            stored = sym (list-elsewhere (c .kind) (c .used) wrong read ts (fresh (c .image))) ∙ l .stored;
-            marked = sym (known-elsewhere (c .kind) (c .used) wrong read ts (fresh (c .image)) known) ∙ l .marked;
+                sym (ap good (only-empty (c .kind) (c .used) wrong read ts (idleAt 0 (c .image)) ∙ ap (λ (k : ℕ). eqb k 0) same)) ∙ l .answer;
+            stored = sym (list-elsewhere (c .kind) (c .used) wrong read ts (idleAt 0 (c .image))) ∙ l .stored;
+            marked = sym (known-elsewhere (c .kind) (c .used) wrong read ts (idleAt 0 (c .image)) known) ∙ l .marked;
           }
       go (refused m) p q = let z : _≡_ {A = ℕ} 0 1 = cc in absurd (omega arith)

@@ -8,17 +8,16 @@ use mathlib.Core.List.{List, [], _∷_}
 use Prim.Native.Nat.{ℕ}
 use lib.Dec.{eqb}
 use lib.ListN.{length}
-use Rattle.refusals.specs.Refusal.{Judged, accepted, refused, refusedBy}
-use Rattle.refusals.specs.Verdict.{Verdict, good, refusedAt}
+use Rattle.refusals.specs.Refusal.{Judged, accepted, refused, refusedBy, valueOr}
+use Rattle.refusals.specs.Verdict.{Verdict, leftBy}
 use Rattle.refusals.specs.Order.{Place, placesAt, firstOf}
 use Rattle.bus.specs.Transactions.{Transaction}
 use Rattle.bus.specs.Address.{addressRight}
-use Rattle.bus.specs.Chip.{Kind, fresh}
-use Rattle.bus.specs.Run.{run, allAcknowledged, listEvents}
+use Rattle.bus.specs.Chip.{Kind}
+use Rattle.bus.specs.Run.{idleAt, run, allAcknowledged, listEvents}
 use Rattle.bus.specs.Known.{knownAfter}
 use Rattle.packing.specs.Packing.{Packs}
 use Rattle.unpacking.specs.Unpacking.{unpackBy}
-use Rattle.unpacking.specs.Listed.{listed}
 
 -- what is handed to a play call: the chip with its own address; by the end of a transaction, where the next one may start in its packing; the lists that the
 -- call takes; the image that the chip holds; the address used; the plan's bytes
@@ -57,21 +56,16 @@ playOrder = placesAt (1 ∷ 2 ∷ 9 ∷ []) 0
 
 -- whether a fresh chip with the image acknowledges every byte of the plan's
 abbrev pub acknowledged : Call → Bool
-acknowledged c = allAcknowledged (c .kind) (fresh (c .image)) (listEvents (c .used) (listed (judged c)))
+acknowledged c = allAcknowledged (c .kind) (idleAt 0 (c .image)) (listEvents (c .used) (valueOr [] (judged c)))
 
 -- what playing answers: row n at no field where it is the first of the checking order that holds; else whether every byte is acknowledged
 unfoldable pub playOf : Call → Verdict Bool
 playOf c = firstOf (rowPlayed c) playOrder (acknowledged c)
 
--- what an answer leaves of something: as it was after a refusal
-abbrev pub leftBy : {A : Type 0} → A → A → Verdict Bool → A
-leftBy before after (good b) = after
-leftBy before after (refusedAt n f) = before
-
 -- the registers that playing leaves: those of the fresh chip after the same events
 unfoldable pub registersLeft : Call → List ℕ
-registersLeft c = leftBy (c .image) (run (c .kind) (fresh (c .image)) (listEvents (c .used) (listed (judged c))) .registers) (playOf c)
+registersLeft c = leftBy (c .image) (run (c .kind) (idleAt 0 (c .image)) (listEvents (c .used) (valueOr [] (judged c))) .registers) (playOf c)
 
 -- the registers that are known after it, where those of a map were before
 unfoldable pub knownLeft : Call → ℕ → ℕ
-knownLeft c known = leftBy known (knownAfter (c .kind) (fresh (c .image)) known (listEvents (c .used) (listed (judged c)))) (playOf c)
+knownLeft c known = leftBy known (knownAfter (c .kind) (idleAt 0 (c .image)) known (listEvents (c .used) (valueOr [] (judged c)))) (playOf c)

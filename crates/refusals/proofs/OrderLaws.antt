@@ -2,14 +2,22 @@
 use mathlib.Core.Path.{_≡_, refl, sym, ap, ap₂, _∙_, subst}
 use mathlib.Core.Logic.{_↔_}
 use mathlib.Core.Bool.{Bool, true, false, cond}
-use mathlib.Core.List.{List, [], _∷_, _++_, append-nil}
+use mathlib.Core.List.{List, [], _∷_, _++_, append-nil, append-assoc, flatMap}
 use Prim.Native.Nat.{ℕ}
 use native.Mathlib.Omega.{arith}
 use Rattle.refusals.specs.Verdict.{Verdict, good, refusedAt, after, faultWhere}
-use Rattle.refusals.specs.Order.{Place, firstOf, NoneHolds, FirstAt, Exactly}
+use Rattle.refusals.specs.Order.{Place, firstOf, placesAt, placesIn, NoneHolds, FirstAt, Exactly}
 use Rattle.refusals.proofs.VerdictLaws.{after-assoc, row-before}
 
 -- ---- places before others
+
+-- the places of some fields before those of others
+pub places-append : (rows : ℕ → List ℕ) (fs gs : List ℕ) → placesIn rows (fs ++ gs) ≡ placesIn rows fs ++ placesIn rows gs
+unfolding placesIn flatMap
+places-append rows [] gs = refl
+places-append rows (f ∷ fs) gs =
+    ap (λ (l : List Place). placesAt (rows f) f ++ l) (places-append rows fs gs)
+    ∙ sym (append-assoc (placesAt (rows f) f) (placesIn rows fs) (placesIn rows gs))
 
 -- the places of one list before those of another
 pub first-append : {A : Type 0} (holds : ℕ → ℕ → Bool) (ps qs : List Place) (a : A)

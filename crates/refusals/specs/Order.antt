@@ -3,7 +3,7 @@
 use mathlib.Core.Path.{_≡_}
 use mathlib.Core.Logic.{_↔_}
 use mathlib.Core.Bool.{Bool, true, false, cond}
-use mathlib.Core.List.{List, [], _∷_, _++_}
+use mathlib.Core.List.{List, [], _∷_, _++_, map, flatMap}
 use Prim.Native.Nat.{ℕ}
 use Rattle.refusals.specs.Verdict.{Verdict, good, refusedAt}
 
@@ -19,13 +19,11 @@ firstOf holds (p ∷ ps) a = cond (holds (p .row) (p .field)) (refusedAt (p .row
 
 -- rows at one field
 unfoldable pub placesAt : List ℕ → ℕ → List Place
-placesAt [] f = []
-placesAt (n ∷ ns) f = record { row = n; field = f } ∷ placesAt ns f
+placesAt rows f = map (λ n. record { row = n; field = f }) rows
 
--- one row at some fields
-unfoldable pub placesOver : ℕ → List ℕ → List Place
-placesOver n [] = []
-placesOver n (f ∷ fs) = record { row = n; field = f } ∷ placesOver n fs
+-- some fields, one after the other, each with its rows
+unfoldable pub placesIn : (ℕ → List ℕ) → List ℕ → List Place
+placesIn rows fs = flatMap (λ f. placesAt (rows f) f) fs
 
 -- no row of some places holds
 abbrev pub NoneHolds : (ℕ → ℕ → Bool) → List Place → Type 0

@@ -21,3 +21,8 @@ faultOf f (refused n) = refusedAt n f
 -- the fault where a row holds at a field
 abbrev pub faultWhere : Bool → ℕ → ℕ → Verdict (Unit {0})
 faultWhere holds n f = cond holds (refusedAt n f) (good tt)
+
+-- what an answer leaves of something lent: as it was after a refusal
+abbrev pub leftBy : {A B : Type 0} → B → B → Verdict A → B
+leftBy before after (good a) = after
+leftBy before after (refusedAt n f) = before

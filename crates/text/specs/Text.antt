@@ -1,7 +1,7 @@
 -- Document 01, "Cases on each side": counts are decimal numbers, bytes two-digit capital hexadecimal, one space between, each line on its own.
 -- Text is a list of ASCII codes.
 use mathlib.Core.Bool.{cond}
-use mathlib.Core.List.{List, [], _∷_, _++_}
+use mathlib.Core.List.{List, [], _∷_, _++_, flatMap}
 use Prim.Native.Nat.{ℕ, zero, suc, _+_, _/_, _%_}
 use lib.Dec.{eqb, ltb}
 use lib.IntN.{ℤ, pos, negsuc}
@@ -39,3 +39,7 @@ hexDigit d = cond (ltb d 10) (0x30 + d) (0x37 + d)
 -- a byte in two hexadecimal digits
 unfoldable pub hexByte : ℕ → List ℕ
 hexByte b = hexDigit (b / 16) ∷ hexDigit (b % 16) ∷ []
+
+-- bytes, each after a space
+unfoldable pub hexText : List ℕ → List ℕ
+hexText bs = flatMap (λ b. space ++ hexByte b) bs

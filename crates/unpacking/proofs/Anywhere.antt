@@ -8,11 +8,12 @@ use lib.Dec.{T, leb, ltb, le→leb, lt→ltb}
 use lib.ListN.{length}
 use Rattle.bits.proofs.FlagLaws.{both}
 use Rattle.refusals.specs.Refusal.{accepted}
-use Rattle.bus.specs.Transactions.{Transaction, Every}
+use Rattle.bus.specs.Transactions.{Transaction}
 use Rattle.packing.specs.Packing.{packed, encodable, anywhere, arranged, wellFormedBy}
 use Rattle.unpacking.specs.Unpacking.{unpackBy}
 use Rattle.unpacking.proofs.Tests.{Encodable, encodable-from}
 use Rattle.unpacking.proofs.Exact.{packed-unpacks}
+use Rattle.bits.specs.Lists.{Every}
 
 -- they are arranged in any order
 anywhere-arranged : (ts : List Transaction) → Every Encodable ts → T (arranged anywhere 0 ts)

@@ -11,9 +11,10 @@ use Rattle.bits.specs.Strings.{msbFirst, byteBits}
 use Rattle.bits.specs.Bytes.{sameBytes}
 use Rattle.bits.proofs.StringLaws.{msb-length}
 use Rattle.bits.proofs.ByteLaws.{byteBits-bytesOf}
-use Rattle.bus.specs.Transactions.{Transaction, Every, end}
+use Rattle.bus.specs.Transactions.{Transaction, end}
 use Rattle.refusals.specs.Refusal.{Judged, accepted, refused}
-use Rattle.packing.specs.Packing.{listBits, packedBits, packed, encodable, behind, arranged, wellFormedBy, Packs}
+use Rattle.packing.specs.Packing.{packed, encodable, behind, arranged, wellFormedBy, Packs}
+use Rattle.packing.specs.Written.{listBits, packedBits}
 use Rattle.packing.proofs.FillLaws.{filled-bytes}
 use Rattle.unpacking.specs.Unpacking.{UnpacksBy, packs, packs-none, number, candidate, unpackBy, unpack}
 use Rattle.bits.proofs.FlagLaws.{both, first, second, same-test, holds}
@@ -21,6 +22,7 @@ use Rattle.bits.proofs.SameLaws.{same-bytes, same-self}
 use Rattle.unpacking.proofs.Tests.{encodable-facts}
 use Rattle.unpacking.proofs.FrontLaws.{number-front, rest-front, number-lt, number-bits}
 use Rattle.unpacking.proofs.Reader.{valid, sound, complete}
+use Rattle.bits.specs.Lists.{Every}
 
 -- ---- what was packed
 

@@ -2,7 +2,7 @@
 -- The code runs this reader. Assumes nothing.
 use mathlib.Core.Path.{_≡_, refl, sym, ap, ap₂, _∙_, subst}
 use mathlib.Core.Bool.{Bool, false, _&&_}
-use mathlib.Core.List.{List, [], _∷_, _++_, append-assoc}
+use mathlib.Core.List.{List, [], _∷_, _++_, append-assoc, flatMap}
 use Prim.Native.Nat.{ℕ, zero, suc, _+_, _*_, _≤_, _<_}
 use native.Mathlib.Omega.{arith}
 use lib.Dec.{T, leb, ltb, eqb, leb→le, le→leb, ltb→lt, lt→ltb, eqb→eq}
@@ -13,7 +13,8 @@ use Rattle.bits.specs.Strings.{msbFirst, msbValue, byteBits, bytesOf}
 use Rattle.bits.proofs.StringLaws.{msb-value, msb-bits}
 use Rattle.bits.proofs.ByteLaws.{byteBits-length, bytesOf-length, bytesOf-lt}
 use Rattle.bus.specs.Transactions.{Transaction, size, end}
-use Rattle.packing.specs.Packing.{transactionBits, listBits, encodable, arranged}
+use Rattle.packing.specs.Packing.{transactionBits, encodable, arranged}
+use Rattle.packing.specs.Written.{listBits}
 use Rattle.packing.proofs.FillLaws.{msb-zero}
 use Rattle.packing.proofs.PackedLaws.{transactionBits-length}
 use Rattle.unpacking.specs.Unpacking.{number, named}
@@ -109,7 +110,7 @@ module _ (next : ℕ → ℕ) where
 
   -- what the reader accepts holds the transactions that it names
   pub sound : (n free : ℕ) (bs : List Bool) → T (valid n free bs) → Holds n free bs (named n bs)
-  unfolding valid named listBits arranged
+  unfolding valid named flatMap arranged
   sound zero free bs h =
       record {
         count = refl;
@@ -184,7 +185,7 @@ named-none bs = refl
 -- the bits of transactions, and zero bits after them, are accepted, and the transactions named
 pub complete : (next : ℕ → ℕ) (free : ℕ) (ts : List Transaction) (fill : ℕ) → fill < 8 → T (arranged next free ts)
     → T (valid next (length ts) free (listBits ts ++ replicate fill false)) × (named (length ts) (listBits ts ++ replicate fill false) ≡ ts)
-unfolding arranged listBits
+unfolding arranged flatMap
 complete next free [] fill few h = (filling-valid next free fill few, named-none (replicate fill false))
 complete next free (t ∷ ts) fill few h =
     let h₁ = second (leb free (t .subaddress)) (encodable t && arranged next (next (end t)) ts) h in

@@ -3,7 +3,7 @@ ghost use mathlib.Core.Path.{_≡_};
 ghost use lib.ListN.{length};
 ghost use Rattle.unpacking.specs.Unpacking.{unpackBy};
 ghost use Rattle.unpacking.specs.Steps.{startAfter};
-ghost use Rattle.unpacking.specs.Indexed.{transactionIn, foundAs, FoundPlaced, transactionOf, headerOf, dataAfter, answerOf};
+ghost use Rattle.unpacking.specs.Indexed.{lookedUp, foundAs, FoundPlaced, transactionOf, headerOf, dataAfter, answerOf};
 use crate::places::Place;
 use crate::places::copy_data;
 use crate::steps::Order;
@@ -31,7 +31,7 @@ pub enum Answer {
 
 // The transaction with an index, counted from 0, of a plan whose bytes keep the packing in an order.
 fn find(plan: &[u8], order: Order, index: u32) -> Found
-    ensures answer { λ r. ⌜ foundAs (now (plan .entry)) r ≡ transactionIn (unpackBy (startAfter order) (now (plan .entry))) index ⌝ }
+    ensures answer { λ r. ⌜ foundAs (now (plan .entry)) r ≡ lookedUp (unpackBy (startAfter order) (now (plan .entry))) index ⌝ }
     ensures placed { λ r. ⌜ FoundPlaced (now (plan .entry)) r ⌝ }
 {
     let mut cursor = begin(plan, order);

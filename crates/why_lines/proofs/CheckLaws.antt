@@ -14,11 +14,15 @@ use Rattle.adv7194_settings.proofs.ReadingLaws.{none-unknown}
 use Rattle.adv7194_planning.proofs.CaseLaws.{table-fields, lowestUnfixed, by-register}
 use Rattle.adv7194_planning.proofs.CheckLaws.{verdict, unknownVerdict, check-settings}
 use Rattle.adv7194_planning.proofs.KnownLaws.{none-unfixed}
-use Rattle.adv7194_reasons.specs.Why.{whyOf}
+use Rattle.adv7194_reasons.specs.Reasons.{Reason}
+use Rattle.adv7194_reasons.specs.Why.{reasonIn, whyOf}
 use Rattle.adv7194_reasons.proofs.WhyLaws.{why-checks}
 use Rattle.house_listing.specs.HouseText.{boardIn}
 use Rattle.house_listing.proofs.HouseLaws.{house-good, house-count}
-use Rattle.why_lines.specs.RegisterLine.{houseReason}
+
+-- the reason of a register in the plan of the house setting over an image
+abbrev pub houseReason : List ℕ → ℕ → Reason
+houseReason image = reasonIn (boardIn image) house noLimit
 
 module _ (image : List ℕ) where
   -- no register is unknown

@@ -3,13 +3,9 @@ use mathlib.Core.List.{List, [], _++_}
 use Prim.Native.Nat.{ℕ, _+_}
 use Rattle.refusals.specs.Verdict.{Verdict, good, refusedAt}
 use Rattle.text.specs.Text.{space, lineEnd, hexByte}
-use Rattle.adv7194_bus.specs.Limit.{noLimit}
 use Rattle.writing.specs.Ascii.{ascii}
 use Rattle.adv7194_names.specs.Names.{named}
-use Rattle.adv7194_settings.specs.House.{house}
 use Rattle.adv7194_reasons.specs.Reasons.{Reason, notSent, unknown, changed, zeroed, companion, bridge}
-use Rattle.adv7194_reasons.specs.Why.{reasonIn}
-use Rattle.house_listing.specs.HouseText.{boardIn}
 
 -- a reason in plain words
 unfoldable pub reasonText : Reason → List ℕ
@@ -23,10 +19,6 @@ reasonText (bridge i j) = ascii "between " ++ hexByte i ++ ascii " and " ++ hexB
 -- a register's line: its number and the reason
 unfoldable pub registerLine : ℕ → Reason → List ℕ
 registerLine r k = hexByte r ++ space ++ reasonText k ++ lineEnd
-
--- the reason of a register in the plan of the house setting over an image
-abbrev pub houseReason : List ℕ → ℕ → Reason
-houseReason image = reasonIn (boardIn image) house noLimit
 
 -- an answer in plain words: those of the reason, none for a refusal
 abbrev pub answerWords : Verdict Reason → List ℕ

@@ -1,6 +1,6 @@
--- Lines one after the other: those of registers, and those of transactions; and the most bytes of the latter. Assumes nothing.
-use mathlib.Core.Path.{_≡_, refl, sym, ap, ap₂, _∙_}
-use mathlib.Core.List.{List, [], _∷_, _++_, append-assoc, append-nil}
+-- Lines of registers one after the other; and the most bytes of those of transactions. Assumes nothing.
+use mathlib.Core.Path.{_≡_, refl, ap, ap₂, _∙_}
+use mathlib.Core.List.{List, [], _∷_, _++_}
 use Prim.Native.Nat.{ℕ, suc, _+_, _-_, _*_, _≤_, _<_}
 use native.Mathlib.Nat.{add-zero, sub-zero}
 use native.Mathlib.Omega.{arith}
@@ -14,8 +14,8 @@ use Rattle.unpacking.specs.Listed.{listed, Accepted}
 use Rattle.unpacking.proofs.Exact.{unpacks-packed}
 use Rattle.adv7194_reasons.specs.Reasons.{Reason}
 use Rattle.why_lines.specs.RegisterLine.{registerLine}
-use Rattle.why_listing.specs.WhyText.{registerLines, whyLines}
-use Rattle.why_listing.specs.Parts.{transactionText, transactionWidth, byteWidth}
+use Rattle.why_listing.specs.WhyText.{registerLines}
+use Rattle.why_listing.specs.Parts.{transactionWidth, byteWidth}
 
 -- ---- registers
 
@@ -40,19 +40,6 @@ module _ (why : ℕ → Reason) (first count : ℕ) where
   pub lines-end : (i : ℕ) → count ≤ i → linesFrom i ≡ []
   unfolding registerLines
   lines-end i h = let c : count - i ≡ 0 = omega arith in ap (λ (k : ℕ). registerLines why k (first + i)) c
-
--- ---- transactions
-
-why-append : (why : ℕ → Reason) (ts us : List Transaction) → whyLines why (ts ++ us) ≡ whyLines why ts ++ whyLines why us
-unfolding whyLines
-why-append why [] us = refl
-why-append why (t ∷ ts) us =
-    ap (λ (l : List ℕ). transactionText why t ++ l) (why-append why ts us) ∙ sym (append-assoc (transactionText why t) (whyLines why ts) (whyLines why us))
-
--- one more
-pub why-more : (why : ℕ → Reason) (ts : List Transaction) (t : Transaction) → whyLines why ts ++ transactionText why t ≡ whyLines why (ts ++ (t ∷ []))
-unfolding whyLines
-why-more why ts t = ap (λ (l : List ℕ). whyLines why ts ++ l) (sym (append-nil (transactionText why t))) ∙ sym (why-append why ts (t ∷ []))
 
 -- ---- the most bytes
 

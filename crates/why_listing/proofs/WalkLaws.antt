@@ -1,6 +1,6 @@
 -- A walk through a well-formed plan that writes the lines of each transaction. Assumes nothing.
 use mathlib.Core.Path.{_≡_, ap}
-use mathlib.Core.List.{List, [], _∷_, _++_}
+use mathlib.Core.List.{List, [], _∷_, _++_, flatMap}
 use Prim.Native.Nat.{ℕ, _+_, _*_, _^_, _≤_, _<_}
 use native.Mathlib.Omega.{arith}
 use lib.ListN.{length, getD}
@@ -14,24 +14,25 @@ use Rattle.unpacking.specs.Steps.{beginning, transactionAt}
 use Rattle.unpacking.specs.Listed.{Accepted}
 use Rattle.unpacking.proofs.StepLaws.{Went}
 use Rattle.unpacking.proofs.Walking.{Walked, walk-begins, walk-goes}
+use Rattle.plan_listing.proofs.TextLaws.{lines-more}
 use Rattle.plan_listing.proofs.WalkLaws.{passed-first}
 use Rattle.writing.specs.Put.{Put}
 use Rattle.writing.proofs.Putting.{more, wider, same-text, unwritten}
 use Rattle.adv7194_reasons.specs.Reasons.{Reason}
-use Rattle.why_listing.specs.WhyText.{whyLines}
-use Rattle.why_listing.specs.Parts.{transactionText, transactionWidth, byteWidth}
-use Rattle.why_listing.proofs.LineLaws.{why-more, listWidth, width-append, width-more, plan-width}
+use Rattle.why_listing.specs.WhyText.{transactionText}
+use Rattle.why_listing.specs.Parts.{transactionWidth, byteWidth}
+use Rattle.why_listing.proofs.LineLaws.{listWidth, width-append, width-more, plan-width}
 
 -- the transactions passed, and their lines written
 pub record Listing (why : ℕ → Reason) (line₀ : List ℕ) (at : ℕ) (plan line : List ℕ) (cursor : Cursor) (place : ℕ) : Type 0 where
   pub done : List Transaction
   pub walked : Walked plan Ascending done cursor
-  pub written : Put (listWidth done) line₀ at (whyLines why done) line place
+  pub written : Put (listWidth done) line₀ at (flatMap (transactionText why) done) line place
 
 -- none was
 pub listing-begins : (why : ℕ → Reason) (line plan : List ℕ) (at : ℕ) (c : Cursor) → c ≡ beginning plan Ascending → ((i : ℕ) → getD plan i 0 < 2 ^ 8)
     → at ≤ length line → Listing why line at plan line c at
-unfolding whyLines
+unfolding flatMap
 listing-begins why line plan at c e bytes h = record { done = []; walked = rw e (walk-begins plan Ascending bytes); written = unwritten line at h }
 
 -- a transaction was found
@@ -62,5 +63,5 @@ module _ {why : ℕ → Reason} {line₀ : List ℕ} {at : ℕ} {plan line : Lis
         walked = walk-goes (l .walked) g;
         written =
             wider (listWidth (l .done ++ (found ∷ []))) (omega (arith, width-more (l .done) found, as-many))
-            (same-text (why-more why (l .done) found) (more (l .written) p both-room));
+            (same-text (lines-more (transactionText why) (l .done) found) (more (l .written) p both-room));
       }

@@ -1,23 +1,14 @@
--- The parts of the text as they are written, and the most bytes of each.
+-- What the text is written from, and the most bytes of each part.
 use mathlib.Core.Path.{_≡_}
-use mathlib.Core.List.{List, _++_}
+use mathlib.Core.List.{List}
 use Prim.Native.Nat.{ℕ, _+_, _*_, _≤_}
 use lib.ListN.{length}
 use Rattle.refusals.specs.Verdict.{Verdict, good}
-use Rattle.bus.specs.Transactions.{Transaction, size}
-use Rattle.listing.specs.Written.{lineWidth}
-use Rattle.plan_listing.specs.PlanText.{transactionLine}
 use Rattle.planning.specs.Plan.{Counts}
 use Rattle.answer_listing.specs.AnswerText.{Holds}
 use Rattle.adv7194_bus.specs.Kind.{registerCount}
 use Rattle.adv7194_least.specs.Demands.{wideBytes}
-use Rattle.adv7194_reasons.specs.Reasons.{Reason}
 use Rattle.why_lines.specs.RegisterLine.{registerWidth}
-use Rattle.why_listing.specs.WhyText.{registerLines}
-
--- a transaction's line and those of its registers
-abbrev pub transactionText : (ℕ → Reason) → Transaction → List ℕ
-transactionText why t = transactionLine t ++ registerLines why (size t) (t .subaddress)
 
 -- a lent plan holds what planning answered, and an image that was planned over has 54 bytes
 pub record Ready (image plan : List ℕ) (v : Verdict Counts) : Type 0 where
@@ -35,6 +26,6 @@ transactionWidth n = 3 * (n + 1) + registerWidth * n
 abbrev pub byteWidth : ℕ
 byteWidth = 3 + registerWidth
 
--- the whole text: the first line, and the lines of the longest plan
+-- the whole text: the first line's 50, and 36 for each of the 44 bytes of the longest plan
 abbrev pub textWidth : ℕ
-textWidth = lineWidth + byteWidth * wideBytes
+textWidth = 1_634

@@ -1,13 +1,10 @@
 -- Document 02, P7, for the front desk: the house setting planned over an image that is known in full, as `house_plan` prints it, and under each transaction's
 -- line one line for each register sent: its number, and the reason in plain words.
-use mathlib.Core.List.{List, [], _∷_, _++_}
+use mathlib.Core.List.{List, [], _++_}
 use Prim.Native.Nat.{ℕ, zero, suc}
-use lib.ListN.{length}
-use Rattle.refusals.specs.Verdict.{Verdict, good, refusedAt}
-use Rattle.bus.specs.Transactions.{Transaction, size, busBytes}
-use Rattle.planning.specs.Plan.{Counts}
-use Rattle.listing.specs.Lines.{planLine, refusedLine}
+use Rattle.bus.specs.Transactions.{Transaction, size}
 use Rattle.plan_listing.specs.PlanText.{transactionLine}
+use Rattle.answer_listing.specs.AnswerText.{answerText}
 use Rattle.adv7194_bus.specs.Kind.{boardAddress}
 use Rattle.adv7194_bus.specs.Limit.{noLimit}
 use Rattle.adv7194_settings.specs.House.{house}
@@ -15,26 +12,21 @@ use Rattle.adv7194_least.specs.Demands.{wideBytes}
 use Rattle.adv7194_planning.specs.Rows.{listOf}
 use Rattle.adv7194_planning.specs.Planning.{planningOf}
 use Rattle.adv7194_reasons.specs.Reasons.{Reason}
+use Rattle.adv7194_reasons.specs.Why.{reasonIn}
 use Rattle.house_listing.specs.HouseText.{boardIn}
-use Rattle.why_lines.specs.RegisterLine.{registerLine, houseReason}
+use Rattle.why_lines.specs.RegisterLine.{registerLine}
 
 -- the lines of k registers from r on, by the reason of each
 unfoldable pub registerLines : (ℕ → Reason) → ℕ → ℕ → List ℕ
 registerLines why zero r = []
 registerLines why (suc k) r = registerLine r (why r) ++ registerLines why k (suc r)
 
--- a line a transaction, and under it a line for each register sent
-unfoldable pub whyLines : (ℕ → Reason) → List Transaction → List ℕ
-whyLines why [] = []
-whyLines why (t ∷ ts) = transactionLine t ++ registerLines why (size t) (t .subaddress) ++ whyLines why ts
-
--- the text of what planning answered
-abbrev pub whyTextOf : (ℕ → Reason) → List Transaction → Verdict Counts → List ℕ
-whyTextOf why ts (good n) = planLine (length ts) (busBytes ts) ++ whyLines why ts
-whyTextOf why ts (refusedAt n f) = refusedLine n f
+-- a transaction's line, and under it a line for each register sent
+abbrev pub transactionText : (ℕ → Reason) → Transaction → List ℕ
+transactionText why t = transactionLine t ++ registerLines why (size t) (t .subaddress)
 
 -- the text of the house setting planned over an image
 unfoldable pub houseWhyText : List ℕ → List ℕ
 houseWhyText image =
-    whyTextOf (houseReason image) (listOf (boardIn image) house noLimit)
+    answerText (transactionText (reasonIn (boardIn image) house noLimit)) (listOf (boardIn image) house noLimit)
     (planningOf (boardIn image) house boardAddress noLimit wideBytes)

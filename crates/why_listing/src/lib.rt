@@ -5,10 +5,13 @@ ghost use lib.ListN.{length};
 ghost use Rattle.text.specs.Line.{placeAfter, appended};
 ghost use Rattle.listing.specs.Written.{lineWidth};
 ghost use Rattle.planning.specs.Plan.{answerOf};
-ghost use Rattle.answer_listing.specs.AnswerText.{firstLine, listIn};
+ghost use Rattle.answer_listing.specs.AnswerText.{firstLine, answerText, listIn};
 ghost use Rattle.writing.specs.Put.{Put};
-ghost use Rattle.why_lines.specs.RegisterLine.{houseReason};
-ghost use Rattle.why_listing.specs.WhyText.{whyTextOf, houseWhyText};
+ghost use Rattle.adv7194_bus.specs.Limit.{noLimit};
+ghost use Rattle.adv7194_settings.specs.House.{house};
+ghost use Rattle.adv7194_reasons.specs.Why.{reasonIn};
+ghost use Rattle.house_listing.specs.HouseText.{boardIn};
+ghost use Rattle.why_listing.specs.WhyText.{transactionText, houseWhyText};
 ghost use Rattle.why_listing.specs.Parts.{Ready, textWidth};
 use answer_listing::first_line;
 use house_listing::MOST_BYTES;
@@ -37,7 +40,7 @@ fn put_first(line: &mut [u8], planned: Planned) -> usize
 // Writes the text of what planning answered, with the plan that it left, at the front of a line that has room for any, and answers the place after it.
 fn put_text(line: &mut [u8], image: &[u8], planned: Planned, plan: &[u8]) -> usize
     requires { ⌜ (textWidth ≤ length (now line)) × Ready (now image) (now plan) (answerOf planned) ⌝ }
-    ensures written { λ r. ⌜ Put textWidth (now (line .entry)) 0 (whyTextOf (houseReason (now (image .entry))) (listIn (now (plan .entry)) (answerOf planned)) (answerOf planned)) (now (line .exit)) r ⌝ }
+    ensures written { λ r. ⌜ Put textWidth (now (line .entry)) 0 (answerText (transactionText (reasonIn (boardIn (now (image .entry))) house noLimit)) (listIn (now (plan .entry)) (answerOf planned)) (answerOf planned)) (now (line .exit)) r ⌝ }
 {
     let first = put_first(line, planned);
     let Planned::Done {

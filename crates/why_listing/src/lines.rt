@@ -1,14 +1,19 @@
 // The lines of a plan, each transaction's with those of its registers. Each function answers the place after what it wrote.
 ghost use mathlib.Core.Path.{_≡_};
+ghost use mathlib.Core.List.{flatMap};
 ghost use Prim.Native.Nat.{_+_, _*_, _≤_, _<_, _^_};
 ghost use lib.ListN.{length};
 ghost use Rattle.unpacking.specs.Unpacking.{unpack};
 ghost use Rattle.unpacking.specs.Listed.{listed, Accepted};
 ghost use Rattle.adv7194_bus.specs.Kind.{registerCount};
 ghost use Rattle.writing.specs.Put.{Put};
-ghost use Rattle.why_lines.specs.RegisterLine.{houseReason, registerWidth};
-ghost use Rattle.why_listing.specs.WhyText.{registerLines, whyLines};
-ghost use Rattle.why_listing.specs.Parts.{transactionText, transactionWidth, byteWidth};
+ghost use Rattle.adv7194_bus.specs.Limit.{noLimit};
+ghost use Rattle.adv7194_settings.specs.House.{house};
+ghost use Rattle.adv7194_reasons.specs.Why.{reasonIn};
+ghost use Rattle.house_listing.specs.HouseText.{boardIn};
+ghost use Rattle.why_lines.specs.RegisterLine.{registerWidth};
+ghost use Rattle.why_listing.specs.WhyText.{registerLines, transactionText};
+ghost use Rattle.why_listing.specs.Parts.{transactionWidth, byteWidth};
 use plan_listing::put_line;
 use unpacking::places::copy_data;
 use unpacking::steps::Order;
@@ -23,7 +28,7 @@ const MOST_DATA: usize = 63;
 // Writes the lines of so many registers from the first on.
 fn register_lines(line: &mut [u8], at: usize, image: &[u8], first: u8, count: u8) -> usize
     requires { ⌜ (at + registerWidth * count ≤ length (now line)) × ((length (now image) ≡ registerCount) × (first + count < 2 ^ 8)) ⌝ }
-    ensures written { λ r. ⌜ Put (registerWidth * count) (now (line .entry)) at (registerLines (houseReason (now (image .entry))) count first) (now (line .exit)) r ⌝ }
+    ensures written { λ r. ⌜ Put (registerWidth * count) (now (line .entry)) at (registerLines (reasonIn (boardIn (now (image .entry))) house noLimit) count first) (now (line .exit)) r ⌝ }
 {
     let mut place = at;
     let mut i: u8 = 0;
@@ -43,7 +48,7 @@ fn transaction_lines(
     bytes: &[u8],
 ) -> usize
     requires { ⌜ (at + transactionWidth (length (now bytes)) ≤ length (now line)) × ((length (now image) ≡ registerCount) × (subaddress + length (now bytes) < 2 ^ 8)) ⌝ }
-    ensures written { λ r. ⌜ Put (transactionWidth (length (now (bytes .entry)))) (now (line .entry)) at (transactionText (houseReason (now (image .entry))) (record { subaddress = subaddress; bytes = now (bytes .entry) })) (now (line .exit)) r ⌝ }
+    ensures written { λ r. ⌜ Put (transactionWidth (length (now (bytes .entry)))) (now (line .entry)) at (transactionText (reasonIn (boardIn (now (image .entry))) house noLimit) (record { subaddress = subaddress; bytes = now (bytes .entry) })) (now (line .exit)) r ⌝ }
 {
     let sent = put_line(line, at, subaddress, bytes);
     register_lines(line, sent, image, subaddress, bytes.len() as u8)
@@ -52,7 +57,7 @@ fn transaction_lines(
 // Writes the lines of a well-formed plan.
 pub(crate) fn plan_lines(line: &mut [u8], at: usize, image: &[u8], plan: &[u8]) -> usize
     requires { ⌜ Accepted (now plan) × ((at + byteWidth * length (now plan) ≤ length (now line)) × (length (now image) ≡ registerCount)) ⌝ }
-    ensures written { λ r. ⌜ Put (byteWidth * length (now (plan .entry))) (now (line .entry)) at (whyLines (houseReason (now (image .entry))) (listed (unpack (now (plan .entry))))) (now (line .exit)) r ⌝ }
+    ensures written { λ r. ⌜ Put (byteWidth * length (now (plan .entry))) (now (line .entry)) at (flatMap (transactionText (reasonIn (boardIn (now (image .entry))) house noLimit)) (listed (unpack (now (plan .entry))))) (now (line .exit)) r ⌝ }
 {
     let mut cursor = begin(plan, Order::Ascending);
     let mut place = at;

@@ -13,8 +13,8 @@ returns c =
     let p = c .before .before .before in
     let a = p .before .before .before .before .args in
     let board = boardOf (now (a .image)) (a .known) in
-    subst (Plays Settings board (a .used) (a .own) (now (a .plan)) (p .play .last .1 .0)) (sym (c .play-answer .ensures))
-    (plays Settings board (a .used) (a .own) (now (a .plan)) (p .play .last .1 .0) (p .play .result) (p .play .ensures .0, p .play .ensures .1 .0))
+    subst (Plays Settings board (a .used) (a .own) (now (a .plan)) (p .play .last .0)) (sym (c .play-answer .ensures))
+    (plays Settings board (a .used) (a .own) (now (a .plan)) (p .play .last .0) (p .play .result) (p .play .ensures .0, p .play .ensures .1 .0))
 
 pub adv7194-play-spec : {M : Type 1} → statement M
 adv7194-play-spec = tie.close (tie.spec (λ c κs. tt) (λ c κs. tt) (λ c. search needs) returns)

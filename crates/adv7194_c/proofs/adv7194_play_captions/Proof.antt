@@ -13,8 +13,9 @@ returns c =
     let p = c .before .before .before in
     let a = p .before .before .before .before .args in
     let board = boardOf (now (a .image)) (a .known) in
-    subst (Plays Captions board (a .used) (a .own) (now (a .plan)) (p .play .last .1 .0)) (sym (c .play-answer .ensures))
-    (plays Captions board (a .used) (a .own) (now (a .plan)) (p .play .last .1 .0) (p .play .result) (p .play .ensures .0, p .play .ensures .1 .0))
+    subst (Plays Captions board (a .used) (a .own) (now (a .plan)) (p .play-captions .last .0)) (sym (c .play-answer .ensures))
+    (plays Captions board (a .used) (a .own) (now (a .plan)) (p .play-captions .last .0) (p .play-captions .result)
+    (p .play-captions .ensures .0, p .play-captions .ensures .1 .0))
 
 pub adv7194-play-captions-spec : {M : Type 1} → statement M
 adv7194-play-captions-spec = tie.close (tie.spec (λ c κs. tt) (λ c κs. tt) (λ c. search needs) returns)

@@ -10,7 +10,7 @@ use Rattle.refusals.specs.Verdict.{good}
 use Rattle.adv7194_bus.specs.declared.board.Board.{Board}
 use Rattle.adv7194_bus.specs.Board.{boardOf, knows}
 use Rattle.adv7194_captions.specs.Characters.{isOdd, characterIn}
-use Rattle.adv7194_captions.specs.Reading.{pairRegister}
+use Rattle.adv7194_captions.specs.Pairs.{pairRegister}
 use Rattle.adv7194_captions.proofs.RowLaws.{bothKnown, bothOdd, wrong-length, wrong-pair, unknown-pair, even-ones, odd-ones}
 use Rattle.adv7194_caption_reading.proofs.AnswerLaws.{answers}
 use Rattle.adv7194_caption_reading.proofs.read_captions.Statement.{statement}

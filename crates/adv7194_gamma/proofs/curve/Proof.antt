@@ -10,7 +10,7 @@ use mir.Val.{Fits}
 use mir.ValLaws.{toZ-ofZ}
 use borrow.Author.Needs.{needs}
 use Rattle.rounding.proofs.Range.{back}
-use Rattle.adv7194_gamma.specs.Curve.{inRatio}
+use Rattle.field_table.specs.Blocks.{between}
 use Rattle.adv7194_gamma.proofs.Answers.{Inside, p-inside, q-inside, accepting, refusing}
 use Rattle.adv7194_gamma.proofs.curve.Statement.{statement}
 use Rattle.adv7194_gamma.proofs.curve.Tie as tie
@@ -24,13 +24,13 @@ same-q s = toZ-ofZ w32 (s .args .q) (s .fits .q)
 
 -- the flags are those of the arguments
 flags : (c : tie.After-inside2)
-    → (c .before .inside .result && c .inside2 .result) ≡ (inRatio (c .before .before .args .p) && inRatio (c .before .before .args .q))
+    → (c .before .inside .result && c .inside2 .result) ≡ (between 1 3 (c .before .before .args .p) && between 1 3 (c .before .before .args .q))
 flags c =
     let s = c .before .before in
-    ap₂ _&&_ (c .before .inside .ensures ∙ ap inRatio (same-p s)) (c .inside2 .ensures ∙ ap inRatio (same-q s))
+    ap₂ _&&_ (c .before .inside .ensures ∙ ap (between 1 3) (same-p s)) (c .inside2 .ensures ∙ ap (between 1 3) (same-q s))
 
 -- where the test passes, p and q are 1 to 3
-both : (c : tie.Then1) → (inRatio (c .before .before .before .args .p) && inRatio (c .before .before .before .args .q)) ≡ true
+both : (c : tie.Then1) → (between 1 3 (c .before .before .before .args .p) && between 1 3 (c .before .before .before .args .q)) ≡ true
 both c = sym (flags (c .before)) ∙ c .if1 .taken
 
 in-p : (c : tie.Then1) → Inside (c .before .before .before .args .p)

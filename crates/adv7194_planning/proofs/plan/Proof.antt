@@ -12,7 +12,7 @@ use denote.Ref.{now}
 use Rattle.refusals.specs.Refusal.{numberOf}
 use Rattle.refusals.specs.Verdict.{Verdict, good, refusedAt, after}
 use Rattle.bus.specs.Transactions.{Transaction}
-use Rattle.planning.specs.Plan.{packingOf, leftBy, planAfter}
+use Rattle.planning.specs.Plan.{packingOf, packedLeft, planAfter}
 use Rattle.field_table.specs.Answers.{checkedAs}
 use Rattle.adv7194_bus.specs.Kind.{registerCount}
 use Rattle.bus.specs.Address.{addressRight}
@@ -179,8 +179,8 @@ returns-4 c =
     clauses (board (s k)) (zs k) (a .limit) (bytes (right-at k .before .before .before)) (a .address) plan _ _ answer
     (p .plan-change .ensures .1
     ∙ ap (λ (ts : List Transaction). planAfter ts plan) list
-    ∙ sym (ap (leftBy (listOf (board (s k)) (zs k) (a .limit)) plan) packed)
-    ∙ ap (leftBy (listOf (board (s k)) (zs k) (a .limit)) plan) answer)
+    ∙ sym (ap (packedLeft (listOf (board (s k)) (zs k) (a .limit)) plan) packed)
+    ∙ ap (packedLeft (listOf (board (s k)) (zs k) (a .limit)) plan) answer)
 
 pub plan-spec : {M : Type 1} → statement M
 plan-spec =

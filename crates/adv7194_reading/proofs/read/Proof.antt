@@ -2,18 +2,19 @@
 use mathlib.Core.Path.{_≡_, refl, sym, ap, ap₂, _∙_}
 use lib.ListN.{length}
 use borrow.Author.Needs.{needs}
-use Rattle.refusals.specs.Verdict.{Verdict, after}
+use Rattle.refusals.specs.Verdict.{Verdict, after, leftBy}
 use Rattle.field_table.specs.Answers.{checkedAs}
 use Rattle.adv7194_bus.specs.declared.board.Board.{Board}
 use Rattle.adv7194_bus.specs.Board.{boardOf}
 use Rattle.adv7194_settings.specs.Rows.{judgeOf}
-use Rattle.adv7194_settings.specs.Reading.{readOf, leftBy, withUnknown}
+use Rattle.adv7194_settings.specs.Reading.{readOf, withUnknown}
 use Rattle.adv7194_settings.proofs.ReadingLaws.{image-length, numbers-length, judged-read, lowest-unknown}
 use Rattle.adv7194_reading.specs.Steps.{lastFields, faultIn}
 use Rattle.adv7194_reading.proofs.JudgeLaws.{judged-parts}
 use Rattle.adv7194_reading.proofs.AnswerLaws.{answered}
 use Rattle.adv7194_reading.proofs.read.Statement.{statement}
 use Rattle.adv7194_reading.proofs.read.Tie as tie
+use Rattle.adv7194_settings.specs.Held.{settingsHeld}
 
 abbrev start : tie.After-read-last → tie.Start
 start c = c .before .before .before .before .before .before .before .before
@@ -58,7 +59,7 @@ returns-3 c =
     let s = start (w .before .before .before) in
     let a = s .args in
     answered (board s) (a .numbers .now) (judged w)
-    (sym (ap (λ r. leftBy (a .image .now) (a .numbers .now) (checkedAs r)) (c .enum-told2 .given .1)))
+    (sym (ap (λ r. leftBy (a .numbers .now) (settingsHeld (a .image .now)) (checkedAs r)) (c .enum-told2 .given .1)))
 
 returns-4 : tie.Need-returns-4
 returns-4 c =

@@ -13,7 +13,7 @@ use Rattle.refusals.specs.Refusal.{numberOf}
 use Rattle.refusals.specs.Verdict.{Verdict, good, refusedAt, after}
 use Rattle.bus.specs.Transactions.{Transaction}
 use Rattle.bus.specs.Address.{addressRight}
-use Rattle.planning.specs.Plan.{packingOf, leftBy, planAfter}
+use Rattle.planning.specs.Plan.{packingOf, packedLeft, planAfter}
 use Rattle.field_table.specs.Answers.{checkedAs}
 use Rattle.adv7195_bus.specs.Kind.{registerCount}
 use Rattle.adv7195_settings.specs.Wanted.{wantedBy}
@@ -83,7 +83,7 @@ refused c n f e =
     let a = c .before .before .args in
     let list = listOf (now (a .image)) (now (a .numbers)) in
     clauses (now (a .image)) (now (a .numbers)) (bytes c) (a .address) (now (a .plan)) (now (a .plan)) (refusedAt n f) (sym e)
-    (sym (ap (leftBy list (now (a .plan))) e))
+    (sym (ap (packedLeft list (now (a .plan))) e))
 
 returns : tie.Need-returns
 returns c =
@@ -133,8 +133,8 @@ returns-5 c =
     clauses (image k) (zs k) (bytes (counted k .before .before .before .before)) (s k .args .address) (plan k) _ _ answer
     (p .plan-change .ensures .1
     ∙ ap (λ (ts : List Transaction). planAfter ts (plan k)) list
-    ∙ sym (ap (leftBy (listOf (image k) (zs k)) (plan k)) packed)
-    ∙ ap (leftBy (listOf (image k) (zs k)) (plan k)) answer)
+    ∙ sym (ap (packedLeft (listOf (image k) (zs k)) (plan k)) packed)
+    ∙ ap (packedLeft (listOf (image k) (zs k)) (plan k)) answer)
 
 pub plan-spec : {M : Type 1} → statement M
 plan-spec =

@@ -9,11 +9,12 @@ use Rattle.field_table.specs.Walk as table
 use Rattle.field_table.specs.Answers.{checkedAs}
 use Rattle.adv7195_settings.specs.Numbers.{numbersOf, joins}
 use Rattle.adv7195_settings.specs.Rows.{settingsHeld}
-use Rattle.adv7195_settings.specs.Reading.{readOf, leftBy}
+use Rattle.adv7195_settings.specs.Reading.{readOf}
 use Rattle.adv7195_settings.proofs.TableLaws.{rows-fit, judge-walk}
 use Rattle.adv7195_settings.proofs.ReadingLaws.{image-length, numbers-length, judged-read, answered, partsHeld, held-joins, held-parts-length}
 use Rattle.adv7195_reading.proofs.read.Statement.{statement}
 use Rattle.adv7195_reading.proofs.read.Tie as tie
+use Rattle.refusals.specs.Verdict.{leftBy}
 
 abbrev start : tie.After-read → tie.Start
 start c = c .before .before .before .before .before .before .before
@@ -51,7 +52,7 @@ returns-3 c =
     let r = c .before .before .before in
     let a = start r .args in
     answered (a .image .now) (a .numbers .now) (judged r)
-    (sym (ap (leftBy (a .image .now) (a .numbers .now)) (ap checkedAs (c .enum-told2 .given .1))))
+    (sym (ap (leftBy (a .numbers .now) (settingsHeld (a .image .now))) (ap checkedAs (c .enum-told2 .given .1))))
 
 numbers-of-requires : tie.Need-numbers-of-requires
 numbers-of-requires c κs =

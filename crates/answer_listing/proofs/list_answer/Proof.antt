@@ -1,6 +1,6 @@
 -- `list_answer` meets its contract: the word of the line decides whether lines follow. Assumes nothing.
 use mathlib.Core.Path.{_≡_, refl, sym, ap, _∙_}
-use mathlib.Core.List.{List, [], _∷_, _++_, append-nil}
+use mathlib.Core.List.{List, [], _∷_, _++_, append-nil, flatMap}
 use Prim.Native.Nat.{ℕ}
 use native.Mathlib.Omega.{arith}
 use denote.Enum.Declared.{tagOf}
@@ -20,7 +20,7 @@ use Rattle.listing.specs.Written.{wordOf}
 use Rattle.plan_listing.specs.declared.Listed.{Listed}
 use Rattle.plan_listing.proofs.Listed as list
 use Rattle.plan_listing.specs.declared.Listed.the-variants.{After as ListedAfter, TooShort as ListedTooShort, Refused as ListedRefused}
-use Rattle.plan_listing.specs.PlanText.{transactionLines}
+use Rattle.plan_listing.specs.PlanText.{transactionLine}
 use Rattle.plan_listing.specs.Listing.{listingOf, listingIn, listedAs}
 use Rattle.answer_listing.specs.AnswerText.{linesBelow, textBelow}
 use Rattle.answer_listing.proofs.list_answer.Statement.{statement}
@@ -70,7 +70,7 @@ well-formed : (c : tie.After-list-plan) → Accepted (entered c .args .plan .now
 well-formed c = entered c .pre (plan-word c)
 
 followed : (c : tie.After-list-plan) → (let a = entered c .args in
-    a .line .now ++ transactionLines (listed (unpack (a .plan .now))) ≡ textBelow (a .line .now) (listed (unpack (a .plan .now))))
+    a .line .now ++ flatMap transactionLine (listed (unpack (a .plan .now))) ≡ textBelow (a .line .now) (listed (unpack (a .plan .now))))
 followed c = let a = entered c .args in ap (λ (w : Word). a .line .now ++ linesBelow w (listed (unpack (a .plan .now)))) (sym (plan-word c))
 
 answered : (c : tie.After-list-plan) → (let a = entered c .args in

@@ -6,6 +6,7 @@ use borrow.Author.Needs.{needs}
 use Rattle.refusals.specs.Verdict.{Verdict}
 use Rattle.text.specs.Line.{placeAfter, appended, zeros}
 use Rattle.planning.specs.Plan.{Counts, answerOf}
+use Rattle.plan_listing.specs.PlanText.{transactionLine}
 use Rattle.answer_listing.specs.AnswerText.{listIn, answerText}
 use Rattle.answer_listing.proofs.AnswerLaws.{Plans, holds, text-of}
 use Rattle.adv7194_captions.specs.Pairs.{captionList}
@@ -40,12 +41,12 @@ answer-listing-requires c κs =
 
 -- the text of the answer is the pairs'
 text : (c : tie.After-plan-captions) → (let a = start c .args in
-    answerText (listIn (after c) (verdict c)) (verdict c) ≡ pairsText (a .extended .now) (a .ordinary .now))
+    answerText transactionLine (listIn (after c) (verdict c)) (verdict c) ≡ pairsText (a .extended .now) (a .ordinary .now))
 unfolding pairsText
 text c =
     let a = start c .args in
     let ts = captionList (a .extended .now) (a .ordinary .now) in
-    text-of ts (zeros captionBytes) (after c) (verdict c) (planned c) ∙ ap (answerText ts) (c .plan-captions .ensures .0)
+    text-of ts (zeros captionBytes) (after c) transactionLine (verdict c) (planned c) ∙ ap (answerText transactionLine ts) (c .plan-captions .ensures .0)
 
 returns : tie.Need-returns
 returns c =

@@ -7,6 +7,7 @@ use Rattle.refusals.specs.Verdict.{Verdict}
 use Rattle.bus.specs.Transactions.{Transaction}
 use Rattle.text.specs.Line.{zeros, placeAfter, appended}
 use Rattle.planning.specs.Plan.{Counts, answerOf}
+use Rattle.plan_listing.specs.PlanText.{transactionLine}
 use Rattle.answer_listing.specs.AnswerText.{listIn, answerText}
 use Rattle.answer_listing.proofs.AnswerLaws.{Plans, holds, text-of}
 use Rattle.adv7194_bus.specs.Limit.{noLimit}
@@ -41,9 +42,10 @@ answer-listing-requires : tie.Need-answer-listing-requires
 answer-listing-requires c κs = let p = c .before .before .before in holds (list p) (zeros wideBytes) (after p) (verdict p) (planned p)
 
 -- the text of the answer is the house setting's
-text : (c : tie.After-plan-house) → answerText (listIn (after c) (verdict c)) (verdict c) ≡ houseText (start c .args .image .now)
+text : (c : tie.After-plan-house) → answerText transactionLine (listIn (after c) (verdict c)) (verdict c) ≡ houseText (start c .args .image .now)
 unfolding houseTextIn
-text c = text-of (list c) (zeros wideBytes) (after c) (verdict c) (planned c) ∙ ap (answerText (list c)) (c .plan-house .ensures .0)
+text c =
+    text-of (list c) (zeros wideBytes) (after c) transactionLine (verdict c) (planned c) ∙ ap (answerText transactionLine (list c)) (c .plan-house .ensures .0)
 
 returns : tie.Need-returns
 returns c =

@@ -9,8 +9,7 @@ use lib.Seq.{drop-cons}
 use Rattle.bus.specs.Transactions.{Transaction}
 use Rattle.text.specs.Line.{appended}
 use Rattle.text.proofs.Appending.{length-appended}
-use Rattle.plan_listing.specs.PlanText.{dataText}
-use Rattle.plan_listing.proofs.TextLaws.{data-length, datum, no-datum, line}
+use Rattle.plan_listing.proofs.TextLaws.{dataText, data-length, datum, no-datum, line}
 use Rattle.plan_listing.proofs.put_line.Statement.{statement}
 use Rattle.plan_listing.proofs.put_line.Tie as tie
 

@@ -1,6 +1,6 @@
 -- `put_lines` meets its contract: it is a walk that writes the line of each transaction. Assumes nothing.
 use mathlib.Core.Path.{_≡_, refl, sym, ap, _∙_, subst}
-use mathlib.Core.List.{List}
+use mathlib.Core.List.{List, flatMap}
 use Prim.Native.Nat.{ℕ, _+_, _-_, _*_, _≤_}
 use native.Mathlib.Omega.{arith}
 use lib.ListN.{length, take}
@@ -13,7 +13,7 @@ use Rattle.unpacking.specs.Places.{leftAt}
 use Rattle.unpacking.proofs.StepLaws.{Went, Stepped, stepped}
 use Rattle.text.specs.Line.{appended}
 use Rattle.text.proofs.Appending.{kept}
-use Rattle.plan_listing.specs.PlanText.{transactionLine, transactionLines}
+use Rattle.plan_listing.specs.PlanText.{transactionLine}
 use Rattle.plan_listing.proofs.WalkLaws.{Listing, listing-begins, data-in-front, all-passed, line-room, listing-goes}
 use Rattle.plan_listing.proofs.put_lines.Statement.{statement}
 use Rattle.plan_listing.proofs.put_lines.Tie as tie
@@ -52,8 +52,8 @@ returns c =
     let s = start (n .before) in
     let w = l .inv .written in
     let all = all-passed (l .inv .walked) (s .pre .0) (n .next .result) (c .match .keys2) (said n (n .next .result) refl) in (
-      w .here ∙ ap (λ (ts : List Transaction). s .args .at + length (transactionLines ts)) (sym all),
-      w .memory ∙ ap (λ (ts : List Transaction). appended (s .args .out .now) (s .args .at) (transactionLines ts)) (sym all),
+      w .here ∙ ap (λ (ts : List Transaction). s .args .at + length (flatMap transactionLine ts)) (sym all),
+      w .memory ∙ ap (λ (ts : List Transaction). appended (s .args .out .now) (s .args .at) (flatMap transactionLine ts)) (sym all),
     )
 
 -- the transaction that was found

@@ -1,6 +1,6 @@
 -- `put_plan` meets its contract: the room is that of the heading and the lines, which are written in a row. Assumes nothing.
 use mathlib.Core.Path.{_≡_}
-use mathlib.Core.List.{List, _++_}
+use mathlib.Core.List.{List, _++_, flatMap}
 use Prim.Native.Nat.{ℕ, _+_, _*_, _≤_}
 use native.Mathlib.Omega.{arith}
 use lib.ListN.{length, length-append}
@@ -8,7 +8,7 @@ use borrow.Author.Needs.{needs}
 use Rattle.unpacking.specs.Listed.{listed}
 use Rattle.unpacking.specs.Unpacking.{unpack}
 use Rattle.text.proofs.Appending.{Written, answered, kept, next, refused}
-use Rattle.plan_listing.specs.PlanText.{transactionLines}
+use Rattle.plan_listing.specs.PlanText.{transactionLine}
 use Rattle.plan_listing.proofs.TextLaws.{lines-length}
 use Rattle.plan_listing.proofs.put_plan.Statement.{statement}
 use Rattle.plan_listing.proofs.put_plan.Tie as tie
@@ -18,7 +18,7 @@ abbrev start : tie.After-data-bytes → tie.Start
 start c = c .before .before .before .before
 
 abbrev lines-of : tie.After-data-bytes → List ℕ
-lines-of c = transactionLines (listed (unpack (start c .args .plan .now)))
+lines-of c = flatMap transactionLine (listed (unpack (start c .args .plan .now)))
 
 -- three bytes for each transaction and each datum
 lines-long : (c : tie.After-data-bytes) → length (lines-of c) ≡ 3 * (start c .args .transactions + c .data-bytes .result)

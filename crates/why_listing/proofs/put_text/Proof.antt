@@ -1,6 +1,6 @@
 -- `put_text` meets its contract: the first line, and below PLAN the plan's lines, in a row. Assumes nothing.
 use mathlib.Core.Path.{_≡_, refl, sym, ap, ap₂, _∙_, subst}
-use mathlib.Core.List.{List, _++_}
+use mathlib.Core.List.{List, _++_, flatMap}
 use Prim.Native.Nat.{ℕ, _-_, _≤_}
 use native.Mathlib.Nat.{sub-zero}
 use native.Mathlib.Omega.{arith}
@@ -12,10 +12,10 @@ use Rattle.planning.specs.declared.plan.Planned.{Planned}
 use Rattle.planning.specs.Plan.{Counts, answerOf}
 use Rattle.unpacking.specs.Unpacking.{unpack}
 use Rattle.unpacking.specs.Listed.{listed, Accepted}
-use Rattle.answer_listing.specs.AnswerText.{firstLine, listIn}
+use Rattle.answer_listing.specs.AnswerText.{firstLine, answerText, listIn}
 use Rattle.writing.proofs.Putting.{kept, more, wider, same-text}
-use Rattle.why_lines.specs.RegisterLine.{houseReason}
-use Rattle.why_listing.specs.WhyText.{whyLines, whyTextOf}
+use Rattle.why_lines.proofs.CheckLaws.{houseReason}
+use Rattle.why_listing.specs.WhyText.{transactionText}
 use Rattle.why_listing.specs.Parts.{Ready, textWidth}
 use Rattle.why_listing.proofs.TextLaws.{planned-text}
 use Rattle.why_listing.proofs.put_text.Statement.{statement}
@@ -29,7 +29,7 @@ returns : tie.Need-returns
 returns c =
     let p = c .before .before .before .before in
     let a = start p .args in
-    let text : Planned → List ℕ = λ r. whyTextOf (houseReason (a .image .now)) (listIn (a .plan .now) (answerOf r)) (answerOf r) in
+    let text : Planned → List ℕ = λ r. answerText (transactionText (houseReason (a .image .now))) (listIn (a .plan .now) (answerOf r)) (answerOf r) in
     let e = c .enum-told .given .1 in
     same-text (ap (λ (r : Planned). firstLine (answerOf r)) e ∙ sym (ap text e)) (wider textWidth (omega arith) (p .put-first .ensures))
 
@@ -80,8 +80,8 @@ returns-2 c =
     let plan = a .plan .now in
     let both = more (f .put-first .ensures) (l .plan-lines .ensures) (omega (arith, few p, r .holds .within, r .most, start f .pre .0)) in
     wider textWidth (omega (arith, few p, r .holds .within, r .most))
-    (same-text (ap₂ (λ (v : Verdict Counts) (bs : List ℕ). firstLine v ++ whyLines why (listed (unpack bs))) (answer p) (part p)
-    ∙ planned-text why plan (counts p) (r .holds) ∙ sym (ap (λ (v : Verdict Counts). whyTextOf why (listIn plan v) v) (answer p))) both)
+    (same-text (ap₂ (λ (v : Verdict Counts) (bs : List ℕ). firstLine v ++ flatMap (transactionText why) (listed (unpack bs))) (answer p) (part p)
+    ∙ planned-text why plan (counts p) (r .holds) ∙ sym (ap (λ (v : Verdict Counts). answerText (transactionText why) (listIn plan v) v) (answer p))) both)
 
 pub put-text-spec : {M : Type 1} → statement M
 put-text-spec =

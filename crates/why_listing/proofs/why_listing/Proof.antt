@@ -10,8 +10,8 @@ use Rattle.refusals.specs.Verdict.{Verdict}
 use Rattle.bus.specs.Transactions.{Transaction}
 use Rattle.text.specs.Line.{zeros, placeAfter, appended}
 use Rattle.planning.specs.Plan.{Counts, answerOf}
-use Rattle.answer_listing.specs.AnswerText.{listIn}
-use Rattle.answer_listing.proofs.AnswerLaws.{Plans, holds}
+use Rattle.answer_listing.specs.AnswerText.{answerText, listIn}
+use Rattle.answer_listing.proofs.AnswerLaws.{Plans, holds, text-of}
 use Rattle.adv7194_bus.specs.Limit.{noLimit}
 use Rattle.adv7194_settings.specs.House.{house}
 use Rattle.adv7194_least.specs.Demands.{wideBytes}
@@ -19,9 +19,8 @@ use Rattle.writing.proofs.Putting.{part}
 use Rattle.adv7194_planning.specs.Rows.{listOf}
 use Rattle.house_listing.specs.HouseText.{boardIn}
 use Rattle.house_listing.proofs.AnswerLaws.{image-whole, plans}
-use Rattle.why_lines.specs.RegisterLine.{houseReason}
-use Rattle.why_listing.specs.WhyText.{whyTextOf, houseWhyText}
-use Rattle.why_listing.proofs.TextLaws.{text-of}
+use Rattle.why_lines.proofs.CheckLaws.{houseReason}
+use Rattle.why_listing.specs.WhyText.{transactionText, houseWhyText}
 use Rattle.why_listing.proofs.why_listing.Statement.{statement}
 use Rattle.why_listing.proofs.why_listing.Tie as tie
 
@@ -57,11 +56,11 @@ put-text-requires c κs =
 
 -- the text of the answer is the house setting's
 text : (c : tie.After-plan-house) → (let image = start c .args .image .now in
-    whyTextOf (houseReason image) (listIn (after c) (verdict c)) (verdict c) ≡ houseWhyText image)
+    answerText (transactionText (houseReason image)) (listIn (after c) (verdict c)) (verdict c) ≡ houseWhyText image)
 unfolding houseWhyText
 text c =
-    let why = houseReason (start c .args .image .now) in
-    text-of why (list c) (zeros wideBytes) (after c) (verdict c) (planned c) ∙ ap (whyTextOf why (list c)) (c .plan-house .ensures .0)
+    let lines = transactionText (houseReason (start c .args .image .now)) in
+    text-of (list c) (zeros wideBytes) (after c) lines (verdict c) (planned c) ∙ ap (answerText lines (list c)) (c .plan-house .ensures .0)
 
 returns : tie.Need-returns
 returns c =

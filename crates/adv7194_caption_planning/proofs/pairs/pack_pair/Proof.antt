@@ -7,7 +7,8 @@ use lib.ListN.{length}
 use denote.Ref.{now}
 use borrow.Author.Needs.{needs}
 use Rattle.bus.specs.Transactions.{Transaction}
-use Rattle.packing.specs.Packing.{transactionBits, listBits}
+use Rattle.packing.specs.Packing.{transactionBits}
+use Rattle.packing.specs.Written.{listBits}
 use Rattle.packing.proofs.PackedLaws.{transactionBits-length}
 use Rattle.packing.proofs.PutLaws.{put-none}
 use Rattle.adv7194_captions.specs.Pairs.{pairAt}

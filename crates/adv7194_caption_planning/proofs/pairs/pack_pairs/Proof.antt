@@ -7,11 +7,11 @@ use lib.ListN.{length}
 use denote.Ref.{now}
 use borrow.Author.Needs.{needs}
 use Rattle.bus.specs.Transactions.{Transaction}
-use Rattle.packing.specs.Packing.{listBits}
-use Rattle.packing.specs.Written.{Sound, Room}
+use Rattle.packing.specs.Written.{listBits, Sound, Room}
 use Rattle.planning.proofs.PlanLaws.{begun-sound, begun-room, begun-done}
 use Rattle.planning.proofs.ProgressLaws.{Progress, progress-none, several-room, several-more, progress-last, progress-done}
-use Rattle.adv7194_captions.specs.Pairs.{extendedPair, ordinaryPair, pairAt, captionList}
+use Rattle.adv7194_captions.specs.Pairs.{pairAt, captionList}
+use Rattle.adv7194_captions.specs.Plans.{extendedPair, ordinaryPair}
 use Rattle.adv7194_caption_planning.proofs.PairCounts.{counted, both-right}
 use Rattle.adv7194_caption_planning.proofs.pairs.pack_pairs.Statement.{statement}
 use Rattle.adv7194_caption_planning.proofs.pairs.pack_pairs.Tie as tie

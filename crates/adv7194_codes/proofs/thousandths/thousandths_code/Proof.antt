@@ -13,10 +13,10 @@ use Rattle.field_table.specs.declared.row.Row.{Row}
 use Rattle.field_table.specs.Rows.{rowOf}
 use Rattle.field_table.specs.Coding.{outside}
 use Rattle.field_table.proofs.Judging.{outside-refused, inside-coded}
-use Rattle.adv7194_table.specs.Fields.{inThousandths}
 use Rattle.adv7194_codes.proofs.Rounded.{Scaled, scaled}
 use Rattle.adv7194_codes.proofs.thousandths.thousandths_code.Statement.{statement}
 use Rattle.adv7194_codes.proofs.thousandths.thousandths_code.Tie as tie
+use Rattle.adv7194_codes.specs.Thousandths.{inThousandths}
 
 -- the machine's number is the setting
 same : (c : tie.Start) → back w32 (c .args .setting) ≡ c .args .setting

@@ -10,7 +10,8 @@ use lib.Signed.{ltZ}
 use mir.Syntax.{w32}
 use mir.ValLaws.{toZ-ofZ}
 use Rattle.rounding.proofs.Range.{back}
-use Rattle.adv7194_gamma.specs.Curve.{isByte, allBytes}
+use Rattle.field_table.specs.Blocks.{between}
+use Rattle.adv7194_gamma.specs.Curve.{allBytes}
 use Rattle.adv7194_gamma.proofs.ByteLaws.{no-byte, a-byte, from-on}
 use Rattle.adv7194_gamma.proofs.field.all_bytes.Statement.{statement}
 use Rattle.adv7194_gamma.proofs.field.all_bytes.Tie as tie
@@ -34,7 +35,7 @@ tested : (c : tie.After-number Inv-loop μ-loop) (b : Bool) → (ltZ (back w32 (
 tested c b h = rw (toZ-ofZ w32 (number c) (record { sfits = c .number .given })) at h
 
 -- whether all are bytes, by whether it is one and those after it are
-on : (c : tie.After-number Inv-loop μ-loop) (b : Bool) → isByte (number c) ≡ b
+on : (c : tie.After-number Inv-loop μ-loop) (b : Bool) → between 0 255 (number c) ≡ b
     → (let zs = c .before .before .before .args .numbers .now in (b && allBytes (drop (c .before .before .loop .i + 1) zs)) ≡ allBytes (drop 3 zs))
 on c b h =
     let zs = c .before .before .before .args .numbers .now in
@@ -48,7 +49,6 @@ loop-again : tie.Need-loop-again Inv-loop μ-loop
 loop-again c = (omega arith, let d = c .before in on d true (a-byte (number d) (tested d false (c .if1 .left))))
 
 returns-2 : tie.Need-returns-2 Inv-loop μ-loop
-unfolding allBytes
 returns-2 c =
     let zs = c .before .before .args .numbers .now in
     let end : c .before .loop .i ≡ length zs = omega arith in

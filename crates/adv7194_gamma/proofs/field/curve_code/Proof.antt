@@ -4,7 +4,7 @@ use mathlib.Core.Bool.{true, false}
 use mathlib.Core.List.{List}
 use lib.Dec.{lit<}
 use lib.IntN.{ℤ, pos}
-use lib.ListN.{getD}
+use lib.ListN.{getD, drop}
 use mir.Syntax.{w32}
 use mir.ValLaws.{toZ-ofZ}
 use borrow.Author.Needs.{needs}
@@ -50,14 +50,17 @@ returns-2 : tie.Need-returns-2
 returns-2 c =
     let t = c .before .before .before in
     let e = t .before .before in
-    ap accepted (c .points .ensures)
-    ∙ sym (byte-codes (numbers (e .before)) (no-ratio e) (bytes t) ∙ bytes-set _ (sym (c .before .before .all-bytes .ensures) ∙ c .before .if3 .taken))
+    let zs = numbers (e .before) in
+    let all = sym (c .before .before .all-bytes .ensures) ∙ c .before .if3 .taken in
+    ap accepted (c .points .ensures) ∙ sym (byte-codes zs (no-ratio e) (bytes t) ∙ bytes-set (drop 3 zs) all)
 
 returns-3 : tie.Need-returns-3
 returns-3 c =
     let t = c .before .before in
     let e = t .before .before in
-    sym (byte-codes (numbers (e .before)) (no-ratio e) (bytes t) ∙ bytes-refused _ (sym (c .before .all-bytes .ensures) ∙ c .if3 .left))
+    let zs = numbers (e .before) in
+    let not-all = sym (c .before .all-bytes .ensures) ∙ c .if3 .left in
+    sym (byte-codes zs (no-ratio e) (bytes t) ∙ bytes-refused (drop 3 zs) not-all)
 
 returns-4 : tie.Need-returns-4
 returns-4 c =

@@ -6,8 +6,7 @@ use Prim.Native.Nat.{ℕ, _+_, _-_, _*_, _/_, _%_, _^_, _≤_, _<_}
 use native.Mathlib.Omega.{arith}
 use borrow.Author.Needs.{needs}
 use Rattle.rounding.proofs.First.{flag}
-use Rattle.adv7194_gamma.specs.Curve.{byteAt}
-use Rattle.adv7194_gamma.proofs.Nearest.{bounded, at-most, above}
+use Rattle.adv7194_gamma.proofs.Nearest.{byteAt, bounded, at-most, above}
 use Rattle.adv7194_gamma.proofs.Budget.{left, half}
 use Rattle.adv7194_gamma.proofs.search.byte_at.Statement.{statement}
 use Rattle.adv7194_gamma.proofs.search.byte_at.Tie as tie

@@ -8,7 +8,7 @@ use lib.IntN.{pos}
 use lib.ListN.{getD}
 use borrow.Author.Needs.{needs}
 use denote.Ref.{now}
-use Rattle.field_table.specs.Blocks.{is, numbersFrom}
+use Rattle.field_table.specs.Blocks.{is, slice}
 use Rattle.field_table.proofs.Signed.{is-bits}
 use Rattle.adv7194_table.specs.declared.blocks.Block.{Block}
 use Rattle.adv7194_table.specs.Blocks.{blockOf}
@@ -26,7 +26,7 @@ inside : tie.Need-shared-slice-copy-out-result
 inside c = let e = at c in let h = c .before .pre in omega arith
 
 returns : tie.Need-returns
-unfolding numbersFrom
+unfolding slice
 returns c =
     let numbers = now (c .before .before .args .numbers) in
     let k = c .before .block-of .result .index in

@@ -6,7 +6,7 @@ use lib.ListN.{length}
 use borrow.Author.Needs.{needs}
 use Rattle.refusals.specs.Refusal.{accepted}
 use Rattle.refusals.proofs.VerdictLaws.{after-good}
-use Rattle.field_table.specs.Blocks.{storeFrom, bytesFrom}
+use Rattle.field_table.specs.Blocks.{storeFrom, slice}
 use Rattle.adv7194_table.specs.declared.blocks.Block.{Block}
 use Rattle.adv7194_table.specs.Blocks.{blockOf}
 use Rattle.adv7194_gamma.specs.Curve.{curveNumbers}
@@ -20,13 +20,13 @@ start c = c .before .before .before
 
 -- the bytes read are the block's
 bytes : (c : tie.After-curve-setting)
-    → curveReadAs (c .curve-setting .result) ≡ accepted (bytesFrom (start c .args .image .now) (blockOf (start c .args .packed) .register) 7)
+    → curveReadAs (c .curve-setting .result) ≡ accepted (slice 0 (start c .args .image .now) (blockOf (start c .args .packed) .register) 7)
 bytes c =
     let e = ap (λ (b : Block). b .register) (c .before .block-of .ensures) in
     let image = start c .args .image .now in
     bytes-read (c .before .block-of .result .register) (length image) (c .curve-setting .ensures)
     (subst (λ (r : ℕ). r + 7 ≤ length image) (sym e) (start c .pre .1))
-    ∙ ap (λ (r : ℕ). accepted (bytesFrom image r 7)) e
+    ∙ ap (λ (r : ℕ). accepted (slice 0 image r 7)) e
 
 returns : tie.Need-returns
 returns c = absurd (never-refused (bytes (c .before .before)) (ap curveReadAs (c .enum-told .given .1)))

@@ -1,28 +1,25 @@
 -- `signals::conflict` meets its contract. Assumes nothing.
 use mathlib.Core.Path.{_≡_, sym, ap, _∙_}
-use mathlib.Core.Bool.{Bool, _||_}
+use mathlib.Core.Bool.{Bool}
+use mathlib.Core.List.{[], _∷_}
 use lib.IntN.{ℤ}
 use mir.Syntax.{w32}
 use mir.ValLaws.{toZ-ofZ}
 use borrow.Author.Needs.{needs}
-use Rattle.refusals.specs.Refusal.{refusedBy}
 use Rattle.refusals.specs.Verdict.{faultWhere}
 use Rattle.field_table.specs.Walk.{given}
 use Rattle.adv7194_table.specs.Fields.{standard}
-use Rattle.adv7194_signalling.specs.Kind.{kindOf}
-use Rattle.adv7194_signalling.specs.Signalling.{kindConflict}
+use Rattle.adv7194_signalling.specs.Signalling.{heldConflict}
 use Rattle.adv7194_reading_blocks.proofs.signals.conflict.Statement.{statement}
 use Rattle.adv7194_reading_blocks.proofs.signals.conflict.Tie as tie
 
 -- the test is that of the standard read
 judged : (c : tie.After-held-conflict) →
-    c .held-conflict .result ≡ (refusedBy 7 (kindOf (c .before .before .before .args .r19))
-    || kindConflict (given (c .before .before .before .args .numbers .now) (standard .row)) (kindOf (c .before .before .before .args .r19)))
+    c .held-conflict .result ≡ heldConflict (given (c .before .before .before .args .numbers .now) (standard .row)) (c .before .before .before .args .r19 ∷ [])
 judged c =
     let g = c .before .given in
-    let k = kindOf (c .before .before .before .args .r19) in
     c .held-conflict .ensures
-    ∙ ap (λ (z : ℤ). refusedBy 7 k || kindConflict z k)
+    ∙ ap (λ (z : ℤ). heldConflict z (c .before .before .before .args .r19 ∷ []))
     (toZ-ofZ w32 (g .result) (record { sfits = g .ok }) ∙ g .ensures
     ∙ ap (given (c .before .before .before .args .numbers .now)) (c .before .before .row-of .ensures))
 

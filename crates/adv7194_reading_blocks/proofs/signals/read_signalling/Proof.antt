@@ -28,7 +28,9 @@ judgedOf : (c : tie.After-signalling-setting)
     ≡ after (checkedAs (start c .args .before)) (conflictBy (start c .args .image .now) (given (start c .args .numbers .now) (standard .row)))
 judgedOf c =
     let t = c .before in
-    conflict-step (start c .args .image .now) _ (checkedAs (start c .args .before)) (t .before .before .before .registers .ensures)
+    let a = start c .args in
+    let held = t .before .before .before .registers in
+    conflict-step (a .image .now) (given (a .numbers .now) (standard .row)) (checkedAs (a .before)) (held .result) (held .ensures)
     (t .then .ensures) (t .before .conflict .ensures)
 
 returns : tie.Need-returns

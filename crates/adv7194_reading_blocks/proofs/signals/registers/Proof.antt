@@ -1,11 +1,11 @@
 -- `signals::registers` meets its contract. Assumes nothing.
 use borrow.Author.Needs.{needs}
-use Rattle.field_table.specs.Blocks.{bytesFrom}
 use Rattle.adv7194_reading_blocks.proofs.signals.registers.Statement.{statement}
 use Rattle.adv7194_reading_blocks.proofs.signals.registers.Tie as tie
+use Rattle.field_table.specs.Blocks.{slice}
 
 returns : tie.Need-returns
-unfolding bytesFrom
+unfolding slice
 returns c = cc
 
 pub registers-spec : {M : Type 1} → statement M

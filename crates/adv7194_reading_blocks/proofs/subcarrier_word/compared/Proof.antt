@@ -4,18 +4,18 @@ use mathlib.Core.List.{[], _∷_}
 use mir.Syntax.{w32}
 use mir.ValLaws.{toZ-ofZ}
 use borrow.Author.Needs.{needs}
-use Rattle.field_table.specs.Blocks.{bytesFrom}
 use Rattle.adv7194_table.specs.Blocks.{word}
 use Rattle.adv7194_settings.specs.Held.{bytesIn}
 use Rattle.adv7194_reading_blocks.proofs.WordLaws.{same-reading}
 use Rattle.adv7194_reading_blocks.proofs.subcarrier_word.compared.Statement.{statement}
 use Rattle.adv7194_reading_blocks.proofs.subcarrier_word.compared.Tie as tie
+use Rattle.field_table.specs.Blocks.{slice}
 
 -- the bytes of the registers
 bytes : (c : tie.After-byte4)
     → (c .before .before .before .byte .result ∷ c .before .before .byte2 .result ∷ c .before .byte3 .result ∷ c .byte4 .result ∷ [])
     ≡ bytesIn (c .before .before .before .before .before .args .image .now) word
-unfolding bytesFrom
+unfolding slice
 bytes c = cc
 
 returns : tie.Need-returns

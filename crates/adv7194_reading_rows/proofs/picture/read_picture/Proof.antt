@@ -13,18 +13,18 @@ use Rattle.field_table.specs.Answers.{checkedAs}
 use Rattle.field_table.proofs.RoundTripLaws.{numbers-length}
 use Rattle.field_table.proofs.StepLaws.{Held, held-none, read-next}
 use Rattle.adv7194_table.specs.Masks.{maskWhere, zeroMask, zeroMasks}
-use Rattle.adv7194_table.specs.Table.{singles, table}
+use Rattle.adv7194_table.specs.Table.{table}
 use Rattle.adv7194_table.specs.Fields.{timing, output, dnr, picture, brightness, contrast, hue, sharpness, uScale, vScale}
 use Rattle.adv7194_reading_rows.proofs.picture.read_picture.Statement.{statement}
 use Rattle.adv7194_reading_rows.proofs.picture.read_picture.Tie as tie
 
 -- the masks of the must-be-zero bits
 zero-mask-21 : getD zeroMasks 0x21 0 ≡ 2 ^ (1 + 7) - 2 ^ 7
-unfolding zeroMasks zeroMask maskWhere table singles timing output picture dnr
+unfolding zeroMasks zeroMask maskWhere table timing output picture dnr
 zero-mask-21 = refl
 
 zero-mask-22 : getD zeroMasks 0x22 0 ≡ 2 ^ (4 + 4) - 2 ^ 4
-unfolding zeroMasks zeroMask maskWhere table singles timing output picture dnr
+unfolding zeroMasks zeroMask maskWhere table timing output picture dnr
 zero-mask-22 = refl
 
 -- what the first k fields do

@@ -8,10 +8,10 @@ use Rattle.field_table.specs.Walk.{held, readingOf}
 use Rattle.field_table.specs.Answers.{decodedAs, checkedAs}
 use Rattle.field_table.proofs.StepLaws.{decoded-step}
 use Rattle.field_table.proofs.WalkLaws.{bits-fit}
-use Rattle.adv7194_table.specs.Fields.{inThousandths}
 use Rattle.adv7194_codes.proofs.Rounded.{thousandths-bits}
 use Rattle.adv7194_reading_rows.proofs.thousandths.read_thousandths.Statement.{statement}
 use Rattle.adv7194_reading_rows.proofs.thousandths.read_thousandths.Tie as tie
+use Rattle.adv7194_codes.specs.Thousandths.{inThousandths}
 
 abbrev start : tie.After-thousandths-setting → tie.Start
 start c = c .before .before .before .before

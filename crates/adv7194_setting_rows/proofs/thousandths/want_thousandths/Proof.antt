@@ -4,17 +4,17 @@ use Prim.Native.Nat.{ℕ, _^_, _<_}
 use mir.Syntax.{w32}
 use mir.ValLaws.{toZ-ofZ}
 use borrow.Author.Needs.{needs}
-use Rattle.refusals.specs.Refusal.{Judged, codeIn}
+use Rattle.refusals.specs.Refusal.{Judged, valueOr}
 use Rattle.field_table.specs.declared.row.Row.{Row}
 use Rattle.field_table.specs.Rows.{rowOf}
 use Rattle.field_table.specs.Coding.{encode}
 use Rattle.field_table.specs.Walk.{given, codingOf}
 use Rattle.field_table.specs.Answers.{codedAs, checkedAs}
 use Rattle.field_table.proofs.StepLaws.{coded-step}
-use Rattle.adv7194_table.specs.Fields.{inThousandths}
 use Rattle.adv7194_codes.proofs.Rounded.{thousandths-fit, thousandths-bits}
 use Rattle.adv7194_setting_rows.proofs.thousandths.want_thousandths.Statement.{statement}
 use Rattle.adv7194_setting_rows.proofs.thousandths.want_thousandths.Tie as tie
+use Rattle.adv7194_codes.specs.Thousandths.{inThousandths}
 
 abbrev start : tie.After-thousandths-code → tie.Start
 start c = c .before .before .before .before
@@ -34,7 +34,7 @@ want-coded-requires : tie.Need-want-coded-requires
 want-coded-requires c κs =
     let k = c .before in (
       thousandths-bits (rowIn k) (start k .pre),
-      subst (λ (j : Judged ℕ). codeIn j < 2 ^ rowIn k .width) (sym (coding k)) (thousandths-fit (rowIn k) (start k .pre) _),
+      subst (λ (j : Judged ℕ). valueOr 0 j < 2 ^ rowIn k .width) (sym (coding k)) (thousandths-fit (rowIn k) (start k .pre) _),
     )
 
 returns : tie.Need-returns

@@ -10,7 +10,7 @@ use Rattle.rounding.proofs.Range.{back}
 use Rattle.refusals.specs.Refusal.{accepted}
 use Rattle.adv7194_signalling.proofs.NumberLaws.{within-castable}
 use Rattle.adv7194_signalling.proofs.WordLaws.{wordBytes}
-use Rattle.adv7194_signalling.proofs.CgmsLaws.{inside, Inside, is-inside, cgms-lt, cgms-coded, cgms-outside}
+use Rattle.adv7194_signalling.proofs.CgmsLaws.{inside, Inside, is-inside, by-magnitudes, cgms-lt, cgms-coded, cgms-outside}
 use Rattle.adv7194_signalling.proofs.cgms.cgms_code.Statement.{statement}
 use Rattle.adv7194_signalling.proofs.cgms.cgms_code.Tie as tie
 
@@ -59,7 +59,7 @@ returns c =
       toZ-ofZ w32 (a .even) (s .fits .even),
       toZ-ofZ w32 (a .chip-check) (s .fits .chip-check),
     ) at
-    (ap accepted (c .split .ensures ∙ ap wordBytes (c .before .cgms-word .ensures))
+    (ap accepted (c .split .ensures ∙ ap wordBytes (c .before .cgms-word .ensures ∙ by-magnitudes (within-all t)))
     ∙ sym (cgms-coded (back w32 (a .payload)) (back w32 (a .odd)) (back w32 (a .even)) (back w32 (a .chip-check)) (tested (t .before) true (t .if1 .taken))))
 
 returns-2 : tie.Need-returns-2

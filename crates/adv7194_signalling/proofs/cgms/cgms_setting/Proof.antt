@@ -2,15 +2,16 @@
 -- again unchanged. Assumes nothing.
 use mathlib.Core.Path.{_≡_, refl, sym, ap, _∙_}
 use native.Mathlib.Omega.{arith}
+use lib.IntN.{pos}
 use mir.Syntax.{w32}
 use mir.ValLaws.{toZ-pos}
 use borrow.Author.Needs.{needs}
-use Rattle.refusals.specs.Refusal.{accepted}
+use Rattle.refusals.specs.Refusal.{accepted, refused}
 use Rattle.adv7194_signalling.specs.Word.{threeBytes}
 use Rattle.adv7194_signalling.proofs.CgmsLaws.{cgmsNumber}
 use Rattle.adv7194_signalling.proofs.WordLaws.{wordBytes, joined-only, bytes-joined}
 use Rattle.adv7194_signalling.proofs.CgmsReadLaws.{payloadOf, oddOf, evenOf, chipOf, is-coded, again-held, held-again}
-use Rattle.adv7194_signalling.proofs.HeldLaws.{cgms-both}
+use Rattle.adv7194_signalling.proofs.HeldLaws.{made, cgms-both}
 use Rattle.adv7194_signalling.proofs.cgms.cgms_setting.Statement.{statement}
 use Rattle.adv7194_signalling.proofs.cgms.cgms_setting.Tie as tie
 
@@ -19,14 +20,14 @@ returns c =
     let j = c .before .before in
     let r = j .before .args .registers in
     let w = j .joined .result in
-    cgms-both _ _
-    (rw
+    rw
     (toZ-pos w32 (payloadOf w) (omega arith), toZ-pos w32 (oddOf w) (omega arith), toZ-pos w32 (evenOf w) (omega arith), toZ-pos w32 (chipOf w) (omega arith))
+    (cgms-both (threeBytes r) (accepted (made (pos (payloadOf w)) (pos (oddOf w)) (pos (evenOf w)) (pos (chipOf w))))
     (again-held w (sym (c .before .cgms-word .ensures) ∙ c .if1 .taken)
     ∙ ap accepted (ap wordBytes (j .joined .ensures) ∙ bytes-joined (r .r19) (r .r1a) (r .r1b) (omega arith) (omega arith))))
 
 returns-2 : tie.Need-returns-2
-returns-2 c = cgms-both _ _ (
+returns-2 c = cgms-both (threeBytes (c .before .before .before .args .registers)) (refused 8) (
   refl,
   λ s h.
       let j = c .before .before in

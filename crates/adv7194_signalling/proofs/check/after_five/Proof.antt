@@ -4,7 +4,7 @@ use Prim.Native.Nat.{ℕ, _*_, _/_}
 use lib.Bits.{bitXor}
 use borrow.Author.Needs.{needs}
 use Rattle.bits.specs.Strings.{lsbFirst, msbFirst, lsbValue}
-use Rattle.adv7194_signalling.specs.Check.{afterBit, afterBits, feedback}
+use Rattle.adv7194_signalling.specs.Check.{afterBit}
 use Rattle.adv7194_signalling.proofs.CheckLaws.{Goes, by-feedback}
 use Rattle.adv7194_signalling.proofs.check.after_five.Statement.{statement}
 use Rattle.adv7194_signalling.proofs.check.after_five.Tie as tie
@@ -15,7 +15,7 @@ step check feedback = bitXor (bitXor (check / 32) feedback) (feedback * 2)
 
 -- computed at each register and each five bits
 test : Goes 5 step
-unfolding afterBits afterBit feedback xor lsbFirst msbFirst lsbValue
+unfolding afterBit xor lsbFirst msbFirst lsbValue
 test = tt
 
 returns : tie.Need-returns

@@ -4,7 +4,7 @@ use Prim.Native.Nat.{ℕ, _*_, _/_}
 use lib.Bits.{bitXor}
 use borrow.Author.Needs.{needs}
 use Rattle.bits.specs.Strings.{lsbFirst, msbFirst, lsbValue}
-use Rattle.adv7194_signalling.specs.Check.{afterBit, afterBits, feedback}
+use Rattle.adv7194_signalling.specs.Check.{afterBit}
 use Rattle.adv7194_signalling.proofs.CheckLaws.{Goes, by-feedback}
 use Rattle.adv7194_signalling.proofs.check.after_four.Statement.{statement}
 use Rattle.adv7194_signalling.proofs.check.after_four.Tie as tie
@@ -15,7 +15,7 @@ step check feedback = bitXor (bitXor (check / 16) (feedback * 2)) (feedback * 4)
 
 -- computed at each register and each four bits
 test : Goes 4 step
-unfolding afterBits afterBit feedback xor lsbFirst msbFirst lsbValue
+unfolding afterBit xor lsbFirst msbFirst lsbValue
 test = tt
 
 returns : tie.Need-returns

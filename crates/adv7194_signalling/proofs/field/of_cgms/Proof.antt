@@ -2,7 +2,7 @@
 use mathlib.Core.Path.{sym, ap, _∙_}
 use borrow.Author.Needs.{needs}
 use Rattle.adv7194_signalling.specs.Cgms.{cgmsReadAs}
-use Rattle.adv7194_signalling.specs.Signalling.{cgmsNumbers}
+use Rattle.adv7194_signalling.specs.Answers.{cgmsNumbers}
 use Rattle.adv7194_signalling.proofs.NumberLaws.{four-back}
 use Rattle.adv7194_signalling.proofs.field.of_cgms.Statement.{statement}
 use Rattle.adv7194_signalling.proofs.field.of_cgms.Tie as tie

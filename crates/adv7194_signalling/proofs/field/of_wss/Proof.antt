@@ -5,7 +5,7 @@ use lib.IntN.{ℤ, pos}
 use borrow.Author.Needs.{needs}
 use Rattle.refusals.specs.Refusal.{accepted}
 use Rattle.adv7194_signalling.specs.Wss.{wssReadAs}
-use Rattle.adv7194_signalling.specs.Signalling.{wssNumbers}
+use Rattle.adv7194_signalling.specs.Answers.{wssNumbers}
 use Rattle.adv7194_signalling.proofs.NumberLaws.{passed}
 use Rattle.adv7194_signalling.proofs.field.of_wss.Statement.{statement}
 use Rattle.adv7194_signalling.proofs.field.of_wss.Tie as tie

@@ -5,14 +5,17 @@ use Prim.Native.Nat.{ℕ, _/_, _%_, _<_}
 use lib.Dec.{eqb}
 use borrow.Author.Tests.{ne-eqb}
 use Rattle.bits.specs.Maps.{has}
-use Rattle.adv7194_signalling.specs.Kind.{kindOf, kindBy}
+use Rattle.refusals.specs.Refusal.{accepted, refused}
+use Rattle.adv7194_signalling.specs.Kind.{kindOf}
 use Rattle.rounding.proofs.Range.{below-at}
 use Rattle.adv7194_signalling.proofs.FlagLaws.{same}
+use Rattle.adv7194_signalling.proofs.KindLaws.{byBits}
 use Rattle.adv7194_signalling.proofs.kind.kind.Statement.{statement}
 use Rattle.adv7194_signalling.proofs.kind.kind.Tie as tie
 
 -- the kind by the code's tests
-by-tests : (b : ℕ) → b < 256 → kindOf b ≡ kindBy (eqb (b / 128) 1) (not (eqb (b / 32 % 4) 0)) (eqb (b / 16 % 2) 1)
+by-tests : (b : ℕ) → b < 256
+    → kindOf b ≡ byBits (eqb (b / 128) 1) (not (eqb (b / 32 % 4) 0)) (eqb (b / 16 % 2) 1) (refused 7) (accepted 2) (accepted 1) (refused 4) (accepted 0)
 unfolding kindOf
 by-tests b h =
     let seven = same (has b 7) (eqb (b / 128) 1) (below-at (λ b. Bool·beq (has b 7) (eqb (b / 128) 1)) 256 tt b h) in

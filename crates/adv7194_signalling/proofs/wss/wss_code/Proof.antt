@@ -8,7 +8,7 @@ use mir.Syntax.{w32}
 use mir.ValLaws.{toZ-ofZ}
 use Rattle.rounding.proofs.Range.{back}
 use Rattle.refusals.specs.Refusal.{accepted}
-use Rattle.adv7194_signalling.specs.Numbers.{within, numberTop}
+use Rattle.field_table.specs.Blocks.{between}
 use Rattle.adv7194_signalling.specs.Wss.{wssOf}
 use Rattle.adv7194_signalling.proofs.NumberLaws.{Within, is-within, within-castable}
 use Rattle.adv7194_signalling.proofs.WssLaws.{wss-coded}
@@ -18,11 +18,11 @@ use Rattle.adv7194_signalling.proofs.wss.wss_code.Tie as tie
 same : (c : tie.Start) → back w32 (c .args .number) ≡ c .args .number
 same c = toZ-ofZ w32 (c .args .number) (c .fits .number)
 
-inside : (c : tie.Then1) → within numberTop (back w32 (c .before .before .args .number)) ≡ true
+inside : (c : tie.Then1) → between 0 16383 (back w32 (c .before .before .args .number)) ≡ true
 inside c = sym (c .before .within .ensures) ∙ c .if1 .taken
 
-number : (c : tie.Then1) → Within numberTop (back w32 (c .before .before .args .number))
-number c = is-within numberTop (back w32 (c .before .before .args .number)) (inside c)
+number : (c : tie.Then1) → Within 16383 (back w32 (c .before .before .args .number))
+number c = is-within 16383 (back w32 (c .before .before .args .number)) (inside c)
 
 add-split : tie.Need-add-split
 add-split c = record { fits = omega (arith, number (c .before .before) .most) }

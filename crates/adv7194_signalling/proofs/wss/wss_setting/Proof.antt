@@ -10,9 +10,8 @@ use mir.ValLaws.{toZ-pos}
 use borrow.Author.Tests.{eqb-true, eq-eqb}
 use borrow.Author.Needs.{needs}
 use Rattle.bits.specs.Parity.{oddIn}
-use Rattle.refusals.specs.Refusal.{accepted}
+use Rattle.refusals.specs.Refusal.{accepted, refused}
 use Rattle.adv7194_signalling.specs.Word.{threeBytes}
-use Rattle.adv7194_signalling.specs.Numbers.{numberTop}
 use Rattle.adv7194_signalling.proofs.FlagLaws.{both}
 use Rattle.adv7194_signalling.proofs.NumberLaws.{rest-within}
 use Rattle.adv7194_signalling.proofs.WordLaws.{wordBytes, joined-only, bytes-joined}
@@ -27,13 +26,13 @@ returns c =
     let r = j .before .args .registers in
     let w = j .joined .result in
     let t = both (eqb (w % 0x4000 + 0x800000) w) (c .before .odd-ones .result) (c .if1 .taken) in
-    wss-both _ _
-    (rw (toZ-pos w32 (w % 0x4000) (omega arith))
-    (wss-coded (pos (w % 0x4000)) (rest-within w numberTop) (sym (c .before .odd-ones .ensures) ∙ t .1)
+    rw (toZ-pos w32 (w % 0x4000) (omega arith))
+    (wss-both (threeBytes r) (accepted (pos (w % 0x4000)))
+    (wss-coded (pos (w % 0x4000)) (rest-within w 16383) (sym (c .before .odd-ones .ensures) ∙ t .1)
     ∙ ap accepted (ap wordBytes (eqb-true _ _ (t .0) ∙ j .joined .ensures) ∙ bytes-joined (r .r19) (r .r1a) (r .r1b) (omega arith) (omega arith))))
 
 returns-2 : tie.Need-returns-2
-returns-2 c = wss-both _ _ (
+returns-2 c = wss-both (threeBytes (c .before .before .before .args .registers)) (refused 4) (
   refl,
   λ s h.
       let j = c .before .before in

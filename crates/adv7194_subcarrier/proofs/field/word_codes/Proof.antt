@@ -5,7 +5,7 @@ use mir.Syntax.{w32}
 use mir.ValLaws.{toZ-ofZ}
 use borrow.Author.Needs.{needs}
 use Rattle.field_table.specs.Blocks.{is}
-use Rattle.adv7194_subcarrier.specs.Subcarrier.{wordOf, wordBytes, standardSet, wordCodes}
+use Rattle.adv7194_subcarrier.specs.Subcarrier.{wordOf, wordBytes, wordCodes}
 use Rattle.adv7194_subcarrier.proofs.field.word_codes.Statement.{statement}
 use Rattle.adv7194_subcarrier.proofs.field.word_codes.Tie as tie
 
@@ -15,7 +15,7 @@ returns c =
     let s = c .before in
     ap wordBytes
     (c .word-set .ensures
-    ∙ ap₂ (λ (x y : ℤ). wordOf (standardSet x) (is 1 y)) (toZ-ofZ w32 (s .args .standard) (s .fits .standard))
+    ∙ ap₂ (λ (x y : ℤ). wordOf (is 1 x) (is 1 y)) (toZ-ofZ w32 (s .args .standard) (s .fits .standard))
     (toZ-ofZ w32 (s .args .square) (s .fits .square)))
 
 pub word-codes-spec : {M : Type 1} → statement M

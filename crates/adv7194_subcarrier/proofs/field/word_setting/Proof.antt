@@ -10,7 +10,7 @@ use borrow.Author.Needs.{needs}
 use borrow.Author.Tests.{eq-eqb, ne-eqb}
 use Rattle.bits.specs.Bytes.{sameBytes}
 use Rattle.field_table.specs.Blocks.{is}
-use Rattle.adv7194_subcarrier.specs.Subcarrier.{wordOf, wordBytes, standardSet, wordCodes}
+use Rattle.adv7194_subcarrier.specs.Subcarrier.{wordOf, wordBytes, wordCodes}
 use Rattle.adv7194_subcarrier.proofs.ByteLaws.{joinedOf, joined-same}
 use Rattle.adv7194_subcarrier.proofs.field.word_setting.Statement.{statement}
 use Rattle.adv7194_subcarrier.proofs.field.word_setting.Tie as tie
@@ -26,7 +26,7 @@ tested c =
     joined-same (c .word-set .result) (a .b0) (a .b1) (a .b2) (a .b3) (s .fits .b0 .fits) (s .fits .b1 .fits) (s .fits .b2 .fits)
     ∙ ap (λ (w : ℕ). sameBytes (a .b0 ∷ a .b1 ∷ a .b2 ∷ a .b3 ∷ []) (wordBytes w))
     (c .word-set .ensures
-    ∙ ap₂ (λ (x y : ℤ). wordOf (standardSet x) (is 1 y)) (toZ-ofZ w32 (a .standard) (s .fits .standard)) (toZ-ofZ w32 (a .square) (s .fits .square)))
+    ∙ ap₂ (λ (x y : ℤ). wordOf (is 1 x) (is 1 y)) (toZ-ofZ w32 (a .standard) (s .fits .standard)) (toZ-ofZ w32 (a .square) (s .fits .square)))
 
 returns : tie.Need-returns
 returns c = rw (sym (tested (c .before)) ∙ eq-eqb _ _ (c .if1 .taken))

@@ -1,13 +1,13 @@
 -- `masks::field_masks` meets its contract: every entry of the table is compared with what the field table computes. Assumes nothing.
 use mathlib.Core.Path.{refl}
 use Rattle.adv7194_table.specs.Fields.{timing, output, picture, dnr}
-use Rattle.adv7194_table.specs.Table.{singles, table}
+use Rattle.adv7194_table.specs.Table.{table}
 use Rattle.adv7194_table.specs.Masks.{maskWhere, fieldMask, fieldMasks}
 use Rattle.adv7194_table.proofs.masks.field_masks.Statement.{statement}
 use Rattle.adv7194_table.proofs.masks.field_masks.Tie as tie
 
 returns : tie.Need-returns
-unfolding fieldMasks fieldMask maskWhere table singles timing output picture dnr
+unfolding fieldMasks fieldMask maskWhere table timing output picture dnr
 returns c = refl
 
 pub field-masks-spec : {M : Type 1} → statement M

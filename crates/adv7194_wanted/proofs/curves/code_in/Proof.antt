@@ -2,13 +2,14 @@
 use mathlib.Core.Path.{_≡_, sym, ap, _∙_}
 use native.Mathlib.Omega.{arith}
 use borrow.Author.Needs.{needs}
-use Rattle.field_table.specs.Blocks.{numbersFrom}
 use Rattle.adv7194_table.specs.declared.blocks.Block.{Block}
 use Rattle.adv7194_table.specs.Blocks.{blockOf}
 use Rattle.adv7194_gamma.specs.Curve.{curveCodes}
 use Rattle.adv7194_wanted.proofs.ByteLaws.{part-numbers}
 use Rattle.adv7194_wanted.proofs.curves.code_in.Statement.{statement}
 use Rattle.adv7194_wanted.proofs.curves.code_in.Tie as tie
+use Rattle.field_table.specs.Blocks.{slice}
+use lib.IntN.{pos}
 
 -- where the numbers begin
 at : (c : tie.After-block-of) → c .block-of .result .index ≡ blockOf (c .before .args .packed) .index
@@ -29,7 +30,7 @@ returns c =
     let b = blockOf (k .before .args .packed) in
     let zs = k .before .args .numbers .now in
     c .curve-code .ensures
-    ∙ ap curveCodes (part-numbers zs (b .index) 10 (at k) (k .before .pre .1) ∙ ap (numbersFrom zs (b .index)) (sym (k .before .pre .0)))
+    ∙ ap curveCodes (part-numbers zs (b .index) 10 (at k) (k .before .pre .1) ∙ ap (slice (pos 0) zs (b .index)) (sym (k .before .pre .0)))
 
 pub code-in-spec : {M : Type 1} → statement M
 code-in-spec =

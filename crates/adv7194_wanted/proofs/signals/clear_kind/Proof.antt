@@ -3,9 +3,9 @@ use mathlib.Core.Path.{ap, _∙_}
 use borrow.Author.Needs.{needs}
 use Rattle.field_table.specs.Writes.{put, puts}
 use Rattle.adv7194_table.specs.declared.blocks.Block.{Block}
-use Rattle.adv7194_settings.specs.Wanted.{offWrite}
 use Rattle.adv7194_wanted.proofs.signals.clear_kind.Statement.{statement}
 use Rattle.adv7194_wanted.proofs.signals.clear_kind.Tie as tie
+use Rattle.adv7194_settings.proofs.Names.{offWrite}
 
 returns : tie.Need-returns
 unfolding puts

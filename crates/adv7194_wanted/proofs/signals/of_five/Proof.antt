@@ -5,13 +5,13 @@ use lib.ListN.{getD}
 use mir.Syntax.{w32}
 use mir.ValLaws.{toZ-ofZ}
 use borrow.Author.Needs.{needs}
-use Rattle.field_table.specs.Blocks.{numbersFrom}
 use Rattle.adv7194_wanted.proofs.ByteLaws.{numbers-all, five}
 use Rattle.adv7194_wanted.proofs.signals.of_five.Statement.{statement}
 use Rattle.adv7194_wanted.proofs.signals.of_five.Tie as tie
+use Rattle.field_table.specs.Blocks.{slice}
 
 returns : tie.Need-returns
-unfolding numbersFrom
+unfolding slice
 returns c =
     let s = c .before .before .before .before .before in
     let zs = s .args .numbers .now in

@@ -1,6 +1,6 @@
 -- `wanting::want_first` meets its contract: a step after the other. Assumes nothing.
 use mathlib.Core.Path.{sym, ap, _∙_}
-use mathlib.Core.List.{List, [], _∷_}
+use mathlib.Core.List.{List, [], _∷_, flatMap}
 use lib.IntN.{ℤ}
 use borrow.Author.Needs.{needs}
 use Rattle.refusals.specs.Verdict.{after, faultWhere}
@@ -8,7 +8,6 @@ use Rattle.field_table.specs.Writes.{Write}
 use Rattle.field_table.specs.Walk.{codingFault, checkOf, writeOf, writesOf}
 use Rattle.field_table.specs.Answers.{checkedAs}
 use Rattle.adv7194_table.specs.Fields.{pedestal, timing, output}
-use Rattle.adv7194_table.specs.Table.{singles}
 use Rattle.adv7194_settings.specs.Wanted.{writesOf as entriesWrites}
 use Rattle.adv7194_settings.specs.Rows.{squareWithOversampling, pedestalWithPal}
 use Rattle.adv7194_wanted.specs.Parts.{firstPart}
@@ -69,7 +68,7 @@ all : (c : tie.After-want-output)
     → let s = start (timingOf (squareOf (rowOf (palOf c)))) in
     Step (checkedAs (s .args .before)) (s .args .image .now) (firstFaults (s .args .numbers .now)) (entriesWrites (s .args .numbers .now) firstPart)
     (checkedAs (c .want-output .result)) (c .want-output .last .1 .1 .0)
-unfolding entriesWrites firstPart singles timing output writesOf
+unfolding entriesWrites firstPart timing output writesOf flatMap
 all c =
     let r = rowOf (palOf c) in
     let q = squareOf r in

@@ -1,6 +1,6 @@
 -- `wanting::want_second` meets its contract: a step after the other. Assumes nothing.
 use mathlib.Core.Path.{sym, ap, _∙_}
-use mathlib.Core.List.{List}
+use mathlib.Core.List.{List, flatMap}
 use lib.IntN.{ℤ}
 use borrow.Author.Needs.{needs}
 use Rattle.refusals.specs.Verdict.{good, after}
@@ -8,7 +8,7 @@ use Rattle.field_table.specs.Walk.{checkOf, writesOf}
 use Rattle.field_table.specs.Answers.{checkedAs}
 use Rattle.adv7194_table.specs.Fields.{picture, dnr}
 use Rattle.adv7194_table.specs.Blocks.{signalling, curveA, curveB, word}
-use Rattle.adv7194_table.specs.Table.{signals, curve, subcarrier, whole, singles}
+use Rattle.adv7194_table.specs.Table.{signals, curve, subcarrier, whole}
 use Rattle.adv7194_settings.specs.Wanted.{entryWrites, writesOf as entriesWrites}
 use Rattle.adv7194_wanted.specs.Parts.{secondPart}
 use Rattle.adv7194_wanted.proofs.CheckLaws.{signalFault, curveFault, secondFaults, second-part}
@@ -80,7 +80,7 @@ all : (c : tie.After-want-word)
     → let s = start (signalOf (pictureOf (dnrOf (curveOf (curve2Of c))))) in
     Step (checkedAs (s .args .before)) (s .args .image .now) (secondFaults (s .args .numbers .now)) (entriesWrites (s .args .numbers .now) secondPart)
     (checkedAs (curve2Of c .want-curve2 .result)) (c .want-word .last .1 .0)
-unfolding entriesWrites secondPart singles picture dnr writesOf
+unfolding entriesWrites secondPart picture dnr writesOf flatMap
 all c =
     let b = curve2Of c in
     let a = curveOf b in

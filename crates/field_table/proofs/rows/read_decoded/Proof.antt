@@ -8,19 +8,19 @@ use Rattle.rounding.proofs.Range.{back}
 use Rattle.refusals.specs.Verdict.{after, faultOf}
 use Rattle.refusals.proofs.VerdictLaws.{after-good}
 use Rattle.field_table.specs.Rows.{rowOf}
-use Rattle.field_table.specs.Walk.{settingIn}
 use Rattle.field_table.specs.Answers.{checkedAs, decodedAs}
 use Rattle.field_table.proofs.WalkLaws.{store-row}
 use Rattle.field_table.proofs.rows.read_decoded.Statement.{statement}
 use Rattle.field_table.proofs.rows.read_decoded.Tie as tie
+use Rattle.refusals.specs.Refusal.{valueOr}
 
 -- the setting, and 0 where it is refused
-refused-setting : (c : tie.After-enum-told) → pos 0 ≡ settingIn (decodedAs (c .before .before .before .args .decoded))
-refused-setting c = ap settingIn (sym (ap decodedAs (c .enum-told .given .1)))
+refused-setting : (c : tie.After-enum-told) → pos 0 ≡ valueOr (pos 0) (decodedAs (c .before .before .before .args .decoded))
+refused-setting c = ap (valueOr (pos 0)) (sym (ap decodedAs (c .enum-told .given .1)))
 
 given-setting : (c : tie.After-known-told)
-    → back w32 (c .before .decoded .given .0 .0) ≡ settingIn (decodedAs (c .before .before .before .before .args .decoded))
-given-setting c = toZ-ofZ w32 _ (record { sfits = c .known-told .given .0 .1 }) ∙ ap settingIn (sym (ap decodedAs (c .before .decoded .given .1)))
+    → back w32 (c .before .decoded .given .0 .0) ≡ valueOr (pos 0) (decodedAs (c .before .before .before .before .args .decoded))
+given-setting c = toZ-ofZ w32 _ (record { sfits = c .known-told .given .0 .1 }) ∙ ap (valueOr (pos 0)) (sym (ap decodedAs (c .before .decoded .given .1)))
 
 returns : tie.Need-returns
 returns c =

@@ -6,11 +6,13 @@ use Rattle.refusals.specs.Verdict.{after, faultOf}
 use Rattle.field_table.specs.declared.row.Row.{Row}
 use Rattle.field_table.specs.Rows.{rowOf}
 use Rattle.field_table.specs.Coding.{plainOf, decode}
-use Rattle.field_table.specs.Walk.{held, readingOf, settingIn}
+use Rattle.field_table.specs.Walk.{held, readingOf}
 use Rattle.field_table.specs.Answers.{checkedAs, decodedAs}
 use Rattle.field_table.proofs.WalkLaws.{same-fits, held-fits}
 use Rattle.field_table.proofs.rows.read_row.Statement.{statement}
 use Rattle.field_table.proofs.rows.read_row.Tie as tie
+use lib.IntN.{pos}
+use Rattle.refusals.specs.Refusal.{valueOr}
 
 abbrev start : tie.After-setting → tie.Start
 start c = c .before .before .before .before
@@ -30,7 +32,7 @@ returns c =
     let w = c .before in
     let k = w .before .before in (
       w .read-decoded .ensures .0 ∙ ap (λ j. after (checkedAs (start k .args .before)) (faultOf (rowIn k .field) j)) (reading k),
-      w .read-decoded .ensures .1 ∙ ap (λ j. set (start k .args .numbers .now) (rowIn k .index) (settingIn j)) (reading k),
+      w .read-decoded .ensures .1 ∙ ap (λ j. set (start k .args .numbers .now) (rowIn k .index) (valueOr (pos 0) j)) (reading k),
     )
 
 pub read-row-spec : {M : Type 1} → statement M

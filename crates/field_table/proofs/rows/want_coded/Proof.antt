@@ -1,7 +1,6 @@
 -- `rows::want_coded` meets its contract. Assumes nothing.
 use mathlib.Core.Path.{_≡_, sym, ap, _∙_}
 use borrow.Author.Needs.{needs}
-use Rattle.refusals.specs.Refusal.{codeIn}
 use Rattle.refusals.specs.Verdict.{after, faultOf}
 use Rattle.refusals.proofs.VerdictLaws.{after-good}
 use Rattle.field_table.specs.Rows.{rowOf}
@@ -9,16 +8,17 @@ use Rattle.field_table.specs.Answers.{checkedAs, codedAs}
 use Rattle.field_table.proofs.WalkLaws.{put-row, put-fits}
 use Rattle.field_table.proofs.rows.want_coded.Statement.{statement}
 use Rattle.field_table.proofs.rows.want_coded.Tie as tie
+use Rattle.refusals.specs.Refusal.{valueOr}
 
 abbrev start : tie.After-row-of → tie.Start
 start c = c .before .before
 
 -- the code, and 0 where it is refused
-refused-code : (c : tie.After-enum-told) → 0 ≡ codeIn (codedAs (start (c .before .before) .args .coded))
-refused-code c = ap codeIn (sym (ap codedAs (c .enum-told .given .1)))
+refused-code : (c : tie.After-enum-told) → 0 ≡ valueOr 0 (codedAs (start (c .before .before) .args .coded))
+refused-code c = ap (valueOr 0) (sym (ap codedAs (c .enum-told .given .1)))
 
-given-code : (c : tie.After-known-told) → c .before .coded .given .0 .0 ≡ codeIn (codedAs (start (c .before .before .before) .args .coded))
-given-code c = ap codeIn (sym (ap codedAs (c .before .coded .given .1)))
+given-code : (c : tie.After-known-told) → c .before .coded .given .0 .0 ≡ valueOr 0 (codedAs (start (c .before .before .before) .args .coded))
+given-code c = ap (valueOr 0) (sym (ap codedAs (c .before .coded .given .1)))
 
 put-requires : tie.Need-put-requires
 put-requires c κs =

@@ -5,7 +5,7 @@ use mir.Syntax.{w32}
 use mir.ValLaws.{toZ-ofZ}
 use borrow.Author.Needs.{needs}
 use Rattle.bits.proofs.FlagLaws.{first}
-use Rattle.refusals.specs.Refusal.{Judged, codeIn}
+use Rattle.refusals.specs.Refusal.{Judged, valueOr}
 use Rattle.refusals.specs.Verdict.{after, faultOf}
 use Rattle.field_table.specs.declared.row.Row.{Row}
 use Rattle.field_table.specs.Rows.{rowOf}
@@ -37,7 +37,7 @@ want-coded-requires c κs =
     let k = c .before in
     let r = rowIn k in (
       first (bitsFit r) _ (start k .pre),
-      subst (λ (j : Judged ℕ). codeIn j < 2 ^ r .width) (sym (coding k)) (code-fits r (row-fits r (start k .pre)) _),
+      subst (λ (j : Judged ℕ). valueOr 0 j < 2 ^ r .width) (sym (coding k)) (code-fits r (row-fits r (start k .pre)) _),
     )
 
 returns : tie.Need-returns
@@ -45,7 +45,7 @@ returns c =
     let w = c .before .before in
     let k = w .before .before in (
       w .want-coded .ensures .0 ∙ ap (λ j. after (checkedAs (start k .args .before)) (faultOf (rowIn k .field) j)) (coding k),
-      w .want-coded .ensures .1 ∙ ap (λ j. put (start k .args .image .now) (rowWrite (rowIn k) (codeIn j))) (coding k),
+      w .want-coded .ensures .1 ∙ ap (λ j. put (start k .args .image .now) (rowWrite (rowIn k) (valueOr 0 j))) (coding k),
     )
 
 pub want-row-spec : {M : Type 1} → statement M

@@ -1,20 +1,21 @@
 -- `unpacking::indexed::find` meets its contract: it is a walk that remembers the transaction with the index. Assumes nothing.
 use mathlib.Core.Path.{_≡_, refl, sym, ap, _∙_, subst, subst⁻¹}
 use mathlib.Core.Logic.{⊎-elim}
+use mathlib.Core.Option.{Option}
 use mathlib.Core.List.{List, [], _∷_, _++_}
 use Prim.Native.Nat.{ℕ, _+_}
 use native.Mathlib.Omega.{arith}
-use lib.ListN.{length}
+use lib.ListN.{length, getElem?}
 use borrow.Author.Needs.{needs}
 use Rattle.bus.specs.Transactions.{Transaction}
-use Rattle.refusals.specs.Refusal.{Judged}
+use Rattle.refusals.specs.Refusal.{Judged, accepted}
 use Rattle.unpacking.specs.declared.steps.Order.{Order}
 use Rattle.unpacking.specs.declared.steps.Cursor.{Cursor}
 use Rattle.unpacking.specs.declared.steps.Step.{Step}
 use Rattle.unpacking.specs.declared.indexed.Found.{Found}
 use Rattle.unpacking.specs.Unpacking.{unpackBy}
 use Rattle.unpacking.specs.Steps.{startAfter, transactionAt}
-use Rattle.unpacking.specs.Indexed.{atIndex, transactionIn, foundAs, FoundPlaced}
+use Rattle.unpacking.specs.Indexed.{lookedUp, foundAs, FoundPlaced}
 use Rattle.unpacking.proofs.StepLaws.{Went, Stepped, stepped}
 use Rattle.unpacking.proofs.Walking.{one-more, Walked, walk-begins, walk-goes, walk-ends, walk-fails}
 use Rattle.unpacking.proofs.IndexLaws.{last-index, other-index}
@@ -26,7 +27,7 @@ record Inv (plan : List ℕ) (order : Order) (index : ℕ) (cursor : Cursor) (fo
   done : List Transaction
   walked : Walked plan order done cursor
   counts : i ≡ length done
-  is : foundAs plan found ≡ atIndex done index
+  is : foundAs plan found ≡ accepted (getElem? done index)
   placed : FoundPlaced plan found
 
 abbrev Inv-loop : tie.InvT-loop
@@ -46,8 +47,8 @@ in-order : (l : tie.At-loop Inv-loop μ-loop) → l .before .begin .result .orde
 in-order l = ap (λ (k : Cursor). k .order) (l .before .begin .ensures)
 
 -- so what it answers is of that order
-abbrev answer-by : tie.At-loop Inv-loop μ-loop → Order → Judged Transaction
-answer-by l o = transactionIn (unpackBy (startAfter o) (plan-at l)) (start l .args .index)
+abbrev answer-by : tie.At-loop Inv-loop μ-loop → Order → Judged (Option Transaction)
+answer-by l o = lookedUp (unpackBy (startAfter o) (plan-at l)) (start l .args .index)
 
 loop-holds : tie.Need-loop-holds Inv-loop μ-loop
 loop-holds c =
@@ -69,7 +70,7 @@ returns : tie.Need-returns Inv-loop μ-loop
 returns c =
     let n = c .before .before in
     let l = n .before in (
-      sym (ap (λ (j : Judged (List Transaction)). transactionIn j (start l .args .index))
+      sym (ap (λ (j : Judged (List Transaction)). lookedUp j (start l .args .index))
           (walk-fails (l .loop .inv .walked) (said n _ (c .enum-told .given .1))))
           ∙ ap (answer-by l) (in-order l),
       tt,
@@ -80,7 +81,7 @@ returns-2 c =
     let n = c .before .before in
     let l = n .before in
     let v = l .loop .inv in (
-      v .is ∙ sym (ap (λ (j : Judged (List Transaction)). transactionIn j (start l .args .index))
+      v .is ∙ sym (ap (λ (j : Judged (List Transaction)). lookedUp j (start l .args .index))
           (walk-ends (v .walked) (said n _ (c .enum-told2 .given .1))))
           ∙ ap (answer-by l) (in-order l),
       v .placed,
@@ -106,8 +107,8 @@ loop-again c =
       walked = walk-goes (v .walked) g;
       counts = ap (λ (n : ℕ). n + 1) (v .counts) ∙ sym (one-more (v .done) t);
       is = ⊎-elim
-          (λ w. ap (foundAs plan) (w .1) ∙ sym (ap (atIndex (v .done ++ (t ∷ []))) (sym (w .0 .taken) ∙ v .counts) ∙ last-index (v .done) t))
-          (λ w. ap (foundAs plan) (w .1) ∙ v .is ∙ sym (other-index (v .done) t index (λ e. w .0 .left (v .counts ∙ e))))
+          (λ w. ap (foundAs plan) (w .1) ∙ sym (ap accepted (ap (getElem? (v .done ++ (t ∷ []))) (sym (w .0 .taken) ∙ v .counts) ∙ last-index (v .done) t)))
+          (λ w. ap (foundAs plan) (w .1) ∙ v .is ∙ sym (ap accepted (other-index (v .done) t index (λ e. w .0 .left (v .counts ∙ e)))))
           (c .if1 .came);
       placed = ⊎-elim (λ w. subst⁻¹ (FoundPlaced plan) (w .1) (g .placed, g .room)) (λ w. subst⁻¹ (FoundPlaced plan) (w .1) (v .placed)) (c .if1 .came);
     }

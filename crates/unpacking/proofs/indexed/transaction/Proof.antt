@@ -1,6 +1,7 @@
 -- `unpacking::indexed::transaction` meets its contract, by what the search found. Assumes nothing.
-use mathlib.Core.Path.{_≡_, sym, ap, _∙_, subst}
+use mathlib.Core.Path.{_≡_, refl, sym, ap, _∙_, subst}
 use mathlib.Core.Bool.{Bool, true, false, cond}
+use mathlib.Core.Option.{Option}
 use mathlib.Core.List.{List}
 use Prim.Native.Nat.{ℕ, _≤_}
 use native.Mathlib.Omega.{arith}
@@ -16,7 +17,7 @@ use Rattle.unpacking.specs.declared.indexed.Found.{Found}
 use Rattle.unpacking.specs.Unpacking.{unpackBy}
 use Rattle.unpacking.specs.Places.{leftAt}
 use Rattle.unpacking.specs.Steps.{startAfter, transactionAt}
-use Rattle.unpacking.specs.Indexed.{foundAs, FoundPlaced, withRoom, transactionOf, headerOf, dataAfter}
+use Rattle.unpacking.specs.Indexed.{lookedUp, foundAs, FoundPlaced, withRoom, transactionOf, headerOf, dataAfter}
 use Rattle.unpacking.proofs.PlaceLaws.{data-copied}
 use Rattle.unpacking.proofs.IndexLaws.{sets-front}
 use Rattle.unpacking.proofs.indexed.transaction.Statement.{statement}
@@ -34,9 +35,21 @@ answer-at f =
     let a = f .before .before .before .args in
     transactionOf (unpackBy (startAfter (a .order)) (plan-at f)) (a .index) (length (memory-at f))
 
+-- by what was looked up
+abbrev answer-by : ℕ → Judged (Option Transaction) → Judged Transaction
+answer-by room (accepted o) = withRoom room o
+answer-by room (refused n) = refused n
+
+looked-up : (j : Judged (List Transaction)) (index room : ℕ) → transactionOf j index room ≡ answer-by room (lookedUp j index)
+looked-up (accepted ts) index room = refl
+looked-up (refused n) index room = refl
+
 -- by what was found
-answered : (f : tie.After-find) (r : Found) → f .find .result ≡ r → answer-at f ≡ withRoom (length (memory-at f)) (foundAs (plan-at f) r)
-answered f r e = ap (withRoom (length (memory-at f))) (sym (f .find .ensures .0) ∙ ap (foundAs (plan-at f)) e)
+answered : (f : tie.After-find) (r : Found) → f .find .result ≡ r → answer-at f ≡ answer-by (length (memory-at f)) (foundAs (plan-at f) r)
+answered f r e =
+    let a = f .before .before .before .args in
+    looked-up (unpackBy (startAfter (a .order)) (plan-at f)) (a .index) (length (memory-at f))
+    ∙ ap (answer-by (length (memory-at f))) (sym (f .find .ensures .0) ∙ ap (foundAs (plan-at f)) e)
 
 -- a refusal leaves the memory
 refuse : (f : tie.After-find) (n : ℕ) → answer-at f ≡ refused n → (refused n ≡ headerOf (answer-at f)) × (memory-at f ≡ dataAfter (answer-at f) (memory-at f))

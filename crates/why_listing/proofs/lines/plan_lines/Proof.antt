@@ -1,6 +1,6 @@
 -- `lines::plan_lines` meets its contract: it is a walk that writes the lines of each transaction. Assumes nothing.
 use mathlib.Core.Path.{_≡_, refl, sym, ap, _∙_, subst}
-use mathlib.Core.List.{List}
+use mathlib.Core.List.{List, flatMap}
 use Prim.Native.Nat.{ℕ, _+_, _-_, _*_, _≤_}
 use native.Mathlib.Omega.{arith}
 use lib.ListN.{length, take}
@@ -13,9 +13,9 @@ use Rattle.unpacking.proofs.StepLaws.{Went, Stepped, stepped}
 use Rattle.plan_listing.proofs.WalkLaws.{data-in-front, all-passed}
 use Rattle.writing.proofs.Putting.{kept, wider, same-text}
 use Rattle.adv7194_reasons.specs.Reasons.{Reason}
-use Rattle.why_lines.specs.RegisterLine.{houseReason}
-use Rattle.why_listing.specs.WhyText.{whyLines}
-use Rattle.why_listing.specs.Parts.{transactionText, transactionWidth, byteWidth}
+use Rattle.why_lines.proofs.CheckLaws.{houseReason}
+use Rattle.why_listing.specs.WhyText.{transactionText}
+use Rattle.why_listing.specs.Parts.{transactionWidth, byteWidth}
 use Rattle.why_listing.proofs.LineLaws.{listWidth, plan-width}
 use Rattle.why_listing.proofs.WalkLaws.{Listing, listing-begins, lines-room, listing-goes}
 use Rattle.why_listing.proofs.lines.plan_lines.Statement.{statement}
@@ -58,7 +58,7 @@ returns c =
     let s = start (n .before) in
     let plan = plan-at (n .before) in
     let all = all-passed (l .walked) (s .pre .0) (n .next .result) (c .match .keys2) (said n (n .next .result) refl) in
-    same-text (ap (whyLines (why (n .before))) (sym all))
+    same-text (ap (flatMap (transactionText (why (n .before)))) (sym all))
     (wider (byteWidth * length plan) (omega (arith, plan-width plan (s .pre .0), ap listWidth all)) (l .written))
 
 -- the transaction that was found

@@ -6,7 +6,8 @@ use native.Mathlib.Omega.{arith}
 use Rattle.writing.specs.Put.{Put}
 use Rattle.writing.proofs.Putting.{kept, more, wider, same-text, unwritten}
 use Rattle.adv7194_reasons.specs.Reasons.{Reason}
-use Rattle.why_lines.specs.RegisterLine.{houseReason, registerLine, registerWidth}
+use Rattle.why_lines.specs.RegisterLine.{registerLine, registerWidth}
+use Rattle.why_lines.proofs.CheckLaws.{houseReason}
 use Rattle.why_listing.specs.WhyText.{registerLines}
 use Rattle.why_listing.proofs.LineLaws.{linesFrom, lines-turn, lines-all, lines-end}
 use Rattle.why_listing.proofs.lines.register_lines.Statement.{statement}

@@ -1,4 +1,4 @@
--- `play` meets its contract: the tests that led to each answer decide the row that is given. Assumes nothing.
+-- `play_kind` meets its contract: the tests that led to each answer decide the row that is given. Assumes nothing.
 use mathlib.Core.Path.{_≡_, sym, _∙_}
 use mathlib.Core.Bool.{Bool, true}
 use mathlib.Core.List.{List}
@@ -19,8 +19,8 @@ use Rattle.adv7194_bus.specs.Board.{boardOf}
 use Rattle.adv7194_playing.specs.Playing.{Takes, takes, callOf, playedBoard}
 use Rattle.adv7194_playing.proofs.Rows.{plan-judged}
 use Rattle.adv7194_playing.proofs.WrittenRun.{as-left}
-use Rattle.adv7194_playing.proofs.play.Statement.{statement}
-use Rattle.adv7194_playing.proofs.play.Tie as tie
+use Rattle.adv7194_playing.proofs.play_kind.Statement.{statement}
+use Rattle.adv7194_playing.proofs.play_kind.Tie as tie
 
 -- the board, from where the function was entered, and the call
 abbrev board : tie.Start → Board
@@ -85,8 +85,8 @@ returns-4 c =
     let s = start (p .before .before) in
     (a .0, (a .1, (exactly-played (call s) (a .0), taken s)))
 
-pub play-spec : {M : Type 1} → statement M
-play-spec =
+pub play-kind-spec : {M : Type 1} → statement M
+play-kind-spec =
     tie.close
     (tie.spec
     (λ c. record { fits = lit< tt })
