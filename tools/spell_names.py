@@ -45,17 +45,33 @@ def declared(top):
     return names
 
 
+def library(top):
+    """Each name that is brought in from outside the repository: it keeps its spelling."""
+    own = {p.name for p in (top / "crates").iterdir()}
+    names = set()
+    for path in sorted(top.glob("crates/*/*/**/*.antt")) + sorted(top.glob("crates/*/src/**/*.rt")):
+        for m in re.finditer(r"(?m)^(?:ghost )?use ([\w.'+-]+)\.\{(.*)\}", path.read_text(encoding="utf-8")):
+            where = m.group(1).split(".")
+            if where[0] != "Rattle" or where[1] not in own:
+                names |= {n.split(" as ")[0].strip() for n in m.group(2).split(",")}
+    return names
+
+
 def spelled(top):
-    names = declared(top)
+    names, outside = declared(top), library(top)
     known = {snake(n) for n in names if "S" in names[n] and "-" not in n} | LIBRARY
     new = {}
     for name in sorted(names):
+        if name in outside:
+            continue
         if names[name] == {"P"} and "-" in name:
             continue
         parts = [snake(p) for p in name.split("-")]
         word = parts[0]
         for before, part in zip(parts, parts[1:]):
             word += ("-" if before in known and part in known and "S" not in names[name] else "_") + part
+        if word in outside:
+            word += "_lem"
         if word != name:
             new[name] = word
     # a lemma gives way to a definition of the same name

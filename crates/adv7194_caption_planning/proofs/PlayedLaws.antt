@@ -2,7 +2,7 @@
 -- the characters. Assumes nothing.
 use mathlib.Core.Path.{◌≡◌, refl, sym, ap, ap₂, ◌∙◌}
 use mathlib.Core.Logic.{◌≢◌, inl, inr, ⊎_elim}
-use mathlib.Core.Bool.{Bool, true, false, or_true, or-false}
+use mathlib.Core.Bool.{Bool, true, false, or-true, or-false}
 use mathlib.Core.List.{List, [], ◌∷◌}
 use Prim.Native.Nat.{ℕ, suc, ◌<◌}
 use native.Mathlib.Omega.{arith}
@@ -124,7 +124,7 @@ module _ (extended ordinary : List ℤ) (h : pairs_right extended ordinary ≡ t
   makes_known own c known = record {
     touched = λ r u.
         known-list (adv7194 own) list c known (kept own) r
-        ∙ rw (holds (touched_by list r) ((touched_agree list r).1 u)) (or_true (has known r));
+        ∙ rw (holds (touched_by list r) ((touched_agree list r).1 u)) (or-true (has known r));
     kept = λ r u.
         known-list (adv7194 own) list c known (kept own) r
         ∙ rw (fails (touched_by list r) (λ t. u ((touched_agree list r).0 t))) (or-false (has known r));

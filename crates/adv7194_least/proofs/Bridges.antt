@@ -1,7 +1,7 @@
 -- The plan touches no register but those that have a field or a must-be-zero bit, and 03, 04 and 1C between them. Assumes nothing.
 use mathlib.Core.Path.{◌≡◌, sym, ◌∙◌}
 use mathlib.Core.Logic.{◌⊎◌, inl, inr, ⊎_elim}
-use mathlib.Core.Bool.{Bool, true, false, ◌&&◌, ◌||◌, or_true}
+use mathlib.Core.Bool.{Bool, true, false, ◌&&◌, ◌||◌, or-true}
 use mathlib.Core.List.{List, [], ◌∷◌}
 use Prim.Native.Nat.{ℕ, zero, suc, ◌+◌, ◌-◌, ◌≤◌, ◌<◌}
 use native.Mathlib.Omega.{arith}
@@ -65,10 +65,10 @@ near-more f g h x = split (flag (f x)) (flag (f (suc x)))
   where
     split : (f x ≡ true) ⊎ (f x ≡ false) → (f (suc x) ≡ true) ⊎ (f (suc x) ≡ false) → near f x ≡ true → near g x ≡ true
     split (inl a) b n = rw (h x a)
-    split (inr a) (inl b) n = rw (h (suc x) b) (or_true (g x))
+    split (inr a) (inl b) n = rw (h (suc x) b) (or-true (g x))
     split (inr a) (inr b) n =
         let c : f (suc (suc x)) ≡ true = sym (rw (a, b)) ∙ n in
-        rw (h (suc (suc x)) c, or_true (g (suc x))) (or_true (g x))
+        rw (h (suc (suc x)) c, or-true (g (suc x))) (or-true (g x))
 
 module _ (a : Aim) (χ : Change a) where
   -- a needed register has such a bit

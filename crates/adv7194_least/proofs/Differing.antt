@@ -1,7 +1,7 @@
 -- What must be written may be: known registers that differ, and unknown ones that are fixed, have a field or a must-be-zero bit, and so have the word's.
 -- Assumes nothing.
 use mathlib.Core.Path.{◌≡◌, refl, sym, ◌∙◌}
-use mathlib.Core.Bool.{Bool, true, false, or_true}
+use mathlib.Core.Bool.{Bool, true, false, or-true}
 use Prim.Native.Nat.{ℕ, ◌≤◌, ◌<◌}
 use native.Mathlib.Omega.{arith}
 use lib.Dec.{T, ltb}
@@ -74,7 +74,7 @@ module _ (a : Aim) (χ : Change a) where
 
   -- a fixed register is compared
   fixed-compared : (r : ℕ) → a.fixes r ≡ true → compared a r ≡ true
-  fixed-compared r f = rw f (or_true (knows a.board r))
+  fixed-compared r f = rw f (or-true (knows a.board r))
 
   -- a compared register with such a bit may be written
   settable-may : (r : ℕ) → (r < register_count) × (settable r ≡ true) → compared a r ≡ true → may a r ≡ true

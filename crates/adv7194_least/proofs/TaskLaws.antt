@@ -2,7 +2,7 @@
 -- that may be written. Assumes nothing.
 use mathlib.Core.Path.{◌≡◌, refl, sym, ◌∙◌}
 use mathlib.Core.Logic.{◌⊎◌, inl, inr, ⊎_elim}
-use mathlib.Core.Bool.{Bool, true, false, ◌&&◌, ◌||◌, or_true}
+use mathlib.Core.Bool.{Bool, true, false, ◌&&◌, ◌||◌, or-true}
 use mathlib.Core.List.{List, ◌∷◌}
 use Prim.Native.Nat.{ℕ, suc, ◌-◌, ◌≤◌, ◌<◌}
 use native.Mathlib.Omega.{arith}
@@ -70,15 +70,15 @@ module _ (must : ℕ → Bool) where
     where
       from_e : (x ≡ 0x0e) ⊎ (0x0f ≤ x) → (must 0x0e || must 0x0f) ≡ true
       from_e (inl e) = rw (rw e at m)
-      from_e (inr h) = let e : x ≡ 0x0f = omega arith in rw (rw e at m) (or_true (must 0x0e))
+      from_e (inr h) = let e : x ≡ 0x0f = omega arith in rw (rw e at m) (or-true (must 0x0e))
 
       from_d : (x ≡ 0x0d) ⊎ (0x0e ≤ x) → (must 0x0d || (must 0x0e || must 0x0f)) ≡ true
       from_d (inl e) = rw (rw e at m)
-      from_d (inr h) = rw (from_e (later 0x0e x h)) (or_true (must 0x0d))
+      from_d (inr h) = rw (from_e (later 0x0e x h)) (or-true (must 0x0d))
 
       from_c : (x ≡ 0x0c) ⊎ (0x0d ≤ x) → word_in must ≡ true
       from_c (inl e) = rw (rw e at m)
-      from_c (inr h) = rw (from_d (later 0x0d x h)) (or_true (must 0x0c))
+      from_c (inr h) = rw (from_d (later 0x0d x h)) (or-true (must 0x0c))
 
   -- what must be written is needed
   pub must-needed : (x : ℕ) → must x ≡ true → with_word must x ≡ true

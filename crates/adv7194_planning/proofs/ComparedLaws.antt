@@ -1,6 +1,6 @@
 -- The registers that have a bit in the table of field masks, compared half by half, are all where two images differ. Assumes nothing.
 use mathlib.Core.Path.{◌≡◌, refl, sym, ap, ap₂, ◌∙◌, subst}
-use mathlib.Core.Bool.{Bool, true, false, not, ◌&&◌, ◌||◌, and_false}
+use mathlib.Core.Bool.{Bool, true, false, not, ◌&&◌, ◌||◌, and-false}
 use mathlib.Core.List.{List}
 use Prim.Native.Nat.{ℕ, ◌+◌, ◌-◌, ◌*◌, ◌%◌, ◌^◌, ◌≤◌, ◌<◌}
 use native.Mathlib.Nat.{mod-lt}
@@ -49,7 +49,7 @@ module _ (masks : List ℕ) {image wanted : List ℕ} (χ : Comparable image wan
     past j h =
         let none : (l : List ℕ) → length l ≡ end - start → get_or l j 0 ≡ 0 = λ l e. get_or-eq_default l 0 (omega arith) in
         compared j ∙ rw (none (part start end image) (sized image χ.found), none (part start end wanted) (sized wanted χ.wants))
-        (and_false (not (eqb (get_or (part start end masks) j 0) 0)))
+        (and-false (not (eqb (get_or (part start end masks) j 0) 0)))
 
     -- the map, moved up to its place
     abbrev up : ℕ
@@ -101,9 +101,9 @@ some_half true b true d f = by b d
   where
     by : (b d : Bool) → (d || (b && d)) ≡ d
     by b true = refl
-    by b false = and_false b
+    by b false = and-false b
 some_half true b false true f = absurd (subst T (sym (f refl)) tt)
-some_half true b false false f = and_false b
+some_half true b false false f = and-false b
 some_half false true m d f = by m d f
   where
     by : (m d : Bool) → (d ≡ true → m ≡ true) → (m && d) ≡ d

@@ -1,6 +1,6 @@
 -- Where every register of the fields is known, every register with a bit that settings fix is. Assumes nothing.
 use mathlib.Core.Path.{◌≡◌, refl, sym, ◌∙◌}
-use mathlib.Core.Bool.{Bool, true, false, cond, not, ◌&&◌, false≢true, and_false}
+use mathlib.Core.Bool.{Bool, true, false, cond, not, ◌&&◌, false≢true, and-false}
 use mathlib.Core.List.{List, [], ◌∷◌}
 use Prim.Native.Nat.{ℕ, ◌<◌}
 use lib.Dec.{T, eqb, ltb, ltb→lt}
@@ -86,8 +86,8 @@ module _ (b : Board) (zs : List ℤ) (known : lowest_field (unknown b) ≡ 0) wh
       none_lowest (unfixed b zs) (λ f. none_below (λ r. has_bits f r && unfixed b zs r) register_count (λ r h. none f r h)) (order_of table)
     where
       rest : (r : ℕ) → r < register_count → (x : Bool) → eqb (fixed_bits zs r) 0 ≡ x → (unknown b r && (not x && not (fixes_all zs r))) ≡ false
-      rest r h true p = and_false (unknown b r)
+      rest r h true p = and-false (unknown b r)
       rest r h false p = let k : knows b r ≡ true = some_known r h p in rw k
 
       none : (f r : ℕ) → r < register_count → (has_bits f r && unfixed b zs r) ≡ false
-      none f r h = let e : unfixed b zs r ≡ false = rest r h (eqb (fixed_bits zs r) 0) refl in rw e (and_false (has_bits f r))
+      none f r h = let e : unfixed b zs r ≡ false = rest r h (eqb (fixed_bits zs r) 0) refl in rw e (and-false (has_bits f r))

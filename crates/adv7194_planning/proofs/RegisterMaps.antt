@@ -2,7 +2,7 @@
 -- Assumes nothing.
 use mathlib.Core.Path.{◌≡◌, refl, sym, ap, ap₂, ◌∙◌}
 use mathlib.Core.Logic.{inr}
-use mathlib.Core.Bool.{Bool, true, false, cond, not, ◌&&◌, ◌||◌, and-true, and_false, or_true, or-false}
+use mathlib.Core.Bool.{Bool, true, false, cond, not, ◌&&◌, ◌||◌, and-true, and-false, or-true, or-false}
 use Prim.Native.Nat.{ℕ, ◌^◌, ◌<◌}
 use native.Mathlib.Omega.{arith}
 use lib.Bits.{bit_and, bit_or, and_le_l}
@@ -97,7 +97,7 @@ module _ (d : ℕ) where
           sym (need-word (has d) r a.0 a.1) ∙ must-needed (has d) r q.0
 
       split : (b : Bool) → (has d i || b) ≡ cond b (word_in (has d)) (has d i)
-      split true = or_true (has d i) ∙ sym word
+      split true = or-true (has d i) ∙ sym word
       split false = or-false (has d i)
 
 -- ---- the registers before which no transaction may end
@@ -116,7 +116,7 @@ module _ (n : ℕ) where
   pub held_none : bit_and n 0x1000 ≡ 0 → (i : ℕ) → has 0 i ≡ (among 0x0d 0x0f i && has n 0x0c)
   held_none e i =
       let w = sym (and-true (has n 0x0c)) ∙ sym (has_and n 0x1000 0x0c) ∙ ap (λ (m : ℕ). has m 0x0c) e in
-      none_has i ∙ sym (rw w (and_false (among 0x0d 0x0f i)))
+      none_has i ∙ sym (rw w (and-false (among 0x0d 0x0f i)))
 
   -- where it is
   pub held-some : (bit_and n 0x1000 ≡ 0 → ⊥) → (i : ℕ) → has 0xE000 i ≡ (among 0x0d 0x0f i && has n 0x0c)
@@ -125,7 +125,7 @@ module _ (n : ℕ) where
       -- a map without it
       without : has n 0x0c ≡ false → (x : ℕ) (b : Bool) → eqb x 0x0c ≡ b → (has n x && b) ≡ false
       without w x true u = rw (eqb-true x 0x0c u, w)
-      without w x false u = and_false (has n x)
+      without w x false u = and-false (has n x)
 
       by : (b : Bool) → has n 0x0c ≡ b → has 0xE000 i ≡ (among 0x0d 0x0f i && b)
       by true w = rest-is i ∙ sym (and-true (among 0x0d 0x0f i))

@@ -2,7 +2,7 @@
 -- data. Assumes nothing.
 use mathlib.Core.Path.{◌≡◌, refl, sym, ap, ap₂, ◌∙◌, subst⁻¹}
 use mathlib.Core.Logic.{⊎_elim}
-use mathlib.Core.Bool.{Bool, true, false, ◌&&◌, and-true, and_false}
+use mathlib.Core.Bool.{Bool, true, false, ◌&&◌, and-true, and-false}
 use mathlib.Core.List.{List, []}
 use Prim.Native.Nat.{ℕ, ◌+◌, ◌≤◌}
 use native.Mathlib.Omega.{arith}
@@ -87,7 +87,7 @@ module _ (kind : PlanKind) {plan : List ℕ} {map₀ : ℕ} {l₀ : List ℕ} {m
     -- it isn't taken: nor is the list, whatever comes after it
     breaks : (us : List Transaction) → passes (turns kind) map₀ l₀ us ≡ false → takes kind us ≡ false
     breaks us e =
-        takes_parts kind us map₀ l₀ ∙ ap (λ (b : Bool). enough kind (length us) && b) e ∙ and_false (enough kind (length us))
+        takes_parts kind us map₀ l₀ ∙ ap (λ (b : Bool). enough kind (length us) && b) e ∙ and-false (enough kind (length us))
 
     not_taken : (left : List ℕ) (m : ℕ) → length left ≡ length l₀ → takes_one kind t ≡ false
         → Answers kind plan (board_of l₀ map₀) (board_of left m) (refused 9)

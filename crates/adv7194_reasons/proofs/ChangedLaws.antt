@@ -1,6 +1,6 @@
 -- A known register that differs has a field whose bits change there, or a must-be-zero bit that was set. Assumes nothing.
 use mathlib.Core.Path.{◌≡◌, refl, sym, ap, ◌∙◌}
-use mathlib.Core.Bool.{Bool, true, false, not, ◌&&◌, and-true, and_false}
+use mathlib.Core.Bool.{Bool, true, false, not, ◌&&◌, and-true, and-false}
 use mathlib.Core.List.{List, [], ◌∷◌, map}
 use Prim.Native.Nat.{ℕ, ◌^◌, ◌<◌}
 use native.Mathlib.Omega.{arith}
@@ -66,7 +66,7 @@ module _ (b : Board) (zs : List ℤ) (limit : ℕ) (image : Image b.registers) w
       both i k true e =
           ap (λ (x : Bool). x && true)
           (ap (λ (n : ℕ). eqb n 1) ((demanded b.registers zs image.size).zero r i h k (eqb-true (bit i (zero_mask r)) 1 e)))
-      both i k false e = and_false (has (wanted r) i)
+      both i k false e = and-false (has (wanted r) i)
 
   -- a bit outside all fields isn't fixed
   not_fixed : (r i : ℕ) → r < register_count → has (outside_mask r) i ≡ true → bit i (fixed_mask (value_or [] (block_codes zs signals signalling)) r) ≡ 0
@@ -91,7 +91,7 @@ module _ (b : Board) (zs : List ℤ) (limit : ℕ) (image : Image b.registers) w
       both : (i : ℕ) → i < 8 → (t : Bool) → has (outside_mask r) i ≡ t → (has (wanted r) i && t) ≡ (has (get_or b.registers r 0) i && t)
       both i k true e =
           ap (λ (n : ℕ). eqb n 1 && true) ((demanded b.registers zs image.size).kept r i h k (not_fixed r i h e))
-      both i k false e = and_false (has (wanted r) i) ∙ sym (and_false (has (get_or b.registers r 0) i))
+      both i k false e = and-false (has (wanted r) i) ∙ sym (and-false (has (get_or b.registers r 0) i))
 
   -- so settings aim at such an image
   pub settings_settled : Settled (aim_of b zs limit)

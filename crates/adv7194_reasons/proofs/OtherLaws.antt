@@ -1,6 +1,6 @@
 -- The registers of the subcarrier word that a map has besides one, as a map. Assumes nothing.
 use mathlib.Core.Path.{◌≡◌, refl, sym, ap, ap₂, ◌∙◌}
-use mathlib.Core.Bool.{Bool, true, false, not, ◌&&◌, and-true, and_false}
+use mathlib.Core.Bool.{Bool, true, false, not, ◌&&◌, and-true, and-false}
 use Prim.Native.Nat.{ℕ, ◌*◌, ◌%◌, ◌^◌, ◌<◌}
 use native.Mathlib.Nat.{mod-lt}
 use native.Mathlib.Omega.{arith}
@@ -46,7 +46,7 @@ module _ (map r : ℕ) (h : r < register_count) where
     where
       turned : (x y z : Bool) → (x && (y && z)) ≡ (z && (x && y))
       turned x y true = ap (λ (b : Bool). x && b) (and-true y)
-      turned true y false = and_false y
+      turned true y false = and-false y
       turned false y false = refl
 
   -- there is one exactly where their map isn't 0

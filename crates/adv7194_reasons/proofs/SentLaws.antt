@@ -1,7 +1,7 @@
 -- The registers that a list sends: the test says which its transactions touch, and registers of one transaction are joined. Assumes nothing.
 use mathlib.Core.Path.{◌≡◌, refl, sym, ap, ◌∙◌, subst}
 use mathlib.Core.Logic.{inl, inr}
-use mathlib.Core.Bool.{Bool, true, ◌&&◌, ◌||◌, or_true}
+use mathlib.Core.Bool.{Bool, true, ◌&&◌, ◌||◌, or-true}
 use mathlib.Core.List.{List, [], ◌∷◌}
 use Prim.Native.Nat.{ℕ}
 use lib.Dec.{T}
@@ -48,5 +48,5 @@ touched_in P (t ∷ ts) r h (inr u) =
       is = q.is;
       has = q.has;
       sends = λ x v. inr (q.sends x v);
-      joins = λ i j v w. rw (q.joins i j v w) (or_true (touches t i && touches t j));
+      joins = λ i j v w. rw (q.joins i j v w) (or-true (touches t i && touches t j));
     }

@@ -1,7 +1,7 @@
 -- Reading over a board: lengths, then the judgement of the image up to the first field with an unknown register. Assumes nothing.
 use mathlib.Core.Path.{◌≡◌, refl, sym, ap, ap₂, ◌∙◌, subst}
 use mathlib.Core.Logic.{◌⊎◌, ⊎_elim}
-use mathlib.Core.Bool.{Bool, true, false, not, cond, ◌&&◌, ◌||◌, and_false, or_true}
+use mathlib.Core.Bool.{Bool, true, false, not, cond, ◌&&◌, ◌||◌, and-false, or-true}
 use mathlib.Core.List.{List, [], ◌∷◌, ◌++◌, flat_map}
 use Prim.Native.Nat.{ℕ, zero, suc, ◌^◌, ◌≤◌, ◌<◌}
 use native.Mathlib.Omega.{arith}
@@ -86,7 +86,7 @@ unknown-later k u (refused_at n f) w h l = let e = ⊎_elim first-none later l i
     first-none e = let z : eqb u 0 ≡ true = eq-eqb u 0 e in rw z
 
     later : suc k ≤ u → (eqb u 0 || ltb f u) ≡ true
-    later e = let z : ltb f u ≡ true = lt-ltb f u (omega arith) in rw z (or_true (eqb u 0))
+    later e = let z : ltb f u ≡ true = lt-ltb f u (omega arith) in rw z (or-true (eqb u 0))
 
 module _ (b : Board) (count : ℕ) where
   -- the faults of some fields: by reading, of the image alone, and of one field
@@ -249,7 +249,7 @@ none-unknown image =
     (order_of table)
   where
     here : (f r : ℕ) → T (has all_known r) → (has_bits f r && not (has all_known r)) ≡ false
-    here f r t = let e : has all_known r ≡ true = holds (has all_known r) t in rw e (and_false (has_bits f r))
+    here f r t = let e : has all_known r ≡ true = holds (has all_known r) t in rw e (and-false (has_bits f r))
 
 -- it is read as its image: by 1, by 3 at field 0, or as that is judged
 pub read_known : (image : List ℕ) (count : ℕ) → read_of (board_of image all_known) count

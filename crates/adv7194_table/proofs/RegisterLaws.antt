@@ -1,7 +1,7 @@
 -- The registers of a field as a map, and the lowest field that has one of some registers. Assumes nothing.
 use mathlib.Core.Path.{◌≡◌, refl, sym, ap, ap₂, ◌∙◌, subst}
 use mathlib.Core.Logic.{◌⊎◌, inl, inr, ⊎_elim}
-use mathlib.Core.Bool.{Bool, true, false, not, cond, ◌&&◌, ◌||◌, and_false, or_true}
+use mathlib.Core.Bool.{Bool, true, false, not, cond, ◌&&◌, ◌||◌, and-false, or-true}
 use mathlib.Core.List.{List, [], ◌∷◌}
 use Prim.Native.Nat.{ℕ, zero, suc, ◌+◌, ◌-◌, ◌%◌, ◌^◌, ◌≤◌, ◌<◌}
 use native.Mathlib.Nat.{pow-suc, add-div_left, add-mod_left, div-eq_of_lt}
@@ -48,7 +48,7 @@ one_below P (suc n) r h e = split (eqb r n) refl (λ k. one_below P n r k e)
   where
     split : (b : Bool) → eqb r n ≡ b → (r < n → some_below P n ≡ true) → (P n || some_below P n) ≡ true
     split true d ih = let here : P n ≡ true = sym (ap P (eqb-true r n d)) ∙ e in rw here
-    split false d ih = let z = eqb-false r n d in let there : some_below P n ≡ true = ih (omega arith) in rw there (or_true (P n))
+    split false d ih = let z = eqb-false r n d in let there : some_below P n ≡ true = ih (omega arith) in rw there (or-true (P n))
 
 -- a map of n registers has one of them exactly where it isn't 0
 pub some_of_map : (n m : ℕ) → m < 2 ^ n → some_below (has m) n ≡ not (eqb m 0)
@@ -217,4 +217,4 @@ none_of_map map e =
 
     at : (f r : ℕ) → r < register_count → (b : Bool) → has map r ≡ b → (has_bits f r && b) ≡ false
     at f r h true q = let free : has_bits f r ≡ false = outside-all f r h (sym (ap (λ (b : Bool). b && has all_fields r) q) ∙ common r) in rw free
-    at f r h false q = and_false (has_bits f r)
+    at f r h false q = and-false (has_bits f r)

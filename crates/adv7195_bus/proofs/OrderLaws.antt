@@ -1,7 +1,7 @@
 -- The order before a flip of MR36, a transaction at a time: as a property and as a test, which agree. Assumes nothing.
 use mathlib.Core.Path.{◌≡◌, refl, sym, ap, ◌∙◌, subst}
 use mathlib.Core.Logic.{◌⊎◌, inl, inr, ⊎_elim, ◌↔◌}
-use mathlib.Core.Bool.{Bool, true, false, not, xor, ◌||◌, and_false, false≢true}
+use mathlib.Core.Bool.{Bool, true, false, not, xor, ◌||◌, and-false, false≢true}
 use mathlib.Core.List.{List, [], ◌∷◌, ◌++◌, flat_map}
 use Prim.Native.Nat.{ℕ, ◌≤◌, ◌<◌}
 use native.Mathlib.Omega.{arith}
@@ -30,7 +30,7 @@ touches_in t r u = rw (le-leb t.subaddress r u.0, lt-ltb r (end t) u.1)
 -- it fails where the register lies outside
 touches_out : (t : Transaction) (r : ℕ) → (r < t.subaddress) ⊎ (end t ≤ r) → touches t r ≡ false
 touches_out t r (inl u) = rw (lt-leb t.subaddress r u)
-touches_out t r (inr u) = rw (le-ltb r (end t) u) (and_false (leb t.subaddress r))
+touches_out t r (inr u) = rw (le-ltb r (end t) u) (and-false (leb t.subaddress r))
 
 -- either it is touched, or the test fails
 pub touched? : (t : Transaction) (r : ℕ) → Touches t r ⊎ (touches t r ≡ false)

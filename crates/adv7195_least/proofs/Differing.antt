@@ -2,7 +2,7 @@
 -- image differ. Assumes nothing.
 use mathlib.Core.Path.{◌≡◌, refl, sym, ◌∙◌}
 use mathlib.Core.Logic.{◌⊎◌, inl, inr, ⊎_elim}
-use mathlib.Core.Bool.{Bool, true, false, not, ◌&&◌, ◌||◌, or_true, false≢true}
+use mathlib.Core.Bool.{Bool, true, false, not, ◌&&◌, ◌||◌, or-true, false≢true}
 use mathlib.Core.List.{List}
 use Prim.Native.Nat.{ℕ, ◌<◌}
 use native.Mathlib.Omega.{arith}
@@ -53,11 +53,11 @@ module _ (image wanted : List ℕ) where
 
   pub beside_03 : (a : ℕ) → beside image wanted a 0x03 ≡ true
   unfolding beside
-  beside_03 a = or_true (differs image wanted 0x03 && not (among a 0x09 0x03))
+  beside_03 a = or-true (differs image wanted 0x03 && not (among a 0x09 0x03))
 
   pub beside_09 : (a : ℕ) → restores wanted ≡ true → beside image wanted a 0x09 ≡ true
   unfolding beside
-  beside_09 a e = rw e (or_true (differs image wanted 0x09 && not (among a 0x09 0x09)))
+  beside_09 a e = rw e (or-true (differs image wanted 0x09 && not (among a 0x09 0x09)))
 
   module _ (χ : Change image wanted) where
     -- a register that differs may be written

@@ -1,6 +1,6 @@
 -- Maps of registers against tests on registers: those that differ, and those left beside the transaction that ends with 3E. Assumes nothing.
 use mathlib.Core.Path.{◌≡◌, refl, sym, ap, ap₂, ◌∙◌}
-use mathlib.Core.Bool.{Bool, true, false, not, ◌&&◌, ◌||◌, and_false}
+use mathlib.Core.Bool.{Bool, true, false, not, ◌&&◌, ◌||◌, and-false}
 use mathlib.Core.List.{List}
 use Prim.Native.Nat.{ℕ, ◌-◌, ◌^◌, ◌≤◌, ◌<◌}
 use native.Mathlib.Omega.{arith}
@@ -30,7 +30,7 @@ all-compared image wanted χ i = split (ltb i register_count) refl
     split false e =
         let h = ltb-false i register_count e in
         let none : (l : List ℕ) → length l ≡ register_count → get_or l i 0 ≡ 0 = λ l n. get_or-eq_default l 0 (omega arith) in
-        rw (none image χ.found, none wanted χ.wants) (and_false (not (eqb (get_or (replicate register_count 0xff) i 0) 0)))
+        rw (none image χ.found, none wanted χ.wants) (and-false (not (eqb (get_or (replicate register_count 0xff) i 0) 0)))
 
 -- ---- those left beside a to 09
 

@@ -1,7 +1,7 @@
 -- The wanted image of any settings is demand 2's image, bit by bit, and no other is; it is as long as the starting image, bytes where that is,
 -- and the same in the registers that 001 doesn't name. Assumes nothing.
 use mathlib.Core.Path.{◌≡◌, sym, ◌∙◌, subst}
-use mathlib.Core.Bool.{true, false, not, and_false}
+use mathlib.Core.Bool.{true, false, not, and-false}
 use mathlib.Core.List.{List}
 use Prim.Native.Nat.{ℕ}
 use lib.Dec.{T, ltb, ltb→lt}
@@ -50,7 +50,7 @@ wanted-bytes image zs b = puts-bytes writable (setting_writes zs) image (writes_
 -- a register that 001 doesn't name is as found
 pub wanted-kept : (image : List ℕ) (zs : List ℤ) (r : ℕ) → unnamed r ≡ true → get_or (wanted_by image zs) r 0 ≡ get_or image r 0
 unfolding wanted_by
-wanted-kept image zs r e = puts_stay writable (setting_writes zs) image r (writes_fit zs) (rw e (and_false (ltb r register_count)))
+wanted-kept image zs r e = puts_stay writable (setting_writes zs) image r (writes_fit zs) (rw e (and-false (ltb r register_count)))
 
 -- ---- demand 2
 

@@ -13,7 +13,7 @@ use Rattle.bits.specs.Strings.{lsb_first}
 use Rattle.bits.specs.Parity.{odd_ones, odd_in, with_parity}
 use Rattle.bits.proofs.DigitLaws.{digit, half_shr}
 use Rattle.bits.proofs.StringLaws.{lsb_low}
-use Rattle.bits.proofs.MapLaws.{ones_in}
+use Rattle.bits.proofs.MapLaws.{ones_in_lem}
 
 -- ---- the count of ones
 
@@ -39,7 +39,7 @@ odd_digits (suc w) n =
 -- and so is the machine's count
 pub odd_count : (w n : ℕ) → eqb (ones (n % 2 ^ w) % 2) 1 ≡ odd_in w n
 odd_count w n =
-    ap (λ (x : ℕ). eqb (x % 2) 1) (sym (ones_in w (n % 2 ^ w) (mod-lt n (pow_pos w)))) ∙ odd_digits w (n % 2 ^ w) ∙ ap odd_ones (lsb_low w n)
+    ap (λ (x : ℕ). eqb (x % 2) 1) (sym (ones_in_lem w (n % 2 ^ w) (mod-lt n (pow_pos w)))) ∙ odd_digits w (n % 2 ^ w) ∙ ap odd_ones (lsb_low w n)
 
 -- ---- the bit above
 

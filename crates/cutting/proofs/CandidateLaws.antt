@@ -15,9 +15,9 @@ use Rattle.cutting.proofs.LowestLaws.{First}
 use Rattle.cutting.proofs.SpanLaws.{one_has, one_less}
 
 -- either of two, where the second is true
-or_true : (b : Bool) → (b || true) ≡ true
-or_true true = refl
-or_true false = refl
+or-true : (b : Bool) → (b || true) ≡ true
+or-true true = refl
+or-true false = refl
 
 -- ---- the first least of some numbers
 
@@ -183,7 +183,7 @@ kept_more f map at kept m end h k l s c = record {
     under i j a b false e u n = let n = eqb-true at i u in absurd (omega arith)
 
     is : (i : ℕ) → i ≤ end → ((j : ℕ) → at ≤ j → j < i → f i < f j) → (i ≡ at) ⊎ (suc at ≤ i) → (has kept i || eqb at i) ≡ true
-    is i b g (inl n) = rw (eq-eqb at i (sym n)) (or_true (has kept i))
+    is i b g (inl n) = rw (eq-eqb at i (sym n)) (or-true (has kept i))
     is i b g (inr n) = rw (left i b g n (has kept i) refl)
       where
         left : (i : ℕ) → i ≤ end → ((j : ℕ) → at ≤ j → j < i → f i < f j) → suc at ≤ i → (x : Bool) → has kept i ≡ x → has kept i ≡ true

@@ -1,7 +1,7 @@
 -- The first fault of a table walked row by row is the first place of its checking order whose row holds. Assumes nothing.
 use mathlib.Core.Path.{◌≡◌, refl, sym, ap, ◌∙◌, fun_ext}
 use mathlib.Core.Logic.{⊎_elim}
-use mathlib.Core.Bool.{Bool, true, false, not, cond, ◌&&◌, ◌||◌, and_false}
+use mathlib.Core.Bool.{Bool, true, false, not, cond, ◌&&◌, ◌||◌, and-false}
 use mathlib.Core.List.{List, [], ◌∷◌, flat_map}
 use Prim.Native.Nat.{ℕ, suc, ◌^◌, ◌≤◌, ◌<◌}
 use native.Mathlib.Omega.{arith}
@@ -132,7 +132,7 @@ module _ {A : Type 0} (j : Field → Judged A) (is-sound : (f : Field) → T (so
   -- a row that passes
   row-passes : (x : Field) (xs : List Field) {a : A} → j x ≡ accepted a → rows (x ∷ xs) ≡ rows xs
   unfolding some_row
-  row-passes x xs e = fun_ext (λ n. fun_ext (λ f. rw e (ap (λ b. b || rows xs n f) (and_false (eqb f x.row.field)))))
+  row-passes x xs e = fun_ext (λ n. fun_ext (λ f. rw e (ap (λ b. b || rows xs n f) (and-false (eqb f x.row.field)))))
 
   -- a row that is refused by n
   row-refused : (x : Field) (xs : List Field) (n : ℕ) → j x ≡ refused n → rows (x ∷ xs) n x.row.field ≡ true
@@ -143,7 +143,7 @@ module _ {A : Type 0} (j : Field → Judged A) (is-sound : (f : Field) → T (so
   row_other : (x : Field) (xs : List Field) (m n : ℕ) → j x ≡ refused m → (m ≡ n → ⊥) → rows xs n x.row.field ≡ false
       → rows (x ∷ xs) n x.row.field ≡ false
   unfolding some_row
-  row_other x xs m n e d r = rw (e, ne_eqb m n d, r) (ap (λ b. b || false) (and_false (eqb x.row.field x.row.field)))
+  row_other x xs m n e d r = rw (e, ne_eqb m n d, r) (ap (λ b. b || false) (and-false (eqb x.row.field x.row.field)))
 
   -- a row's field and those after it
   from_row : (x : Field) (xs : List Field) → T (ascends_from (next x) xs)

@@ -34,11 +34,11 @@ pub begins-short : (word line : List ℕ) → length line < length word → begi
 unfolding begins
 begins-short [] line h = absurd (not-suc-le-zero h)
 begins-short (x ∷ word) [] h = refl
-begins-short (x ∷ word) (y ∷ line) h = rw (begins-short word line (le_of_suc-le-suc h)) (and_false (eqb x y))
+begins-short (x ∷ word) (y ∷ line) h = rw (begins-short word line (le_of_suc-le-suc h)) (and-false (eqb x y))
   where
-    and_false : (a : Bool) → a && false ≡ false
-    and_false true = refl
-    and_false false = refl
+    and-false : (a : Bool) → a && false ≡ false
+    and-false true = refl
+    and-false false = refl
 
 -- where the front is the word the line begins with it
 begins_of : (word line : List ℕ) → take (length word) line ≡ word → begins word line ≡ true

@@ -1,6 +1,6 @@
 -- An ascending list of transactions with data is the list of its two maps. Assumes nothing.
 use mathlib.Core.Path.{◌≡◌, refl, sym, ap, ap₂, ◌∙◌}
-use mathlib.Core.Bool.{Bool, true, false, not, ◌&&◌, ◌||◌, or_true, false≢true}
+use mathlib.Core.Bool.{Bool, true, false, not, ◌&&◌, ◌||◌, or-true, false≢true}
 use mathlib.Core.List.{List, [], ◌∷◌}
 use Prim.Native.Nat.{ℕ, zero, suc, ◌+◌, ◌-◌, ◌≤◌, ◌<◌}
 use native.Mathlib.Omega.{arith}
@@ -133,7 +133,7 @@ begun-touched w (t ∷ ts) x g e = go (eqb t.subaddress x) refl e (λ u. begun-t
         let d = eqb-true t.subaddress x l in
         let s = g.0.some in
         rw (le-leb t.subaddress x (omega arith), lt-ltb x (end t) (omega arith))
-    go false l u ih = rw (ih (rw l at u)) (or_true (leb t.subaddress x && ltb x (end t)))
+    go false l u ih = rw (ih (rw l at u)) (or-true (leb t.subaddress x && ltb x (end t)))
 
 -- neither of two
 neither : (a b : Bool) → (a || b) ≡ false → (a ≡ false) × (b ≡ false)
@@ -165,5 +165,5 @@ touched-begun (t ∷ ts) x e f =
         → (leb t.subaddress x ≡ true → ltb x (end t) ≡ true → t.subaddress ≡ x) → (touched ts x ≡ true → begun ts x ≡ true)
         → (eqb t.subaddress x || begun ts x) ≡ true
     go true l true u v at ih = rw (eq-eqb t.subaddress x (at l u))
-    go true l false u v at ih = rw (ih (rw (l, u) at v)) (or_true (eqb t.subaddress x))
-    go false l c u v at ih = rw (ih (rw l at v)) (or_true (eqb t.subaddress x))
+    go true l false u v at ih = rw (ih (rw (l, u) at v)) (or-true (eqb t.subaddress x))
+    go false l c u v at ih = rw (ih (rw l at v)) (or-true (eqb t.subaddress x))

@@ -1,6 +1,6 @@
 -- The plan of three maps and a limit is the list of the maps found, and what packing it answers and leaves. Assumes nothing.
 use mathlib.Core.Path.{◌≡◌, refl, sym, ap, ap₂, ◌∙◌, subst}
-use mathlib.Core.Bool.{Bool, true, false, not, ◌&&◌, ◌||◌, and_false, false≢true}
+use mathlib.Core.Bool.{Bool, true, false, not, ◌&&◌, ◌||◌, and-false, false≢true}
 use mathlib.Core.List.{List, [], ◌∷◌, ◌++◌}
 use Prim.Native.Nat.{ℕ, zero, suc, ◌-◌, ◌^◌, ◌≤◌, ◌<◌}
 use native.Mathlib.Omega.{arith}
@@ -122,7 +122,7 @@ module _ (needed allowed held limit : ℕ) (w : List ℕ) (taken starts : ℕ) (
       go : (b : Bool) → ltb x (end t) ≡ b → ((leb t.subaddress x && ltb x (end t)) || touched us x) ≡ true → (touched us x ≡ true → x < length w)
           → x < length w
       go true l u ih = let d = ltb-true x (end t) l in omega (arith, g.0.ends)
-      go false l u ih = ih (sym (rw (l, and_false (leb t.subaddress x))) ∙ u)
+      go false l u ih = ih (sym (rw (l, and-false (leb t.subaddress x))) ∙ u)
 
   -- they are the plan's maps
   pub mapped : Mapped ts w taken starts goes

@@ -2,7 +2,7 @@
 -- turn. Assumes nothing.
 use mathlib.Core.Path.{◌≡◌, refl, sym, ap, ap₂, ◌∙◌, subst⁻¹}
 use mathlib.Core.Logic.{◌⊎◌, inl, inr, ⊎_elim}
-use mathlib.Core.Bool.{Bool, true, false, ◌&&◌, and-true, and_false}
+use mathlib.Core.Bool.{Bool, true, false, ◌&&◌, and-true, and-false}
 use mathlib.Core.List.{List, [], ◌∷◌, ◌++◌}
 use Prim.Native.Nat.{ℕ, ◌+◌, ◌^◌, ◌≤◌, ◌<◌}
 use lib.Dec.{T}
@@ -136,5 +136,5 @@ module _ {S : Type 0} {τ : Turns S} {plan : List ℕ} {order : Order} {s₀ : S
     writing_breaks e =
         let ts = w.done ++ (found ∷ []) in
         let broken =
-        passes-more τ w.done s₀ l₀ found ∙ ap (λ (b : Bool). passes τ s₀ l₀ w.done && b) (asked ∙ e) ∙ and_false (passes τ s₀ l₀ w.done) in
+        passes-more τ w.done s₀ l₀ found ∙ ap (λ (b : Bool). passes τ s₀ l₀ w.done && b) (asked ∙ e) ∙ and-false (passes τ s₀ l₀ w.done) in
         ⊎_elim inl (λ u. inr (ts ++ u.0, (u.1, passes_broken τ ts u.0 s₀ l₀ broken))) (walk_so_far (walk_goes w.walked g))
