@@ -10,7 +10,7 @@ const NONE: u32 = 0;
 
 // A refusal with its field, or 0 and 0; the pair's characters.
 #[repr(C)]
-#[derive(Drop)]
+#[derive(Clone, Copy)]
 pub struct CaptionsAnswer {
     pub refusal: u32,
     pub field: u32,

@@ -20,7 +20,7 @@ const NO: u32 = 0;
 // A refusal, or 0; a field, which is always 0; whether both images can be read; the fields that differ, and the registers that differ in bits outside all
 // fields, as maps: bit n is set for field or register n.
 #[repr(C)]
-#[derive(Drop)]
+#[derive(Clone, Copy)]
 pub struct CompareAnswer {
     pub refusal: u32,
     pub field: u32,

@@ -17,7 +17,7 @@ const NO: u32 = 0;
 // A refusal, or 0; a field, which is always 0; whether every byte was acknowledged; the map of the registers known after the call, which is as it was
 // handed in after a refusal.
 #[repr(C)]
-#[derive(Drop)]
+#[derive(Clone, Copy)]
 pub struct PlayAnswer {
     pub refusal: u32,
     pub field: u32,

@@ -31,7 +31,7 @@ const BRIDGE: u32 = 5;
 
 // A refusal with its field, or 0 and 0; the reason, and what it names: a field, or the needed registers below and above.
 #[repr(C)]
-#[derive(Drop)]
+#[derive(Clone, Copy)]
 pub struct WhyAnswer {
     pub refusal: u32,
     pub field: u32,

@@ -12,7 +12,7 @@ use bus::known::known_by;
 
 // A board's registers, and the map of those that are known: bit r for register r. The byte of a register that is not known means nothing; bits past the
 // last register are ignored.
-#[derive(Drop)]
+#[derive(Clone, Copy)]
 pub struct Board {
     pub registers: [u8; 54],
     pub known: u64,

@@ -17,7 +17,7 @@ const PAIRS: u32 = 2;
 const CHARACTERS: u8 = 0x80;
 
 // What reading a pair answers: its characters, or a refusal at a field.
-#[derive(Drop)]
+#[derive(Clone, Copy)]
 pub enum CaptionsRead {
     Done { first: u8, second: u8 },
     Refused { refusal: Refusal, field: u8 },

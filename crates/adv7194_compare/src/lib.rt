@@ -18,7 +18,7 @@ const NUMBERS: usize = 49;
 
 // Two images of the right length: whether reading takes both, the fields that differ, and the registers that differ in bits outside all fields. Bit n of
 // a map is set for field or register n. Or a refusal with its field.
-#[derive(Drop)]
+#[derive(Clone, Copy)]
 pub enum Compared {
     Done {
         readable: bool,

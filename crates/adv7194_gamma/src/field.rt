@@ -9,7 +9,7 @@ use crate::{Coded, Points, curve};
 use refusals::Refusal;
 
 // The bytes of a curve in an image, or the refusal of an image that ends before them.
-#[derive(Drop)]
+#[derive(Clone, Copy)]
 pub enum CurveRead {
     Points(Points),
     Refused(Refusal),

@@ -11,7 +11,7 @@ pub mod field;
 mod search;
 
 // The seven bytes of a curve, in the order of their registers.
-#[derive(Drop)]
+#[derive(Clone, Copy)]
 pub struct Points {
     pub b0: u8,
     pub b1: u8,
@@ -23,7 +23,7 @@ pub struct Points {
 }
 
 // What a ratio gives: its curve, or a refusal.
-#[derive(Drop)]
+#[derive(Clone, Copy)]
 pub enum Coded {
     Curve(Points),
     Refused(Refusal),

@@ -23,7 +23,7 @@ const RATIO: i32 = 0;
 const BYTES: i32 = 1;
 
 // The template of a setting: its column in a table, and how many of the setting's numbers stand before the first that it shows.
-#[derive(Drop)]
+#[derive(Clone, Copy)]
 struct Template {
     column: usize,
     skipped: usize,

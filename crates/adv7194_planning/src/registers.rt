@@ -44,7 +44,7 @@ const HALF: usize = 0x1B;
 const END: usize = REGISTERS as usize;
 
 // The registers that are needed by themselves, those that are needed, those that a plan may write, and those before which no transaction may end.
-#[derive(Drop)]
+#[derive(Clone, Copy)]
 pub struct RegisterMaps {
     pub must: u64,
     pub needed: u64,

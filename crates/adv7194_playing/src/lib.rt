@@ -29,7 +29,7 @@ const NONE: u64 = 0;
 const PAIR: u64 = 3;
 
 // The plans that a play call takes.
-#[derive(Drop)]
+#[derive(Clone, Copy)]
 pub enum PlanKind {
     // Those of settings, which keep the three rules.
     Settings,
@@ -38,14 +38,14 @@ pub enum PlanKind {
 }
 
 // What playing answers: whether every byte was acknowledged, and the map of the registers known after it; or a refusal, which makes none known.
-#[derive(Drop)]
+#[derive(Clone, Copy)]
 pub enum Played {
     Done { acknowledged: bool, known: u64 },
     Refused(Refusal),
 }
 
 // What a walk over a plan answers: how many transactions there are, and the map with their registers in it; or a refusal.
-#[derive(Drop)]
+#[derive(Clone, Copy)]
 enum Walk {
     Taken { transactions: u8, known: u64 },
     Refused(Refusal),
@@ -163,7 +163,7 @@ fn play_checked(
                     known,
                 };
             }
-            bytes::copy(&registers, image);
+            image.copy_from_slice(&registers);
             Played::Done {
                 acknowledged: true,
                 known: written,

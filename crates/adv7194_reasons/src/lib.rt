@@ -24,7 +24,7 @@ mod reasons;
 
 // A refusal with its field; that the register isn't sent; or the reason: it was unknown, a field's bits there change, a must-be-zero bit was set, another of
 // the subcarrier word's registers is needed, or it lies between two needed registers.
-#[derive(Drop)]
+#[derive(Clone, Copy)]
 pub enum Explained {
     Refused { refusal: Refusal, field: u8 },
     NotSent,

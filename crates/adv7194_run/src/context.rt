@@ -9,7 +9,7 @@ use records::tokens::Tokens;
 const MAP_LIMIT: u64 = 0x100_0000_0000_0000;
 
 // A record's word and first numbers, the second as a signed one too; the map of the known registers, whether a record gave it, and the limit.
-#[derive(Drop)]
+#[derive(Clone, Copy)]
 pub(crate) struct Context {
     pub(crate) word: u64,
     pub(crate) first: u32,

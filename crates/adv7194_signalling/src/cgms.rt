@@ -14,7 +14,7 @@ use refusals::Refusal;
 
 // A CGMS setting: the payload, and three yes/no numbers: sent in odd fields, sent in even fields, and the chip check (document 01's
 // term), by which the chip works out the check bits itself.
-#[derive(Drop)]
+#[derive(Clone, Copy)]
 pub struct CgmsSetting {
     pub payload: i32,
     pub odd: i32,
@@ -23,7 +23,7 @@ pub struct CgmsSetting {
 }
 
 // The setting that registers hold, or the refusal.
-#[derive(Drop)]
+#[derive(Clone, Copy)]
 pub enum CgmsRead {
     Setting(CgmsSetting),
     Refused(Refusal),

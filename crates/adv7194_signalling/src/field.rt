@@ -14,7 +14,7 @@ use crate::wss::{WssRead, wss_code, wss_setting};
 use refusals::Refusal;
 
 // A setting: its kind, the payload of CGMS or the number of WSS, and three yes/no numbers of CGMS. What a kind doesn't use is 0 when read.
-#[derive(Drop)]
+#[derive(Clone, Copy)]
 pub struct Signalling {
     pub kind: i32,
     pub number: i32,
@@ -24,7 +24,7 @@ pub struct Signalling {
 }
 
 // A setting's coding: off, which has no bytes, the registers, or the setting's refusal.
-#[derive(Drop)]
+#[derive(Clone, Copy)]
 pub enum SignallingCode {
     Off,
     Registers(Registers),
@@ -32,7 +32,7 @@ pub enum SignallingCode {
 }
 
 // The setting that registers hold, or the refusal.
-#[derive(Drop)]
+#[derive(Clone, Copy)]
 pub enum SignallingRead {
     Setting(Signalling),
     Refused(Refusal),

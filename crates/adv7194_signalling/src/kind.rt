@@ -5,7 +5,7 @@ ghost use Rattle.adv7194_signalling.specs.Kind.{kind_of, kind_as};
 use refusals::Refusal;
 
 // The kind of signalling that register 19 holds, or its refusal.
-#[derive(Drop)]
+#[derive(Clone, Copy)]
 pub enum SignallingKind {
     Off,
     Cgms,

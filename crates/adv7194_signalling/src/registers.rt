@@ -2,7 +2,7 @@
 use refusals::Refusal;
 
 // Registers 19, 1A and 1B.
-#[derive(Drop)]
+#[derive(Clone, Copy)]
 pub struct Registers {
     pub r19: u8,
     pub r1a: u8,
@@ -10,7 +10,7 @@ pub struct Registers {
 }
 
 // The registers that code a setting, or the setting's refusal.
-#[derive(Drop)]
+#[derive(Clone, Copy)]
 pub enum Coded {
     Registers(Registers),
     Refused(Refusal),

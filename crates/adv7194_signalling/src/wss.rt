@@ -12,7 +12,7 @@ use bits::parity::odd_ones;
 use refusals::Refusal;
 
 // The setting that registers hold, a number, or the refusal.
-#[derive(Drop)]
+#[derive(Clone, Copy)]
 pub enum WssRead {
     Setting(i32),
     Refused(Refusal),

@@ -10,7 +10,7 @@ use crate::{Standard, word};
 use refusals::Refusal;
 
 // What reading the word answers: it agrees with the standard and square pixel, or the refusal.
-#[derive(Drop)]
+#[derive(Clone, Copy)]
 pub enum WordRead {
     Agrees,
     Refused(Refusal),

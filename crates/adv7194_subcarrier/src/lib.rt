@@ -7,7 +7,7 @@ ghost use Rattle.adv7194_subcarrier.specs.Answers.{is_pal};
 pub mod field;
 
 // The television standard.
-#[derive(Drop)]
+#[derive(Clone, Copy)]
 pub enum Standard {
     Ntsc,
     Pal,

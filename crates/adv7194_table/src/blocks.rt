@@ -5,7 +5,7 @@ ghost use Rattle.adv7194_table.specs.Blocks.{block_of, blocks_of};
 ghost use Rattle.adv7194_table.specs.Table.{table, blocks_in};
 
 // A field that fills whole registers and has a coding of its own.
-#[derive(Drop)]
+#[derive(Clone, Copy)]
 pub struct Block {
     // the field's number
     pub field: u8,

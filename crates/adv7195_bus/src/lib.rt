@@ -58,6 +58,6 @@ pub fn copied(image: &[u8]) -> [u8; 40]
     ensures answer { result ≡ image.now }
 {
     let mut registers = [0u8; 40];
-    bytes::copy(image, &mut registers);
+    registers.copy_from_slice(image);
     registers
 }

@@ -16,7 +16,7 @@ const NO: u32 = 0;
 
 // A refusal, or 0; a field, which is always 0; whether every byte was acknowledged.
 #[repr(C)]
-#[derive(Drop)]
+#[derive(Clone, Copy)]
 pub struct PlayAnswer {
     pub refusal: u32,
     pub field: u32,

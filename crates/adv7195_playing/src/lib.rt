@@ -17,14 +17,14 @@ use unpacking::places::copy_data;
 use unpacking::steps::{Order, Step, begin, next};
 
 // What playing answers: whether every byte was acknowledged, or a refusal.
-#[derive(Drop)]
+#[derive(Clone, Copy)]
 pub enum Played {
     Done(bool),
     Refused(Refusal),
 }
 
 // What a walk over a plan answers: how many transactions there are, or a refusal.
-#[derive(Drop)]
+#[derive(Clone, Copy)]
 enum Walk {
     Taken(u8),
     Refused(Refusal),
@@ -97,7 +97,7 @@ fn play_checked(image: &mut [u8], used: u32, own: u32, plan: &[u8]) -> Played
             if used != own {
                 return Played::Done(transactions == 0);
             }
-            bytes::copy(&registers, image);
+            image.copy_from_slice(&registers);
             Played::Done(true)
         }
     }

@@ -13,7 +13,7 @@ const NONE: u32 = 0;
 
 // A refusal with its field, or 0 and 0; the packed plan's bytes, its transactions and its bus bytes.
 #[repr(C)]
-#[derive(Drop)]
+#[derive(Clone, Copy)]
 pub struct PlanAnswer {
     pub refusal: u32,
     pub field: u32,

@@ -10,7 +10,7 @@ const NONE: u32 = 0;
 
 // A refusal, or 0; a field, which is always 0; the transaction's subaddress and its data count.
 #[repr(C)]
-#[derive(Drop)]
+#[derive(Clone, Copy)]
 pub struct TransactionAnswer {
     pub refusal: u32,
     pub field: u32,

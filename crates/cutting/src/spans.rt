@@ -3,7 +3,7 @@ ghost use Rattle.std.specs.Prelude.{◌≡◌, ◌&&◌, ◌||◌, ℕ, ◌<◌,
 ghost use Rattle.bits.specs.Maps.{map_width, has};
 
 // The registers that transactions touch, and those at which they start.
-#[derive(Drop)]
+#[derive(Clone, Copy)]
 pub struct Spans {
     pub taken: u64,
     pub starts: u64,

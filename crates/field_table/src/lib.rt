@@ -14,7 +14,7 @@ pub use rows::{read_decoded, read_row, then, want_coded, want_row};
 pub use walking::{check, read, want};
 
 // Every field passed, or the refusal of the first at fault, with its number.
-#[derive(Drop)]
+#[derive(Clone, Copy)]
 pub enum Checked {
     Good,
     Refused { refusal: Refusal, field: u8 },

@@ -7,7 +7,7 @@ ghost use Rattle.field_table.specs.Coding.{outside as outside_of};
 use refusals::Refusal;
 
 // A field of one number, or must-be-zero bits.
-#[derive(Drop)]
+#[derive(Clone, Copy)]
 pub struct Row {
     // the field's number
     pub field: u8,
@@ -25,14 +25,14 @@ pub struct Row {
 }
 
 // A setting's code, or the refusal that the setting meets.
-#[derive(Drop)]
+#[derive(Clone, Copy)]
 pub enum Coded {
     Code(u8),
     Refused(Refusal),
 }
 
 // The setting that a code is read as, or the refusal that the code meets.
-#[derive(Drop)]
+#[derive(Clone, Copy)]
 pub enum Decoded {
     Setting(i32),
     Unreadable(Refusal),

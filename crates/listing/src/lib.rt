@@ -11,14 +11,14 @@ use text::{decimal_digits, put};
 const LINE_WIDTH: usize = 50;
 
 // A line: the first bytes, as many as its length. Those after are zero.
-#[derive(Drop)]
+#[derive(Clone, Copy)]
 pub struct Line {
     pub bytes: [u8; LINE_WIDTH],
     pub length: usize,
 }
 
 // The word that a line begins with.
-#[derive(Drop)]
+#[derive(Clone, Copy)]
 pub enum Word {
     Plan,
     Refused,

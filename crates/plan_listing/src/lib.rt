@@ -28,7 +28,7 @@ const BYTE_BITS: usize = 8;
 const MOST_DATA: usize = 63;
 
 // What listing answers: the place after the text, that the memory lent is too short, or a refusal.
-#[derive(Drop)]
+#[derive(Clone, Copy)]
 pub enum Listed {
     After(usize),
     TooShort,

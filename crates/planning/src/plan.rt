@@ -21,7 +21,7 @@ const MOST_FILL: u64 = 7;
 pub const NO_FIELD: u8 = 0;
 
 // What planning answers: how many bytes and transactions the packed plan has and what it costs on the bus, or a refusal with its field.
-#[derive(Drop)]
+#[derive(Clone, Copy)]
 pub enum Planned {
     Done {
         length: u32,

@@ -46,7 +46,7 @@ const NO_DIGIT: u8 = 0x10;
 
 // A record's tokens: the word and the numbers, as many as `numbers`; the bytes of the first list, from `first` to `middle`; those of the second, from
 // `second` to `count`.
-#[derive(Drop)]
+#[derive(Clone, Copy)]
 pub struct Tokens {
     pub held: [u64; 192],
     pub numbers: usize,

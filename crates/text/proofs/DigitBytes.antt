@@ -10,7 +10,7 @@ use Rattle.text.specs.Line.{zeros}
 use Rattle.text.specs.Text.{decimal}
 use Rattle.text.specs.DecimalDigits.{width, first_digit, decimal_digits}
 use Rattle.text.proofs.Zeros.{length-zeros}
-use Rattle.text.proofs.Digits.{one-before}
+use Rattle.text.proofs.DigitLists.{one-before}
 use Rattle.text.proofs.Numerals.{decimal-some, decimal-most}
 
 -- what is held: a byte free before the digits, the digits within the bytes

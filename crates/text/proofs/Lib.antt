@@ -1,6 +1,6 @@
 pub mod Appending
 pub mod DigitBytes
-pub mod Digits
+pub mod DigitLists
 pub mod Numerals
 pub mod Signs
 pub mod Zeros

@@ -9,7 +9,7 @@ use native.Mathlib.Omega.{arith}
 use lib.ListN.{length, length-append}
 use borrow.Author.Tests.{eqb-true, eqb-false}
 use Rattle.text.specs.Text.{digit, leading, decimal, hex_byte}
-use Rattle.text.proofs.Digits.{shorter}
+use Rattle.text.proofs.DigitLists.{shorter}
 
 -- every code is one of a decimal digit
 abbrev pub OnlyDigits : List ℕ → Type 0

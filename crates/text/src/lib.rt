@@ -7,7 +7,7 @@ ghost use Rattle.text.specs.Line.{room, place_after, appended};
 pub use number::{Digits, decimal, decimal_digits, hex_byte, signed};
 
 // The place after an appended text, or that the line has no room for it.
-#[derive(Drop)]
+#[derive(Clone, Copy)]
 pub enum Place {
     After(usize),
     TooShort,
@@ -32,7 +32,9 @@ pub fn put(line: &mut [u8], at: usize, text: &[u8]) -> usize
     ensures answer { result ≡ at + length text.now }
     ensures memory { line.new ≡ appended line.old at text.now }
 {
-    at + bytes::copy(text, &mut line[at..])
+    let end = at + text.len();
+    line[at..end].copy_from_slice(text);
+    end
 }
 
 // Appends a byte string.

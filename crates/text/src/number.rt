@@ -15,7 +15,7 @@ const WIDTH: usize = 21;
 const LAST: usize = WIDTH - 1;
 
 // A number's digits: the bytes from `first` on. Those before are zero.
-#[derive(Drop)]
+#[derive(Clone, Copy)]
 pub struct Digits {
     pub bytes: [u8; WIDTH],
     pub first: usize,

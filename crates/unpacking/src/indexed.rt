@@ -9,7 +9,7 @@ use crate::steps::{Order, Step, begin, next};
 use refusals::Refusal;
 
 // What a search for a transaction finds: its subaddress, its data count and the place of its data; no transaction with that index; a fault.
-#[derive(Drop)]
+#[derive(Clone, Copy)]
 enum Found {
     At {
         subaddress: u8,
@@ -21,7 +21,7 @@ enum Found {
 }
 
 // What asking for a transaction answers: its subaddress and its data count, or a refusal.
-#[derive(Drop)]
+#[derive(Clone, Copy)]
 pub enum Answer {
     Transaction { subaddress: u8, count: u8 },
     Refused(Refusal),

@@ -6,14 +6,14 @@ ghost use Rattle.unpacking.specs.Steps.{start_after, beginning, filling as filli
 use crate::places::{FIRST_HELD, HEADER_BYTES, ONE_TRANSACTION, Place, header_at, within};
 
 // Where a transaction may start: at the end of the one before it or past it, or anywhere.
-#[derive(Drop)]
+#[derive(Clone, Copy)]
 pub enum Order {
     Ascending,
     Any,
 }
 
 // How far a walk has come: its place, how many transactions are still to come, and the first register that the next may start at.
-#[derive(Drop)]
+#[derive(Clone, Copy)]
 pub struct Cursor {
     pub place: Place,
     pub left: u8,
@@ -22,7 +22,7 @@ pub struct Cursor {
 }
 
 // What a step finds.
-#[derive(Drop)]
+#[derive(Clone, Copy)]
 pub enum Step {
     // A transaction: its subaddress, its data count, the place of its data, and the cursor past it.
     Transaction {

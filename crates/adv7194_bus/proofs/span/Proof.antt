@@ -12,7 +12,7 @@ use Rattle.adv7194_bus.proofs.span.Tie as tie
 size : (c : tie.Start) → (1 * 2 ^ c.args.count) % 2 ^ 64 ≡ 2 ^ c.args.count
 size c = one_shl c.args.count 64 (omega arith)
 
-sub-result : tie.Need-overflow-sub-result
+sub-result : tie.Need-overflow_sub-result
 sub-result c = rw (size c) (pow_pos c.args.count)
 
 returns : tie.Need-returns

@@ -8,7 +8,7 @@ returns : tie.Need-returns
 returns c =
     let p = c.before in
     let a = p.before.before.before.args in
-    subst (Compares a.a.now a.b.now) (sym c.compare-answer.ensures)
+    subst (Compares a.a.now a.b.now) (sym c.compare_answer.ensures)
     (compares a.a.now a.b.now p.compare.result p.compare.ensures)
 
 pub adv7194_compare_spec : {M : Type 1} → statement M

@@ -11,8 +11,8 @@ returns : tie.Need-returns
 returns c =
     let p = c.before.before.before in
     let a = p.before.before.before.before.args in
-    let board = board_of a.image.now a.known in
-    subst (Plays Settings board a.used a.own a.plan.now p.play.new.0) (sym c.play-answer.ensures)
+    let board = board_of a.image-1.now a.known in
+    subst (Plays Settings board a.used a.own a.plan.now p.play.new.0) (sym c.play_answer.ensures)
     (plays Settings board a.used a.own a.plan.now p.play.new.0 p.play.result (p.play.ensures.0, p.play.ensures.1.0))
 
 pub adv7194_play_spec : {M : Type 1} → statement M

@@ -10,7 +10,7 @@ returns c =
     let p = c.before in
     let a = p.before.before.args in
     let board = board_of a.image.now a.known in
-    subst (Explains board a.settings.now a.limit a.subaddress) (sym c.why-answer.ensures)
+    subst (Explains board a.settings.now a.limit a.subaddress) (sym c.why_answer.ensures)
     (explains board a.settings.now a.limit a.subaddress p.why.result p.why.ensures.0 p.why.ensures.1.0)
 
 pub adv7194_why_spec : {M : Type 1} → statement M

@@ -28,10 +28,10 @@ abbrev characters : tie.Start → ℕ
 characters s = length s.args.extended.now + length s.args.ordinary.now
 
 -- the bytes of the packed list, and what it costs on the bus
-long : (c : tie.After-packed-length) → c.packed-length.result ≡ length (packed (list c.before.before))
+long : (c : tie.After-packed_length-length) → c.packed_length-length.result ≡ length (packed (list c.before.before))
 long c =
     let k = known c.before.before in
-    c.packed-length.ensures ∙ ap₂ packed_length (sym k.transactions) (sym k.bytes) ∙ sym (packed-length (list c.before.before))
+    c.packed_length-length.ensures ∙ ap₂ packed_length (sym k.transactions) (sym k.bytes) ∙ sym (packed-length (list c.before.before))
 
 cost : (s : tie.Start) → cost_of (characters s / 2) (characters s) ≡ bus_bytes (list s)
 cost s = let k = known s in ap₂ cost_of (sym k.transactions) (sym k.bytes) ∙ sym (bytes_count (list s))
@@ -40,32 +40,32 @@ returns : tie.Need-returns
 returns c =
     let p = c.before in
     let s = p.before.before in
-    too_short (list s) (list s) s.args.plan.now refl (omega (arith, c.if1.true, long p))
+    too_short (list s) (list s) s.args.plan-1.now refl (omega (arith, c.if-plan-length.true, long p))
 
-pack-pairs-requires : tie.Need-pack-pairs-requires
+pack-pairs-requires : tie.Need-pack_pairs-requires
 pack-pairs-requires c κs =
     let p = c.before.before in
     let s = p.before.before in
-    record { right = s.requires; counted = sym (known s).transactions; fits = omega (arith, c.before.if1.false, long p) }
+    record { right = s.requires; counted = sym (known s).transactions; fits = omega (arith, c.before.if-plan-length.false, long p) }
 
-cast-t10 : tie.Need-overflow-cast-t10
+cast-t10 : tie.Need-overflow_cast-result
 cast-t10 c =
     let p = c.before.before.before.before.before in
-    omega (arith, p.packed-length.ensures, (known p.before.before).few)
+    omega (arith, p.packed_length-length.ensures, (known p.before.before).few)
 
-cast-t18 : tie.Need-overflow-cast-t18
+cast-t18 : tie.Need-overflow_cast-result-2
 cast-t18 c =
     let s = c.before.before.before.before.before.before.before.before in
-    omega (arith, c.bus-bytes.ensures, (known s).few)
+    omega (arith, c.bus_bytes.ensures, (known s).few)
 
-returns-2 : tie.Need-returns-2
+returns-2 : tie.Need-returns
 returns-2 c =
     let r = c.before.before.before in
     let e = r.before.before in
     let p = e.before in
     let s = p.before.before in
-    has_room (list s) (list s) s.args.plan.now r.pack-pairs.new.0 p.packed-length.result (characters s / 2) c.bus-bytes.result
-    refl (omega (arith, e.if1.false, long p)) (long p) (sym (known s).transactions) (c.bus-bytes.ensures ∙ cost s) r.pack-pairs.ensures
+    has_room (list s) (list s) s.args.plan-1.now r.pack_pairs.new.0 p.packed_length-length.result (characters s / 2) c.bus_bytes.result
+    refl (omega (arith, e.if-plan-length.false, long p)) (long p) (sym (known s).transactions) (c.bus_bytes.ensures ∙ cost s) r.pack_pairs.ensures
 
 pub plan_pairs_spec : {M : Type 1} → statement M
 plan_pairs_spec =

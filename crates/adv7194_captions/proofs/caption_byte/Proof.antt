@@ -13,14 +13,14 @@ use Rattle.adv7194_captions.proofs.caption_byte.Tie as tie
 same : (s : tie.Start) → to_z w32 (of_z w32 s.args.character) ≡ s.args.character
 same s = to_z-of_z w32 s.args.character s.ranges.character
 
-cast-with-parity : tie.Need-overflow-cast-with-parity
+cast-with-parity : tie.Need-overflow_cast-character
 cast-with-parity c = let h = character c.args.character c.requires in rw (same c) (h.sign, record { fits = omega (arith, h.small) })
 
-with-parity-requires : tie.Need-with-parity-requires
+with-parity-requires : tie.Need-with_parity-requires
 with-parity-requires c κs = rw (same c) ((character c.args.character c.requires).small, omega arith)
 
 returns : tie.Need-returns
-returns c = c.with-parity.ensures ∙ ap caption_byte (same c.before)
+returns c = c.with_parity.ensures ∙ ap caption_byte (same c.before)
 
 pub caption_byte_spec : {M : Type 1} → statement M
 caption_byte_spec = tie.close (tie.spec cast-with-parity with-parity-requires returns)

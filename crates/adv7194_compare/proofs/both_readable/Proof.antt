@@ -13,10 +13,10 @@ first_fails : {s p : Bool} (q : Bool) → s ≡ p → s ≡ false → false ≡ 
 first_fails {s} {p} q e h = let g : p ≡ false = sym e ∙ h in rw g
 
 returns : tie.Need-returns
-returns c = first_holds c.before.before.can-be-read.ensures c.before.if1.true c.can-be-read2.ensures
+returns c = first_holds c.before.before.can_be_read.ensures c.before.if-can_be_read.true c.can_be_read-then-can_be_read.ensures
 
-returns-2 : tie.Need-returns-2
-returns-2 c = first_fails _ c.before.can-be-read.ensures c.if1.false
+returns-2 : tie.Need-returns
+returns-2 c = first_fails _ c.before.can_be_read.ensures c.if-can_be_read.false
 
 pub both_readable_spec : {M : Type 1} → statement M
 both_readable_spec = tie.close (tie.spec (λ c κs. search rules) (λ c κs. search rules) returns returns-2)

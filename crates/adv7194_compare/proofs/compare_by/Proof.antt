@@ -9,35 +9,35 @@ use Rattle.adv7194_compare.proofs.compare_by.Statement.{statement}
 use Rattle.adv7194_compare.proofs.compare_by.Tie as tie
 
 -- the images' bytes are bytes
-bytes : (c : tie.After-shared-slice-known2) (r : ℕ)
+bytes : (c : tie.After-shared_slice_known-2-1) (r : ℕ)
     → (get_or c.before.before.args.a.now r 0 < 2 ^ 8) × (get_or c.before.before.args.b.now r 0 < 2 ^ 8)
-bytes c r = ((c.before.shared-slice-known.given r).fits, (c.shared-slice-known2.given r).fits)
+bytes c r = ((c.before.shared_slice_known-1.given r).fits, (c.shared_slice_known-2-1.given r).fits)
 
 returns : tie.Need-returns
 returns c =
     let w = c.before in
     let s = w.before.before.before.args in
-    let e = first_short s.readable s.a.now s.b.now (sym w.whole.ensures ∙ not-true _ c.if1.true) in
+    let e = first_short s.readable s.a.now s.b.now (sym w.whole.ensures ∙ not-true _ c.if-not-whole.true) in
     (e, list-empty s.readable s.a.now s.b.now (bytes w.before) e)
 
-returns-2 : tie.Need-returns-2
+returns-2 : tie.Need-returns-then-not-whole-2
 returns-2 c =
     let w = c.before.before.before in
     let s = w.before.before.before.args in
     let e =
-    second_short s.readable s.a.now s.b.now (sym w.whole.ensures ∙ not-false _ c.before.before.if1.false)
-    (sym c.before.whole2.ensures ∙ not-true _ c.if2.true) in
+    second_short s.readable s.a.now s.b.now (sym w.whole.ensures ∙ not-false _ c.before.before.if-not-whole.false)
+    (sym c.before.whole-2.ensures ∙ not-true _ c.if-not-whole-2.true) in
     (e, list-empty s.readable s.a.now s.b.now (bytes w.before) e)
 
-returns-3 : tie.Need-returns-3
+returns-3 : tie.Need-returns
 returns-3 c =
     let f = c.before in
     let v = f.before.before in
     let w = v.before.before in
     let s = w.before.before.before.args in
     let e =
-    both_whole s.readable s.a.now s.b.now (sym w.whole.ensures ∙ not-false _ v.before.if1.false)
-    (sym v.whole2.ensures ∙ not-false _ f.before.if2.false) f.fields-differing.ensures c.registers-differing.ensures in
+    both_whole s.readable s.a.now s.b.now (sym w.whole.ensures ∙ not-false _ v.before.if-not-whole.false)
+    (sym v.whole-2.ensures ∙ not-false _ f.before.if-not-whole-2.false) f.fields_differing.ensures c.registers_differing.ensures in
     (e, list-empty s.readable s.a.now s.b.now (bytes w.before) e)
 
 pub compare_by_spec : {M : Type 1} → statement M

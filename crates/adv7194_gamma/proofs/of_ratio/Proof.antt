@@ -10,13 +10,13 @@ returns c =
     let four = c.before.before.before in
     let three = four.before in
     rw (
-      three.before.before.byte_at.ensures,
-      three.before.byte-at2.ensures,
-      three.byte-at3.ensures,
-      four.byte-at4.ensures,
-      c.before.before.byte-at5.ensures,
-      c.before.byte-at6.ensures,
-      c.byte-at7.ensures,
+      three.before.before.byte_at-b0.ensures,
+      three.before.byte_at-b1.ensures,
+      three.byte_at-b2.ensures,
+      four.byte_at-b3.ensures,
+      c.before.before.byte_at-b4.ensures,
+      c.before.byte_at-b5.ensures,
+      c.byte_at-b6.ensures,
     )
 
 pub of_ratio_spec : {M : Type 1} → statement M

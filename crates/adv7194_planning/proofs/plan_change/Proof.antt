@@ -13,10 +13,10 @@ use Rattle.adv7194_planning.proofs.plan_change.Statement.{statement}
 use Rattle.adv7194_planning.proofs.plan_change.Tie as tie
 
 -- where the function was entered
-abbrev start : tie.After-register-maps → tie.Start
+abbrev start : tie.After-register_maps-maps → tie.Start
 start c = c.before.before.before
 
-register-maps-requires : tie.Need-register-maps-requires
+register-maps-requires : tie.Need-register_maps-maps-requires
 register-maps-requires c κs =
     let s = c.before.before in
     comparable s.args.board s.args.wanted.now s.args.fixed s.args.limit s.requires
@@ -25,24 +25,24 @@ pack-requires : tie.Need-pack-requires
 pack-requires c κs =
     let m = c.before in
     let s = start m in
-    plannable s.args.board s.args.wanted.now s.args.fixed s.args.limit s.pre m.register-maps.result
-    (m.register-maps.ensures s.args.limit)
+    plannable s.args.board s.args.wanted.now s.args.fixed s.args.limit s.pre m.register_maps-maps.result
+    (m.register_maps-maps.ensures s.args.limit)
 
 -- the plan that is packed is the aim's
-same : (m : tie.After-register-maps) → (let a = (start m).args in
-    let w = m.register-maps.result in
+same : (m : tie.After-register_maps-maps) → (let a = (start m).args in
+    let w = m.register_maps-maps.result in
     plan_by w.needed w.allowed w.held a.limit a.wanted.now ≡ plan_of (aim_by a.board a.wanted.now a.fixed a.limit))
 same m =
     let s = start m in
-    plan-is s.args.board s.args.wanted.now s.args.fixed s.args.limit s.pre m.register-maps.result
-    (m.register-maps.ensures s.args.limit)
+    plan-is s.args.board s.args.wanted.now s.args.fixed s.args.limit s.pre m.register_maps-maps.result
+    (m.register_maps-maps.ensures s.args.limit)
 
 -- what packing answers and leaves is what it does of that plan
 returns : tie.Need-returns
 returns c =
     let p = c.before.before in
     let m = p.before.before in
-    let plan = (start m).args.plan.now in (
+    let plan = (start m).args.plan-1.now in (
       p.pack.ensures.0 ∙ ap (λ (ts : List Transaction). packing_of ts (length plan)) (same m),
       p.pack.ensures.1 ∙ ap (λ (ts : List Transaction). plan_after ts plan) (same m),
     )

@@ -21,120 +21,120 @@ use Rattle.adv7194_playing.proofs.WrittenLaws.{data_there, still_as_many, data_a
 use Rattle.adv7194_playing.proofs.write_plan.Statement.{statement}
 use Rattle.adv7194_playing.proofs.write_plan.Tie as tie
 
-abbrev invariant-loop : tie.invariant-loop
+abbrev invariant-loop : tie.invariant-loop-subaddress
 invariant-loop kind plan registers₀ known cursor₀ transactions₀ map₀ registers cursor transactions map =
     Passed kind plan known registers₀ map registers cursor transactions
 
-abbrev decreases-loop : tie.decreases-loop
+abbrev decreases-loop : tie.decreases-loop-subaddress
 decreases-loop kind plan registers₀ known cursor₀ transactions₀ map₀ registers cursor transactions map = cursor.left
 
 -- where the function was entered
-abbrev start : tie.At-loop invariant-loop decreases-loop → tie.Start invariant-loop decreases-loop
+abbrev start : tie.At-loop-subaddress invariant-loop decreases-loop → tie.Start invariant-loop decreases-loop
 start c = c.before.before.before.before
 
-abbrev plan-at : tie.At-loop invariant-loop decreases-loop → List ℕ
+abbrev plan-at : tie.At-loop-subaddress invariant-loop decreases-loop → List ℕ
 plan-at c = (start c).args.plan.now
 
-loop-holds : tie.Need-loop-init invariant-loop decreases-loop
+loop-holds : tie.Need-loop-subaddress-init invariant-loop decreases-loop
 loop-holds c =
     let k = c.before.before in
     let a = k.before.args in
-    writing_begins (turns a.kind) a.plan.now Ascending a.known a.registers.now c.begin.result c.begin.ensures
-    (λ i. (k.shared-slice-known.given i).fits)
+    writing_begins (turns a.kind) a.plan.now Ascending a.known a.registers-1.now c.begin-cursor.result c.begin-cursor.ensures
+    (λ i. (k.shared_slice_known-1.given i).fits)
 
 -- what the step says
-said : (c : tie.After-next invariant-loop decreases-loop) (r : Step) → c.next.result ≡ r → Stepped (plan-at c.before) c.before.loop.cursor r
-said c r e = subst (Stepped (plan-at c.before) c.before.loop.cursor) (sym c.next.ensures ∙ e)
-    (stepped (plan-at c.before) c.before.loop.cursor)
+said : (c : tie.After-next invariant-loop decreases-loop) (r : Step) → c.next.result ≡ r → Stepped (plan-at c.before) c.before.loop-subaddress.cursor r
+said c r e = subst (Stepped (plan-at c.before) c.before.loop-subaddress.cursor) (sym c.next.ensures ∙ e)
+    (stepped (plan-at c.before) c.before.loop-subaddress.cursor)
 
-returns : tie.Need-returns invariant-loop decreases-loop
+returns : tie.Need-returns-in-Fault invariant-loop decreases-loop
 returns c =
     let n = c.before.before in
     let a = (start n.before).args in
-    fault_answered a.kind n.before.loop.invariant a.known (said n _ c.enum_told.given.1)
+    fault_answered a.kind n.before.loop-subaddress.invariant a.known (said n _ c.enum_told-1.given.1)
 
 -- whether there are enough transactions, as the end tests it
-tested : (c : tie.After-needs-transaction invariant-loop decreases-loop) (b : Bool)
-    → eqb c.before.before.before.before.loop.transactions 0 && c.needs-transaction.result ≡ b
-    → enough (start c.before.before.before.before).args.kind c.before.before.before.before.loop.transactions ≡ not b
+tested : (c : tie.After-needs_transaction invariant-loop decreases-loop) (b : Bool)
+    → eqb c.before.before.before.before.loop-subaddress.transactions 0 && c.needs_transaction.result ≡ b
+    → enough (start c.before.before.before.before).args.kind c.before.before.before.before.loop-subaddress.transactions ≡ not b
 tested c b e =
-    ap not (sym (ap (λ (x : Bool). eqb c.before.before.before.before.loop.transactions 0 && x) c.needs-transaction.ensures) ∙ e)
+    ap not (sym (ap (λ (x : Bool). eqb c.before.before.before.before.loop-subaddress.transactions 0 && x) c.needs_transaction.ensures) ∙ e)
 
-returns-2 : tie.Need-returns-2 invariant-loop decreases-loop
+returns-2 : tie.Need-returns-then-transactions-needs_transaction invariant-loop decreases-loop
 returns-2 c =
     let e = c.before.before in
     let n = e.before.before in
     let a = (start n.before).args in
-    empty_answered a.kind n.before.loop.invariant a.known (said n _ e.enum-told2.given.1) (tested c.before true c.if1.true)
+    empty_answered a.kind n.before.loop-subaddress.invariant a.known (said n _ e.enum_told-in-End-1.given.1) (tested c.before true c.if-transactions-needs_transaction.true)
 
-returns-3 : tie.Need-returns-3 invariant-loop decreases-loop
+returns-3 : tie.Need-returns-in-End invariant-loop decreases-loop
 returns-3 c =
     let e = c.before.before in
     let n = e.before.before in
-    end_answered (start n.before).args.kind n.before.loop.invariant (said n _ e.enum-told2.given.1) (tested c.before false c.if1.false)
+    end_answered (start n.before).args.kind n.before.loop-subaddress.invariant (said n _ e.enum_told-in-End-1.given.1) (tested c.before false c.if-transactions-needs_transaction.false)
 
 -- the transaction that was found
-went : (c : tie.After-subaddress invariant-loop decreases-loop)
-    → Went (plan-at c.before.before.before) c.before.before.before.loop.cursor c.subaddress.given.0.0 c.subaddress.given.0.1.0
-    c.subaddress.given.0.1.1.0 c.subaddress.given.0.1.1.1.0
-went c = said c.before.before _ c.subaddress.given.1
+went : (c : tie.In-Transaction-2 invariant-loop decreases-loop)
+    → Went (plan-at c.before.before.before) c.before.before.before.loop-subaddress.cursor c.subaddress-1.given.0.0 c.subaddress-1.given.0.1.0
+    c.subaddress-1.given.0.1.1.0 c.subaddress-1.given.0.1.1.1.0
+went c = said c.before.before _ c.subaddress-1.given.1
 
-returns-4 : tie.Need-returns-4 invariant-loop decreases-loop
+returns-4 : tie.Need-returns-then-written-eq-NONE invariant-loop decreases-loop
 returns-4 c =
     let k = c.before in
     let s = k.before.before in
     let l = s.before.before.before in
-    header_answered (start l).args.kind l.loop.invariant (went s) (start l).args.known
-    (not_touched _ _ _ (went s).some (sym k.touched.ensures ∙ c.if2.true))
+    header_answered (start l).args.kind l.loop-subaddress.invariant (went s) (start l).args.known
+    (not_touched _ _ _ (went s).some (sym k.touched-written.ensures ∙ c.if-written-eq-NONE.true))
 
 -- its header was taken, and its data were written
-abbrev found : tie.After-takes-data-arg invariant-loop decreases-loop → tie.After-subaddress invariant-loop decreases-loop
+abbrev found : tie.After-takes-data-arg invariant-loop decreases-loop → tie.In-Transaction-2 invariant-loop decreases-loop
 found c = c.before.before.before.before.before.before.before.before
 
 header : (c : tie.After-takes-data-arg invariant-loop decreases-loop)
-    → takes_header (start (found c).before.before.before).args.kind (found c).subaddress.given.0.0 (found c).subaddress.given.0.1.0 ≡ true
+    → takes_header (start (found c).before.before.before).args.kind (found c).subaddress-1.given.0.0 (found c).subaddress-1.given.0.1.0 ≡ true
 header c =
     let e = c.before.before.before.before.before in
-    is-touched _ (found c).subaddress.given.0.0 (found c).subaddress.given.0.1.0 (λ z. e.if2.false (e.before.touched.ensures ∙ z))
+    is-touched _ (found c).subaddress-1.given.0.0 (found c).subaddress-1.given.0.1.0 (λ z. e.if-written-eq-NONE.false (e.before.touched-written.ensures ∙ z))
 
-returns-5 : tie.Need-returns-5 invariant-loop decreases-loop
+returns-5 : tie.Need-returns-then-not-takes_data invariant-loop decreases-loop
 returns-5 c =
     let a = c.before.before in
     let l = (found a).before.before.before in
-    data_answered (start l).args.kind l.loop.inv (went (found a)) (start l).pre (header a) a.before.before.before.copy-data.ensures
-    (start l).args.known (sym c.before.takes-data.ensures ∙ not-true _ c.if3.true)
+    data_answered (start l).args.kind l.loop-subaddress.inv (went (found a)) (start l).pre (header a) a.before.before.before.copy_data.ensures
+    (start l).args.known (sym c.before.takes_data.ensures ∙ not-true _ c.if-not-takes_data.true)
 
-add-transactions : tie.Need-overflow-add-transactions invariant-loop decreases-loop
-add-transactions c = let v = (found c.before.before).before.before.before.loop.inv in record { fits = omega (arith, v.counts, v.walked.few) }
+add-transactions : tie.Need-overflow_add-transactions invariant-loop decreases-loop
+add-transactions c = let v = (found c.before.before).before.before.before.loop-subaddress.inv in record { fits = omega (arith, v.counts, v.walked.few) }
 
 -- its registers are joined to those known
 joined : (c : tie.After-takes-data-arg invariant-loop decreases-loop) (map : ℕ)
-    → bit_or map c.before.before.before.before.before.before.touched.result
-    ≡ marks map (found c).subaddress.given.0.0 (found c).subaddress.given.0.1.0
+    → bit_or map c.before.before.before.before.before.before.touched-written.result
+    ≡ marks map (found c).subaddress-1.given.0.0 (found c).subaddress-1.given.0.1.0
 joined c map =
-    let subaddress = (found c).subaddress.given.0.0 in
-    let count = (found c).subaddress.given.0.1.0 in
+    let subaddress = (found c).subaddress-1.given.0.0 in
+    let count = (found c).subaddress-1.given.0.1.0 in
     ap (bit_or map)
-    (c.before.before.before.before.before.before.touched.ensures ∙ ap (λ (b : Bool). cond b (marks 0 subaddress count) 0) (header c))
+    (c.before.before.before.before.before.before.touched-written.ensures ∙ ap (λ (b : Bool). cond b (marks 0 subaddress count) 0) (header c))
     ∙ sym (marks-joined count subaddress map)
 
-loop-again : tie.Need-loop-preserved invariant-loop decreases-loop
+loop-again : tie.Need-loop-subaddress-preserved invariant-loop decreases-loop
 loop-again c =
     let a = c.before.before in
     let l = (found a).before.before.before in
-    written_on (start l).args.kind l.loop.inv (went (found a)) (start l).pre (header a) a.before.before.before.copy-data.ensures
-    (sym c.before.takes-data.ensures ∙ not-false _ c.if3.false) (joined a l.loop.map)
+    written_on (start l).args.kind l.loop-subaddress.inv (went (found a)) (start l).pre (header a) a.before.before.before.copy_data.ensures
+    (sym c.before.takes_data.ensures ∙ not-false _ c.if-not-takes_data.false) (joined a l.loop-subaddress.map)
 
-same-length-5 : tie.Need-same-length-5 invariant-loop decreases-loop
+same-length-5 : tie.Need-shape_of-registers-then-not-takes_data invariant-loop decreases-loop
 same-length-5 c =
     let a = c.before.before in
     let l = (found a).before.before.before in
-    still_as_many (start l).args.kind l.loop.inv (went (found a)) (start l).pre (header a) a.before.before.before.copy-data.ensures
+    still_as_many (start l).args.kind l.loop-subaddress.inv (went (found a)) (start l).pre (header a) a.before.before.before.copy_data.ensures
 
-takes-data-requires : tie.Need-takes-data-requires invariant-loop decreases-loop
+takes-data-requires : tie.Need-takes_data-requires invariant-loop decreases-loop
 takes-data-requires c κs =
     let l = (found c).before.before.before in
-    data_there (start l).args.kind l.loop.inv (went (found c)) (start l).pre (header c) c.before.before.before.copy-data.ensures
+    data_there (start l).args.kind l.loop-subaddress.inv (went (found c)) (start l).pre (header c) c.before.before.before.copy_data.ensures
 
 pub write_plan_spec : {M : Type 1} → statement M
 write_plan_spec =
@@ -146,17 +146,17 @@ write_plan_spec =
     loop-holds
     (λ c κs. tt)
     (λ c. search rules)
-    (λ c. as_many c.before.before.before.loop.invariant)
+    (λ c. as_many c.before.before.before.loop-subaddress.invariant)
     returns
     (λ c. search rules)
     (λ c κs. tt)
-    (λ c. as_many c.before.before.before.before.before.loop.invariant)
+    (λ c. as_many c.before.before.before.before.before.loop-subaddress.invariant)
     returns-2
-    (λ c. as_many c.before.before.before.before.before.loop.invariant)
+    (λ c. as_many c.before.before.before.before.before.loop-subaddress.invariant)
     returns-3
     (λ c. search rules)
     (λ c κs. tt)
-    (λ c. as_many c.before.before.before.before.before.before.loop.invariant)
+    (λ c. as_many c.before.before.before.before.before.before.loop-subaddress.invariant)
     returns-4
     (λ c κs. tt)
     takes-data-requires

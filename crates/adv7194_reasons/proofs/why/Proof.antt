@@ -32,7 +32,7 @@ use Rattle.adv7194_reasons.proofs.why.Tie as tie
 -- ---- what is known on the way
 
 -- where the image's length was found right
-abbrev right-at : tie.After-check → tie.Else1
+abbrev right-at : tie.After-check → tie.Else-image
 right-at k = k.before.before.before.before
 
 -- the board
@@ -40,8 +40,8 @@ abbrev board : tie.Start → Board
 board c = board_of c.args.image.now c.args.known
 
 -- the image's bytes are bytes
-bytes : (c : tie.After-shared-slice-known) (r : ℕ) → get_or c.before.args.image.now r 0 < 2 ^ 8
-bytes c r = (c.shared-slice-known.given r).fits
+bytes : (c : tie.After-shared_slice_known-1) (r : ℕ) → get_or c.before.args.image.now r 0 < 2 ^ 8
+bytes c r = (c.shared_slice_known-1.given r).fits
 
 module _ (k : tie.After-check) where
   abbrev s : tie.Start
@@ -52,11 +52,11 @@ module _ (k : tie.After-check) where
 
   -- the image is one
   image : Image s.args.image.now
-  image = record { size = (right-at k).if1.left; bytes = bytes (right-at k).before }
+  image = record { size = (right-at k).if-image.left; bytes = bytes (right-at k).before }
 
   -- the record that was made is the board
-  board-is : k.before.before.before.board-of.result ≡ board s
-  board-is = k.before.before.before.board-of.ensures
+  board-is : k.before.before.before.board_of-board.result ≡ board s
+  board-is = k.before.before.before.board_of-board.ensures
 
   -- what was checked decides
   checked : checked_as k.check.result ≡ verdict (board s) zs board_address s.args.limit 0
@@ -85,27 +85,27 @@ module _ (k : tie.After-check) where
         ∙ image-is s.args.image.now zs s.args.limit passed.limited passed.passing.size
 
 -- the settings are accepted
-accepted : (c : tie.After-enum-told) → checked_as c.before.before.before.check.result ≡ good tt
-accepted c = ap checked_as c.enum_told.given.1
+accepted : (c : tie.In-Good) → checked_as c.before.before.before.check.result ≡ good tt
+accepted c = ap checked_as c.enum_told-1.given.1
 
 -- the aim of the map of fixed registers is the settings'
-aim-is : (c : tie.After-fixed-registers) → (let k = c.before.before.before.before in
-    aim_by k.before.before.before.board-of.result k.check.new.1.1.1.0 c.fixed-registers.result (s k).args.limit
+aim-is : (c : tie.After-fixed_registers) → (let k = c.before.before.before.before in
+    aim_by k.before.before.before.board_of-board.result k.check.new.1.1.1.0 c.fixed_registers.result (s k).args.limit
     ≡ aim_of (board (s k)) (zs k) (s k).args.limit)
 aim-is c =
     let k = c.before.before.before.before in
-    ap (λ (b : Board). aim_by b k.check.new.1.1.1.0 c.fixed-registers.result (s k).args.limit) (board-is k)
-    ∙ same_aim (board (s k)) (zs k) k.check.new.1.1.1.0 c.fixed-registers.result (s k).args.limit (wanted-is k (accepted c.before))
-    c.fixed-registers.ensures
+    ap (λ (b : Board). aim_by b k.check.new.1.1.1.0 c.fixed_registers.result (s k).args.limit) (board-is k)
+    ∙ same_aim (board (s k)) (zs k) k.check.new.1.1.1.0 c.fixed_registers.result (s k).args.limit (wanted-is k (accepted c.before))
+    c.fixed_registers.ensures
 
 -- ---- the answers
 
-returns : tie.Need-returns
+returns : tie.Need-returns-then-image
 returns c =
     let s = c.before.before in
     let zs = s.args.numbers.now in
     clauses (board s) zs s.args.limit s.args.register (bytes c.before)
-    (sym (why_length (board s) zs s.args.limit s.args.register c.if1.true))
+    (sym (why_length (board s) zs s.args.limit s.args.register c.if-image.true))
 
 reason-requires : tie.Need-reason-requires
 reason-requires c κs =
@@ -119,14 +119,14 @@ reason-requires c κs =
       answer = (settings_answer (board (s k)) (zs k) a.limit a.register (image k) limited).here;
     })
 
-returns-2 : tie.Need-returns-2
+returns-2 : tie.Need-returns-in-Refused
 returns-2 c =
     let r = c.before in
     let k = r.before.before.before in
     let a = (s k).args in
-    clauses (board (s k)) (zs k) a.limit a.register (bytes (right-at k).before) (answered k _ (ap checked_as r.refusal.given.1))
+    clauses (board (s k)) (zs k) a.limit a.register (bytes (right-at k).before) (answered k _ (ap checked_as r.refusal-1.given.1))
 
-returns-3 : tie.Need-returns-3
+returns-3 : tie.Need-returns-in-Good
 unfolding list_of
 returns-3 c =
     let f = c.before.before in

@@ -4,10 +4,10 @@ use borrow.Author.Rules.{rules}
 use Rattle.adv7194_run.proofs.main.Statement.{statement}
 use Rattle.adv7194_run.proofs.main.Tie as tie
 
-abbrev invariant-loop : tie.invariant-loop
+abbrev invariant-loop : tie.invariant-loop-turns
 invariant-loop context₀ turns₀ context turns = Unit {0}
 
-abbrev decreases-loop : tie.decreases-loop
+abbrev decreases-loop : tie.decreases-loop-turns
 decreases-loop context₀ turns₀ context turns = turns
 
 pub main_spec : {M : Type 1} → statement M

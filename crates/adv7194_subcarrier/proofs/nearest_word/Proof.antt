@@ -13,14 +13,14 @@ use Rattle.adv7194_subcarrier.proofs.nearest_word.Statement.{statement}
 use Rattle.adv7194_subcarrier.proofs.nearest_word.Tie as tie
 
 -- the arguments, where the clocks are known
-abbrev pal : tie.After-clocks-per-line → Bool
+abbrev pal : tie.After-clocks_per_line → Bool
 pal c = is_pal c.before.before.before.args.standard
 
-abbrev sq : tie.After-clocks-per-line → Bool
+abbrev sq : tie.After-clocks_per_line → Bool
 sq c = c.before.before.before.args.square
 
 -- the code's clocks are the fraction's denominator
-clocks-are : (c : tie.After-clocks-per-line) → c.before.divisor.result * c.clocks-per-line.result ≡ denominator (pal c) (sq c)
+clocks-are : (c : tie.After-clocks_per_line) → c.before.divisor.result * c.clocks_per_line.result ≡ denominator (pal c) (sq c)
 clocks-are c = cc
 
 -- what the code answers is what the search finds
@@ -31,18 +31,18 @@ found c = c.nearest.ensures ∙ cc (clocks-are c.before)
 is-nearest : (c : tie.After-nearest) → Nearest (numerator (pal c.before)) (denominator (pal c.before) (sq c.before)) c.nearest.result
 is-nearest c = rw (found c) (nearest-is _ _ (sized (pal c.before) (sq c.before)).positive)
 
-mul-steps : tie.Need-overflow-mul-steps
-mul-steps c = omega (arith, c.cycles.ensures, (sized (is_pal c.before.args.standard) c.before.args.square).high)
+mul-steps : tie.Need-overflow_mul-steps
+mul-steps c = omega (arith, c.cycles-steps.ensures, (sized (is_pal c.before.args.standard) c.before.args.square).high)
 
-mul-clocks : tie.Need-overflow-mul-clocks
+mul-clocks : tie.Need-overflow_mul-clocks
 mul-clocks c = omega (arith, clocks-are c, (sized (pal c) (sq c)).low)
 
 nearest-requires : tie.Need-nearest-requires
 nearest-requires c κs =
     let s = sized (pal c) (sq c) in
-    rw (c.before.before.cycles.ensures, clocks-are c) (s.positive, s.low, s.high)
+    rw (c.before.before.cycles-steps.ensures, clocks-are c) (s.positive, s.low, s.high)
 
-cast-result : tie.Need-overflow-cast-result
+cast-result : tie.Need-overflow_cast-result
 cast-result c = record { fits = in_word_lem _ _ _ (sized (pal c.before) (sq c.before)) (is-nearest c) }
 
 returns : tie.Need-returns

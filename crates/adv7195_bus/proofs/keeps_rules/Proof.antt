@@ -9,19 +9,19 @@ use Rattle.adv7195_bus.proofs.keeps_rules.Tie as tie
 
 returns : tie.Need-returns
 unfolding keeps_rules
-returns c = rw (eq-eqb _ _ c.if1.true)
+returns c = rw (eq-eqb _ _ c.if-count-eq0.true)
 
-returns-2 : tie.Need-returns-2
+returns-2 : tie.Need-returns-then-end-gt-REGISTERS
 unfolding keeps_rules
 returns-2 c =
     let a = c.before.before.args in
-    rw (ne_eqb _ _ c.before.if1.false, lt-leb (a.subaddress + a.count) register_count c.if2.true)
+    rw (ne_eqb _ _ c.before.if-count-eq0.false, lt-leb (a.subaddress + a.count) register_count c.if-end-gt-REGISTERS.true)
 
-returns-3 : tie.Need-returns-3
+returns-3 : tie.Need-returns
 unfolding keeps_rules
 returns-3 c =
     let a = c.before.before.args in
-    rw (ne_eqb _ _ c.before.if1.false, le-leb (a.subaddress + a.count) register_count c.if2.false)
+    rw (ne_eqb _ _ c.before.if-count-eq0.false, le-leb (a.subaddress + a.count) register_count c.if-end-gt-REGISTERS.false)
 
 pub keeps_rules_spec : {M : Type 1} → statement M
 keeps_rules_spec = tie.close (tie.spec returns (λ c. search rules) returns-2 returns-3)

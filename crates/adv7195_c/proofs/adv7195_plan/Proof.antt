@@ -9,7 +9,7 @@ returns : tie.Need-returns
 returns c =
     let p = c.before.before.before in
     let a = p.before.before.before.before.args in
-    subst (Promises a.image.now a.settings.now a.address a.plan.now p.plan.new.1.1.1.0) (sym c.plan-answer.ensures)
+    subst (Promises a.image.now a.settings.now a.address a.plan.now p.plan.new.1.1.1.0) (sym c.plan_answer.ensures)
     (promised a.image.now a.settings.now a.address a.plan.now p.plan.new.1.1.1.0 p.plan.result p.plan.ensures)
 
 pub adv7195_plan_spec : {M : Type 1} → statement M

@@ -13,16 +13,16 @@ use Rattle.adv7195_listing.proofs.list_settings.Statement.{statement}
 use Rattle.adv7195_listing.proofs.list_settings.Tie as tie
 
 -- the lines that were made have room
-wide : (c : tie.After-lines) → widths c.lines.result ≤ text_width
-wide c = rw c.lines.ensures lines-room
+wide : (c : tie.After-lines-lines) → widths c.lines-lines.result ≤ text_width
+wide c = rw c.lines-lines.ensures lines-room
 
-fill-requires : tie.Need-fill-requires
+fill-requires : tie.Need-fill-end-requires
 fill-requires c κs = (omega (arith, wide c.before.before), omega arith)
 
-part-append-end : tie.Need-slice-bounds-append-end
+part-append-end : tie.Need-slice_bounds-append-end
 part-append-end c =
     let f = c.before.before.before in
-    omega (arith, f.fill.ensures.most, kept f.fill.ensures, wide f.before.before.before)
+    omega (arith, f.fill-end.ensures.most, kept f.fill-end.ensures, wide f.before.before.before)
 
 returns : tie.Need-returns
 returns c =
@@ -30,10 +30,10 @@ returns c =
     let f = p.before.before.before.before.before in
     let l = f.before.before.before in
     let a = l.before.before.args in
-    let w = same_text (ap (λ (t : List ℕ). filled t a.numbers.now) l.lines.ensures) f.fill.ensures in
+    let w = same_text (ap (λ (t : List ℕ). filled t a.numbers.now) l.lines-lines.ensures) f.fill-end.ensures in
     let e = part w (omega (arith, wide l)) in (
-      p.append.ensures.0 ∙ ap (place_after a.out.now 0) e,
-      (p.append.ensures.1 ∙ ap (appended a.out.now 0) e, omega (arith, w.answer, w.most, wide l)),
+      p.append.ensures.0 ∙ ap (place_after a.out-1.now 0) e,
+      (p.append.ensures.1 ∙ ap (appended a.out-1.now 0) e, omega (arith, w.answer, w.most, wide l)),
     )
 
 pub list_settings_spec : {M : Type 1} → statement M

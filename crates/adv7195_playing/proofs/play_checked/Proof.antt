@@ -22,64 +22,64 @@ use Rattle.adv7195_playing.proofs.play_checked.Statement.{statement}
 use Rattle.adv7195_playing.proofs.play_checked.Tie as tie
 
 -- where the function was entered
-abbrev start : tie.After-write-plan → tie.Start
+abbrev start : tie.After-write_plan → tie.Start
 start w = w.before.before.before.before.before.before
 
 -- the image that was found, and the registers that the walk left
-abbrev image : tie.After-write-plan → List ℕ
-image w = (start w).args.image.now
+abbrev image : tie.After-write_plan → List ℕ
+image w = (start w).args.image-1.now
 
-abbrev left : tie.After-write-plan → List ℕ
-left w = w.write-plan.new.1.0
+abbrev left : tie.After-write_plan → List ℕ
+left w = w.write_plan.new.1.0
 
 -- the judgement of the plan, for the image and for a copy of it
-abbrev judged_for : tie.After-write-plan → List ℕ → Judged (List Transaction)
+abbrev judged_for : tie.After-write_plan → List ℕ → Judged (List Transaction)
 judged_for w l = judged_if (takes l) (unpacked (start w).args.plan.now)
 
-abbrev judgement : tie.After-write-plan → Judged (List Transaction)
+abbrev judgement : tie.After-write_plan → Judged (List Transaction)
 judgement w = judged_for w (image w)
 
 -- as it was answered, and what was written
-answered : (w : tie.After-write-plan) (r : Walk) → w.write-plan.result ≡ r → counted (judgement w) ≡ count_of r
+answered : (w : tie.After-write_plan) (r : Walk) → w.write_plan.result ≡ r → counted (judgement w) ≡ count_of r
 answered w r e =
-    sym (w.write-plan.ensures.0 ∙ ap (λ (l : List ℕ). counted (judged_for w l)) w.before.before.copied.ensures) ∙ ap count_of e
+    sym (w.write_plan.ensures.0 ∙ ap (λ (l : List ℕ). counted (judged_for w l)) w.before.before.copied-registers.ensures) ∙ ap count_of e
 
-wrote : (w : tie.After-write-plan) → Written (judgement w) (image w) (left w)
+wrote : (w : tie.After-write_plan) → Written (judgement w) (image w) (left w)
 wrote w =
-    subst (λ (l : List ℕ). Written (judged_for w l) l (left w)) w.before.before.copied.ensures w.write-plan.ensures.1
+    subst (λ (l : List ℕ). Written (judged_for w l) l (left w)) w.before.before.copied-registers.ensures w.write_plan.ensures.1
 
 -- the call
-abbrev call : tie.After-write-plan → Call
+abbrev call : tie.After-write_plan → Call
 call w = let a = (start w).args in call_of (image w) a.used a.own a.plan.now
 
-returns : tie.Need-returns
+returns : tie.Need-returns-then-used-own
 returns c =
     let t = c.before.before in
     let w = t.before.before.before in
     let p = (start w).requires in
-    as_left (played_elsewhere (call w) no_map p.0 p.1 p.2 c.if1.true _ (answered w _ t.transactions.given.1))
+    as_left (played_elsewhere (call w) no_map p.0 p.1 p.2 c.if-used-own.true _ (answered w _ t.transactions-1.given.1))
 
-returns-2 : tie.Need-returns-2
+returns-2 : tie.Need-returns-in-Refused
 returns-2 c =
     let t = c.before in
     let w = t.before.before.before in
     let p = (start w).requires in
-    let n = number_of t.refusal.given.0.0 in
-    as_left (plan_fault (call w) no_map p.0 p.1 p.2 n (refused-list (judgement w) n (answered w _ t.refusal.given.1)))
+    let n = number_of t.refusal-1.given.0.0 in
+    as_left (plan_fault (call w) no_map p.0 p.1 p.2 n (refused-list (judgement w) n (answered w _ t.refusal-1.given.1)))
 
 -- where the plan was written at the chip's own address
-abbrev written_at : tie.After-copy → tie.After-write-plan
+abbrev written_at : tie.After-copy → tie.After-write_plan
 written_at k = k.before.before.before.before.before.before.before.before
 
 -- the registers are as many
-still : (w : tie.After-write-plan) → length (left w) ≡ length (image w)
+still : (w : tie.After-write_plan) → length (left w) ≡ length (image w)
 still w = left_as_many (judgement w) (image w) (left w) (wrote w)
 
 -- the image became those registers
 became : (k : tie.After-copy) → k.copy.new.1.0 ≡ left (written_at k)
 became k = let w = written_at k in k.copy.ensures.1 ∙ all_copied (left w) (image w) (search (rules, still w))
 
-returns-3 : tie.Need-returns-3
+returns-3 : tie.Need-returns-else-used-own
 returns-3 c =
     let k = c.before.before in
     let o = k.before.before.before in
@@ -88,10 +88,10 @@ returns-3 c =
     let a = (start w).args in
     let r = (start w).pre in
     let p =
-    own_played (image w) a.used a.own o.if1.false a.plan.now r.0 r.1 r.2 _ _ (answered w _ t.transactions.given.1) (wrote w) in
+    own_played (image w) a.used a.own o.if-used-own.false a.plan.now r.0 r.1 r.2 _ _ (answered w _ t.transactions-1.given.1) (wrote w) in
     (p.0, became k ∙ p.1)
 
-same-length-3 : tie.Need-same-length-3
+same-length-3 : tie.Need-shape_of-image-else-used-own
 same-length-3 c = let k = c.before.before in ap length (became k) ∙ still (written_at k)
 
 pub play_checked_spec : {M : Type 1} → statement M

@@ -7,18 +7,18 @@ use Rattle.adv7195_playing.proofs.prepared_after.Statement.{statement}
 use Rattle.adv7195_playing.proofs.prepared_after.Tie as tie
 
 returns : tie.Need-returns
-returns c = rw (lt-leb c.before.args.subaddress mode_register6 c.if1.true)
+returns c = rw (lt-leb c.before.args.subaddress mode_register6 c.if-first-gt-MODE_REGISTER_6.true)
 
-returns-2 : tie.Need-returns-2
+returns-2 : tie.Need-returns-then-first-count-le-MODE_REGISTER_6
 returns-2 c =
     let a = c.before.before.args in
-    rw (le-leb a.subaddress mode_register6 c.before.if1.false, le-ltb mode_register6 (a.subaddress + a.count) c.if2.true)
+    rw (le-leb a.subaddress mode_register6 c.before.if-first-gt-MODE_REGISTER_6.false, le-ltb mode_register6 (a.subaddress + a.count) c.if-first-count-le-MODE_REGISTER_6.true)
 
-returns-3 : tie.Need-returns-3
+returns-3 : tie.Need-returns
 returns-3 c =
     let e = c.before in
     let a = e.before.before.args in
-    rw (le-leb a.subaddress mode_register6 e.before.if1.false, lt-ltb mode_register6 (a.subaddress + a.count) e.if2.false)
+    rw (le-leb a.subaddress mode_register6 e.before.if-first-gt-MODE_REGISTER_6.false, lt-ltb mode_register6 (a.subaddress + a.count) e.if-first-count-le-MODE_REGISTER_6.false)
 
 pub prepared_after_spec : {M : Type 1} → statement M
 prepared_after_spec = tie.close (tie.spec returns (λ c. search rules) returns-2 (λ c. search rules) returns-3)

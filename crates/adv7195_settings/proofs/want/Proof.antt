@@ -20,10 +20,10 @@ returns c =
     let w = c.before.before in
     let r = w.before.before.before.before in
     let s = r.before.before.before in
-    let parts = r.before.parts-of.ensures in
+    let parts = r.before.parts_of-parts.ensures in
     let rows = r.rows.ensures in (
       w.want.ensures.0 ∙ ap₂ (λ (zs : List ℤ) (fs : List Field). check_of zs fs) parts rows ∙ check_walk s.args.numbers.now,
-      w.want.ensures.1 ∙ ap₂ (λ (zs : List ℤ) (fs : List Field). puts s.args.image.now (writes_of zs fs)) parts rows,
+      w.want.ensures.1 ∙ ap₂ (λ (zs : List ℤ) (fs : List Field). puts s.args.image-1.now (writes_of zs fs)) parts rows,
     )
 
 pub want_spec : {M : Type 1} → statement M

@@ -18,32 +18,32 @@ use Rattle.answer_listing.proofs.answer_listing.Statement.{statement}
 use Rattle.answer_listing.proofs.answer_listing.Tie as tie
 
 -- where the function was entered, and what the planner answered
-abbrev start : tie.After-first-line → tie.Start
+abbrev start : tie.After-first_line-line → tie.Start
 start c = c.before.before.before.before
 
-abbrev verdict : tie.After-first-line → Verdict Counts
+abbrev verdict : tie.After-first_line-line → Verdict Counts
 verdict c = answer_of (start c).args.planned
 
 -- the part of the first line that holds its text
-first_part_lem : (c : tie.After-first-line) → take (c.first-line.result.length - 0) c.first-line.result.bytes ≡ first_line (verdict c)
-first_part_lem c = line_part c.first-line.result (first_line (verdict c)) c.first-line.ensures
+first_part_lem : (c : tie.After-first_line-line) → take (c.first_line-line.result.length - 0) c.first_line-line.result.bytes-1 ≡ first_line (verdict c)
+first_part_lem c = line_part c.first_line-line.result (first_line (verdict c)) c.first_line-line.ensures
 
 -- how many bytes were packed
-packed-part : (c : tie.After-first-line) → c.before.packed-bytes.result - 0 ≡ packed_bytes (verdict c)
-packed-part c = sub-zero c.before.packed-bytes.result ∙ c.before.packed-bytes.ensures
+packed-part : (c : tie.After-first_line-line) → c.before.packed_bytes-packed.result - 0 ≡ packed_bytes (verdict c)
+packed-part c = sub-zero c.before.packed_bytes-packed.result ∙ c.before.packed_bytes-packed.ensures
 
-part-list-answer-end : tie.Need-slice-bounds-list-answer-end
+part-list-answer-end : tie.Need-slice_bounds-list_answer-end
 part-list-answer-end c =
     let f = c.before.before.before in
-    line_long f.first-line.result (first_line (verdict f)) f.first-line.ensures
+    line_long f.first_line-line.result (first_line (verdict f)) f.first_line-line.ensures
 
-part-list-answer-end-2 : tie.Need-slice-bounds-list-answer-end-2
+part-list-answer-end-2 : tie.Need-slice_bounds-list_answer-end-2
 part-list-answer-end-2 c =
     let f = c.before.before.before.before in
     let plan = (start f).args.plan.now in
-    subst⁻¹ (λ (n : ℕ). n ≤ length plan) f.before.packed-bytes.ensures (within plan (verdict f) (start f).requires)
+    subst⁻¹ (λ (n : ℕ). n ≤ length plan) f.before.packed_bytes-packed.ensures (within plan (verdict f) (start f).requires)
 
-list-answer-requires : tie.Need-list-answer-requires
+list-answer-requires : tie.Need-list_answer-requires
 list-answer-requires c κs =
     let f = c.before.before.before.before.before in
     let plan = (start f).args.plan.now in
@@ -56,7 +56,7 @@ returns c =
     let a = (start f).args in
     let plan = a.plan.now in
     let t = ap₂ (λ (l : List ℕ) (n : ℕ). text_below l (listed (unpack (take n plan)))) (first_part_lem f) (packed-part f) ∙ text plan (verdict f) (start f).requires in
-    (k.list-answer.ensures.0 ∙ ap (place_after a.out.now 0) t, k.list-answer.ensures.1 ∙ ap (appended a.out.now 0) t)
+    (k.list_answer.ensures.0 ∙ ap (place_after a.out-1.now 0) t, k.list_answer.ensures.1 ∙ ap (appended a.out-1.now 0) t)
 
 pub answer_listing_spec : {M : Type 1} → statement M
 answer_listing_spec =

@@ -10,17 +10,17 @@ use Rattle.answer_listing.specs.AnswerText.{first_line}
 use Rattle.answer_listing.proofs.first_line.Statement.{statement}
 use Rattle.answer_listing.proofs.first_line.Tie as tie
 
-returns : tie.Need-returns
+returns : tie.Need-returns-in-Refused
 returns c =
     let n = c.before in
     let p = n.before.before in
-    c.refused-line.ensures ∙ ap (λ (m : ℕ). line_of (refused_line m p.planned.given.0.1.0)) n.number.ensures
-    ∙ sym (ap (λ (r : Planned). line_of (first_line (answer_of r))) p.planned.given.1)
+    c.refused_line.ensures ∙ ap (λ (m : ℕ). line_of (refused_line m p.planned-1.given.0.1.0)) n.number.ensures
+    ∙ sym (ap (λ (r : Planned). line_of (first_line (answer_of r))) p.planned-1.given.1)
 
-returns-2 : tie.Need-returns-2
+returns-2 : tie.Need-returns-in-Done
 returns-2 c =
     let p = c.before.before in
-    c.plan-line.ensures ∙ sym (ap (λ (r : Planned). line_of (first_line (answer_of r))) p.planned2.given.1)
+    c.plan_line.ensures ∙ sym (ap (λ (r : Planned). line_of (first_line (answer_of r))) p.planned-in-Done-1.given.1)
 
 pub first_line_spec : {M : Type 1} → statement M
 first_line_spec =

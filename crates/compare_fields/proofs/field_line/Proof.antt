@@ -10,12 +10,12 @@ returns : tie.Need-returns
 returns c =
     let x = c.before.before in
     let t = x.before.before in
-    same_text (line_shown _ t.before.field-differs.ensures t.if1.true) x.field-text.ensures
+    same_text (line_shown _ t.before.field_differs.ensures t.if-field_differs.true) x.field_text.ensures
 
-returns-2 : tie.Need-returns-2
+returns-2 : tie.Need-returns
 returns-2 c =
     let start = c.before.before.before.before.before in
-    same_text (line_left_out _ c.before.field-differs.ensures c.if1.false) (unwritten start.args.line.now
+    same_text (line_left_out _ c.before.field_differs.ensures c.if-field_differs.false) (unwritten start.args.line-1.now
     start.args.at (omega (arith, start.requires.0)))
 
 pub field_line_spec : {M : Type 1} → statement M

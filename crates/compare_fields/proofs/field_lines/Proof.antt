@@ -10,37 +10,37 @@ use Rattle.compare_fields.proofs.LineLaws.{Lining, lining_begins, line_room, lin
 use Rattle.compare_fields.proofs.field_lines.Statement.{statement}
 use Rattle.compare_fields.proofs.field_lines.Tie as tie
 
-abbrev invariant-loop : tie.invariant-loop
+abbrev invariant-loop : tie.invariant-loop-field
 invariant-loop line₀ at readable a b left right place₀ field₀ line place field =
     Lining (field_differs a b) (field_line readable a b left right) 1 29 field_width line₀ at line place field
 
-abbrev decreases-loop : tie.decreases-loop
+abbrev decreases-loop : tie.decreases-loop-field
 decreases-loop line₀ at readable a b left right place₀ field₀ line place field = 29 - field
 
-abbrev start : tie.At-loop invariant-loop decreases-loop → tie.Start invariant-loop decreases-loop
+abbrev start : tie.At-loop-field invariant-loop decreases-loop → tie.Start invariant-loop decreases-loop
 start c = c.before.before.before.before
 
-loop-holds : tie.Need-loop-init invariant-loop decreases-loop
-loop-holds c = let s = c.before.before.before in lining_begins _ _ 1 29 field_width s.args.line.now s.args.at (omega arith) (omega (arith, s.requires))
+loop-holds : tie.Need-loop-field-init invariant-loop decreases-loop
+loop-holds c = let s = c.before.before.before in lining_begins _ _ 1 29 field_width s.args.line-1.now s.args.at (omega arith) (omega (arith, s.requires))
 
 -- a field is one of those
-inside : (c : tie.In-loop invariant-loop decreases-loop) → c.before.loop.field < 29
-inside c = omega (arith, c.loop-test.true)
+inside : (c : tie.In-loop-field invariant-loop decreases-loop) → c.before.loop-field.field < 29
+inside c = omega (arith, c.loop-field-test.true)
 
-field-line-requires : tie.Need-field-line-requires invariant-loop decreases-loop
+field-line-requires : tie.Need-field_line-place-requires invariant-loop decreases-loop
 field-line-requires c κs =
     let t = c.before in
-    let g = t.before.loop.invariant in
+    let g = t.before.loop-field.invariant in
     (line_room g (inside t) (start t.before).pre, omega (arith, g.from), omega (arith, inside t))
 
-loop-again : tie.Need-loop-preserved invariant-loop decreases-loop
+loop-again : tie.Need-loop-field-preserved invariant-loop decreases-loop
 loop-again c =
     let p = c.before.before in
     let t = p.before.before in
-    line_put t.before.loop.invariant (inside t) (start t.before).pre p.field-line.ensures
+    line_put t.before.loop-field.invariant (inside t) (start t.before).pre p.field_line-place.ensures
 
 returns : tie.Need-returns invariant-loop decreases-loop
-returns c = same_text (field-lines-all _ _ _) (all-put c.before.loop.invariant (omega (arith, c.loop-test.false)))
+returns c = same_text (field-lines-all _ _ _) (all-put c.before.loop-field.invariant (omega (arith, c.loop-field-test.false)))
 
 pub field_lines_spec : {M : Type 1} → statement M
 field_lines_spec =
@@ -53,5 +53,5 @@ field_lines_spec =
     (λ c. search rules)
     (λ c. search rules)
     loop-again
-    (λ c. kept c.before.loop.invariant.written)
+    (λ c. kept c.before.loop-field.invariant.written)
     returns)

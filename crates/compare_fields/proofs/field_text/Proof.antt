@@ -17,9 +17,9 @@ returns c =
     let m = f.before.before.before.before in
     let l = m.before.before.before.before in
     let h = l.before.before.before.before.before.requires.0 in
-    let first = more (more l.put-label.ensures m.put-mark.ensures (omega arith)) f.put-side.ensures (omega arith) in
-    let second = more (more first (put b.put.ensures.0 b.put.ensures.1) (omega arith)) s.put-side2.ensures (omega arith) in
-    wider field_width (omega arith) (more second (put e.put2.ensures.0 e.put2.ensures.1) (omega arith))
+    let first = more (more l.put_label-label.ensures m.put_mark-mark.ensures (omega arith)) f.put_side-first.ensures (omega arith) in
+    let second = more (more first (put b.put-bar.ensures.0 b.put-bar.ensures.1) (omega arith)) s.put_side-second.ensures (omega arith) in
+    wider field_width (omega arith) (more second (put e.put.ensures.0 e.put.ensures.1) (omega arith))
 
 pub field_text_spec : {M : Type 1} → statement M
 field_text_spec =

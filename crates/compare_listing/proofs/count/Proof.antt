@@ -14,8 +14,8 @@ returns c =
     let f = n.before in
     let a = f.before.before.before.args.a.now in
     let b = f.before.before.before.args.b.now in
-    ap₂ (λ (x y : ℕ). x + y) (n.count.ensures ∙ ap ones f.fields-differing.ensures ∙ field-count a b)
-    (c.count2.ensures ∙ ap ones r.registers-differing.ensures ∙ register-count a b)
+    ap₂ (λ (x y : ℕ). x + y) (n.count-fields.ensures ∙ ap ones f.fields_differing.ensures ∙ field-count a b)
+    (c.count-registers.ensures ∙ ap ones r.registers_differing.ensures ∙ register-count a b)
 
 pub count_spec : {M : Type 1} → statement M
 count_spec =

@@ -14,10 +14,10 @@ returns c =
     let v = t.before.before.before in
     let u = v.before.before.before in
     let s = u.before.before.before.before.before.args in
-    let out = s.out.now in
-    let e = by_reading s.a.now s.b.now no_numbers no_numbers t.both.ensures u.taken.ensures.0 v.taken2.ensures.0
-    u.taken.ensures.1 v.taken2.ensures.1 in
-    (p.list-sides.ensures.0 ∙ ap (place_after out 0) e, p.list-sides.ensures.1 ∙ ap (appended out 0) e)
+    let out = s.out-1.now in
+    let e = by_reading s.a.now s.b.now no_numbers no_numbers t.both.ensures u.taken-first.ensures.0 v.taken-second.ensures.0
+    u.taken-first.ensures.1 v.taken-second.ensures.1 in
+    (p.list_sides.ensures.0 ∙ ap (place_after out 0) e, p.list_sides.ensures.1 ∙ ap (appended out 0) e)
 
 pub list_images_spec : {M : Type 1} → statement M
 list_images_spec =

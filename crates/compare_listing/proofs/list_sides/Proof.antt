@@ -10,8 +10,8 @@ returns : tie.Need-returns
 returns c =
     let p = c.before.before in
     let w = p.before.before.before.before.before in
-    let out = w.before.before.before.before.before.args.out.now in
-    let e = part w.write-sides.ensures (search rules) in
+    let out = w.before.before.before.before.before.args.out-1.now in
+    let e = part w.write_sides-end.ensures (search rules) in
     (p.append.ensures.0 ∙ ap (place_after out 0) e, p.append.ensures.1 ∙ ap (appended out 0) e)
 
 pub list_sides_spec : {M : Type 1} → statement M

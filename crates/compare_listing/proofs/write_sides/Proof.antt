@@ -16,8 +16,8 @@ returns c =
     let p = f.before.before.before.before in
     let n = p.before.before in
     let h = n.before.before.before.before.before.before.requires in
-    let first = same_text (ap count_line n.count.ensures) p.put-counted.ensures in
-    wider text_width (omega arith) (more (more first f.field-lines.ensures (omega arith)) r.register-lines.ensures (omega arith))
+    let first = same_text (ap count_line n.count.ensures) p.put_counted-counted.ensures in
+    wider text_width (omega arith) (more (more first f.field_lines-listed.ensures (omega arith)) r.register_lines.ensures (omega arith))
 
 pub write_sides_spec : {M : Type 1} → statement M
 write_sides_spec =

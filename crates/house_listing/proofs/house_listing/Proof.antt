@@ -20,39 +20,39 @@ use Rattle.house_listing.proofs.house_listing.Statement.{statement}
 use Rattle.house_listing.proofs.house_listing.Tie as tie
 
 -- where the function was entered, the list, what planning answered, and what it left of the lent plan
-abbrev start : tie.After-plan-house → tie.Start
+abbrev start : tie.After-plan_house-planned → tie.Start
 start c = c.before.before.before.before
 
-abbrev list : tie.After-plan-house → List Transaction
+abbrev list : tie.After-plan_house-planned → List Transaction
 list c = list_of (board_in (start c).args.image.now) house no_limit
 
-abbrev verdict : tie.After-plan-house → Verdict Counts
-verdict c = answer_of c.plan-house.result
+abbrev verdict : tie.After-plan_house-planned → Verdict Counts
+verdict c = answer_of c.plan_house-planned.result
 
-abbrev after : tie.After-plan-house → List ℕ
-after c = c.plan-house.new.1.0
+abbrev after : tie.After-plan_house-planned → List ℕ
+after c = c.plan_house-planned.new.1.0
 
 -- they are those of a planner of the list
-planned : (c : tie.After-plan-house) → Plans (list c) (zeros wide_bytes) (after c) (verdict c)
+planned : (c : tie.After-plan_house-planned) → Plans (list c) (zeros wide_bytes) (after c) (verdict c)
 planned c =
-    plans (start c).args.image.now (zeros wide_bytes) (verdict c) c.plan-house.ensures.0
-    (λ r. (c.before.before.shared-slice-known.given r).fits) (after c) c.plan-house.ensures.1
+    plans (start c).args.image.now (zeros wide_bytes) (verdict c) c.plan_house-planned.ensures.0
+    (λ r. (c.before.before.shared_slice_known-1.given r).fits) (after c) c.plan_house-planned.ensures.1
 
-answer-listing-requires : tie.Need-answer-listing-requires
+answer-listing-requires : tie.Need-answer_listing-requires
 answer-listing-requires c κs = let p = c.before.before.before in holds (list p) (zeros wide_bytes) (after p) (verdict p) (planned p)
 
 -- the text of the answer is the house setting's
-text : (c : tie.After-plan-house) → answer_text transaction_line (list_in (after c) (verdict c)) (verdict c) ≡ house_text (start c).args.image.now
+text : (c : tie.After-plan_house-planned) → answer_text transaction_line (list_in (after c) (verdict c)) (verdict c) ≡ house_text (start c).args.image.now
 unfolding house_text_in
 text c =
-    text_of (list c) (zeros wide_bytes) (after c) transaction_line (verdict c) (planned c) ∙ ap (answer_text transaction_line (list c)) c.plan-house.ensures.0
+    text_of (list c) (zeros wide_bytes) (after c) transaction_line (verdict c) (planned c) ∙ ap (answer_text transaction_line (list c)) c.plan_house-planned.ensures.0
 
 returns : tie.Need-returns
 returns c =
     let k = c.before.before in
     let p = k.before.before.before.before in
-    let out = (start p).args.out.now in
-    (k.answer-listing.ensures.0 ∙ ap (place_after out 0) (text p), k.answer-listing.ensures.1 ∙ ap (appended out 0) (text p))
+    let out = (start p).args.out-1.now in
+    (k.answer_listing.ensures.0 ∙ ap (place_after out 0) (text p), k.answer_listing.ensures.1 ∙ ap (appended out 0) (text p))
 
 pub house_listing_spec : {M : Type 1} → statement M
 house_listing_spec =

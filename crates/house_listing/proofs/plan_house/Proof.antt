@@ -17,8 +17,8 @@ returns c =
     let h = p.before.before.before in
     let a = h.before.before.before.args in
     let b = board_in a.image.now in (
-      p.plan.ensures.0 ∙ ap (λ (s : List ℤ). planning_of b s board_address no_limit (length a.plan.now)) h.house.ensures,
-      p.plan.ensures.1.0 ∙ ap (λ (s : List ℤ). plan_left b s board_address no_limit a.plan.now) h.house.ensures,
+      p.plan.ensures.0 ∙ ap (λ (s : List ℤ). planning_of b s board_address no_limit (length a.plan.now)) h.house-numbers.ensures,
+      p.plan.ensures.1.0 ∙ ap (λ (s : List ℤ). plan_left b s board_address no_limit a.plan.now) h.house-numbers.ensures,
     )
 
 pub plan_house_spec : {M : Type 1} → statement M

@@ -9,9 +9,9 @@ use Rattle.listing.proofs.begins_with.Statement.{statement}
 use Rattle.listing.proofs.begins_with.Tie as tie
 
 returns : tie.Need-returns
-returns c = let a = c.before.before.before.args in sym (begins-short a.word.now a.line.now c.if1.true)
+returns c = let a = c.before.before.before.args in sym (begins-short a.word.now a.line.now c.if-line-n.true)
 
-returns-2 : tie.Need-returns-2
+returns-2 : tie.Need-returns
 returns-2 c =
     let a = c.before.before.before.before.before.args in
     let word = a.word.now in

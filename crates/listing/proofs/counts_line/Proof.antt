@@ -33,32 +33,32 @@ front text after place w =
     ap₂ (λ (b : List ℕ) (n : ℕ). record { bytes = b; length = n }) bytes place'
 
 -- where the function was entered
-abbrev start : tie.After-put → tie.Start
+abbrev start : tie.After-put-first → tie.Start
 start c = c.before.before.before
 
 -- the numbers have at most twenty digits
-first-few : (c : tie.After-put) → length (decimal (start c).args.a) ≤ 20
+first-few : (c : tie.After-put-first) → length (decimal (start c).args.a) ≤ 20
 first-few c = decimal-most 19 (start c).args.a (omega (arith, (start c).ranges.a.fits))
 
-second-few : (c : tie.After-put) → length (decimal (start c).args.b) ≤ 20
+second-few : (c : tie.After-put-first) → length (decimal (start c).args.b) ≤ 20
 second-few c = decimal-most 19 (start c).args.b (omega (arith, (start c).ranges.b.fits))
 
 -- the word is written
-word-written : (c : tie.After-put) → Written (zeros line_width) 0 (start c).args.word.now c.put.new.0 c.put.result
-word-written c = record { fit = omega (arith, (start c).requires, length-zeros line_width); memory = c.put.ensures.1; here = c.put.ensures.0 }
+word-written : (c : tie.After-put-first) → Written (zeros line_width) 0 (start c).args.word.now c.put-first.new.0 c.put-first.result
+word-written c = record { fit = omega (arith, (start c).requires, length-zeros line_width); memory = c.put-first.ensures.1; here = c.put-first.ensures.0 }
 
-put-number-requires : tie.Need-put-number-requires
+put-number-requires : tie.Need-put_number-second-requires
 put-number-requires c κs =
     let p = c.before.before in
     let w = word-written p in
     omega (arith, first-few p, (start p).requires, w.here, kept w, length-zeros line_width)
 
 -- and the first number
-abbrev before-first : tie.After-put-number → tie.After-put
+abbrev before-first : tie.After-put_number-second → tie.After-put-first
 before-first c = c.before.before.before
 
-first-written : (c : tie.After-put-number) → (let a = (start (before-first c)).args in
-    Written (zeros line_width) 0 (a.word.now ++ (decimal a.a ++ space)) c.put-number.new.0 c.put-number.result)
+first-written : (c : tie.After-put_number-second) → (let a = (start (before-first c)).args in
+    Written (zeros line_width) 0 (a.word.now ++ (decimal a.a ++ space)) c.put_number-second.new.0 c.put_number-second.result)
 first-written c =
     let p = before-first c in
     let a = (start p).args in
@@ -66,17 +66,17 @@ first-written c =
     let more = decimal a.a ++ space in
     let long = length-append (decimal a.a) space in
     next w more (omega (arith, first-few p, (start p).pre, w.here, length-zeros line_width))
-    c.put-number.ensures.1 (omega (arith, c.put-number.ensures.0))
+    c.put_number-second.ensures.1 (omega (arith, c.put_number-second.ensures.0))
 
 -- then there is room for the second
-second-room : (c : tie.After-put-number) → c.put-number.result + (length (decimal (start (before-first c)).args.b) + 1) ≤ line_width
+second-room : (c : tie.After-put_number-second) → c.put_number-second.result + (length (decimal (start (before-first c)).args.b) + 1) ≤ line_width
 second-room c =
     let p = before-first c in
     let a = (start p).args in
     let long = length-append a.word.now (decimal a.a ++ space) in
     omega (arith, first-few p, second-few p, (start p).pre, (first-written c).here, long, length-append (decimal a.a) space)
 
-put-number-requires-2 : tie.Need-put-number-requires-2
+put-number-requires-2 : tie.Need-put_number-length-requires
 put-number-requires-2 c κs =
     let f = c.before.before in
     omega (arith, second-room f, kept (first-written f), length-zeros line_width)
@@ -90,8 +90,8 @@ returns c =
     let w = first-written f in
     let more = decimal a.b ++ line_end in
     let long = length-append (decimal a.b) line_end in
-    let after : s.put-number2.result ≡ f.put-number.result + length more = omega (arith, s.put-number2.ensures.0) in
-    let all = next w more (omega (arith, second-room f, length-zeros line_width)) s.put-number2.ensures.1 after in
+    let after : s.put_number-length.result ≡ f.put_number-second.result + length more = omega (arith, s.put_number-length.ensures.0) in
+    let all = next w more (omega (arith, second-room f, length-zeros line_width)) s.put_number-length.ensures.1 after in
     front _ _ _ all ∙ ap line_of (regroup a.word.now a.a a.b)
 
 pub counts_line_spec : {M : Type 1} → statement M

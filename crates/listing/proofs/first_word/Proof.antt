@@ -7,21 +7,21 @@ use Rattle.listing.proofs.first_word.Tie as tie
 
 returns : tie.Need-returns
 unfolding word_of
-returns c = rw (sym c.before.begins-with.ensures ∙ c.if1.true)
+returns c = rw (sym c.before.begins_with.ensures ∙ c.if-begins_with.true)
 
-returns-2 : tie.Need-returns-2
+returns-2 : tie.Need-returns-then-begins_with-2
 unfolding word_of
 returns-2 c =
     let second = c.before in
     let first = second.before.before in
-    rw (sym first.before.begins-with.ensures ∙ first.if1.false, sym second.begins-with2.ensures ∙ c.if2.true)
+    rw (sym first.before.begins_with.ensures ∙ first.if-begins_with.false, sym second.begins_with-2.ensures ∙ c.if-begins_with-2.true)
 
-returns-3 : tie.Need-returns-3
+returns-3 : tie.Need-returns
 unfolding word_of
 returns-3 c =
     let second = c.before in
     let first = second.before.before in
-    rw (sym first.before.begins-with.ensures ∙ first.if1.false, sym second.begins-with2.ensures ∙ c.if2.false)
+    rw (sym first.before.begins_with.ensures ∙ first.if-begins_with.false, sym second.begins_with-2.ensures ∙ c.if-begins_with-2.false)
 
 pub first_word_spec : {M : Type 1} → statement M
 first_word_spec =

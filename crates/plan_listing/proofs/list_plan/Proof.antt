@@ -21,49 +21,49 @@ module _ (heading out : List ℕ) {j k : Judged (List Transaction)} (e : j ≡ k
   left-of = ap (λ (x : Judged (List Transaction)). listing_in heading x out) e
 
 -- a refusal, which leaves the memory
-returns : tie.Need-returns
+returns : tie.Need-returns-in-Refused
 returns c =
     let r = c.before in
     let k = r.before.before in
     let a = k.before.before.before.before.args in
     let plan = a.plan.now in
-    let e = refused-list (unpack plan) (number_of r.refusal.given.0.0) (sym k.check.ensures ∙ ap answer_of r.refusal.given.1) in
-    (sym (answer-of a.heading.now a.out.now e), sym (left-of a.heading.now a.out.now e))
+    let e = refused-list (unpack plan) (number_of r.refusal-1.given.0.0) (sym k.check.ensures ∙ ap answer_of r.refusal-1.given.1) in
+    (sym (answer-of a.heading.now a.out-1.now e), sym (left-of a.heading.now a.out-1.now e))
 
 -- where the function was entered
-abbrev start : tie.After-transactions → tie.Start
+abbrev start : tie.In-WellFormed-2 → tie.Start
 start c = c.before.before.before.before.before.before
 
 -- the plan is well_formed_lem, with that many transactions
-well : (c : tie.After-transactions) → counted (unpack (start c).args.plan.now) ≡ accepted c.transactions.given.0.0
-well c = sym c.before.before.check.ensures ∙ ap answer_of c.transactions.given.1
+well : (c : tie.In-WellFormed-2) → counted (unpack (start c).args.plan.now) ≡ accepted c.transactions-1.given.0.0
+well c = sym c.before.before.check.ensures ∙ ap answer_of c.transactions-1.given.1
 
-list : (c : tie.After-transactions) → Accepted (start c).args.plan.now
+list : (c : tie.In-WellFormed-2) → Accepted (start c).args.plan.now
 list c = accepted-plan (start c).args.plan.now _ (well c)
 
-put-plan-requires : tie.Need-put-plan-requires
+put-plan-requires : tie.Need-put_plan-requires
 put-plan-requires c κs =
     let t = c.before.before in
     (list t, listed-length (unpack (start t).args.plan.now) _ (well t))
 
 -- the text, or that it does not fit
-returns-2 : tie.Need-returns-2
+returns-2 : tie.Need-returns-in-After
 returns-2 c =
     let e = c.before in
     let p = e.before.before.before.before in
     let t = p.before.before.before in
     let a = (start t).args in (
-      ap accepted (sym e.end.given.1 ∙ p.put-plan.ensures.0) ∙ sym (answer-of a.heading.now a.out.now (list t)),
-      p.put-plan.ensures.1 ∙ sym (left-of a.heading.now a.out.now (list t)),
+      ap accepted (sym e.end-1.given.1 ∙ p.put_plan.ensures.0) ∙ sym (answer-of a.heading.now a.out-1.now (list t)),
+      p.put_plan.ensures.1 ∙ sym (left-of a.heading.now a.out-1.now (list t)),
     )
 
-returns-3 : tie.Need-returns-3
+returns-3 : tie.Need-returns-in-TooShort
 returns-3 c =
     let p = c.before.before.before.before in
     let t = p.before.before.before in
     let a = (start t).args in (
-      ap accepted (sym c.enum_told.given.1 ∙ p.put-plan.ensures.0) ∙ sym (answer-of a.heading.now a.out.now (list t)),
-      p.put-plan.ensures.1 ∙ sym (left-of a.heading.now a.out.now (list t)),
+      ap accepted (sym c.enum_told-1.given.1 ∙ p.put_plan.ensures.0) ∙ sym (answer-of a.heading.now a.out-1.now (list t)),
+      p.put_plan.ensures.1 ∙ sym (left-of a.heading.now a.out-1.now (list t)),
     )
 
 pub list_plan_spec : {M : Type 1} → statement M

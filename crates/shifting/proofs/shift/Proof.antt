@@ -18,39 +18,39 @@ record Inv (from : List ℕ) (before held : ℕ) (to₀ : List ℕ) (at : ℕ) (
   within : i ≤ length from
   wrote : to ≡ sets to₀ at (shifted held before (take i from))
 
-abbrev invariant-loop : tie.invariant-loop
+abbrev invariant-loop : tie.invariant-loop-i
 invariant-loop from before held to₀ at i₀ to i = Inv from before held to₀ at to i
 
-abbrev decreases-loop : tie.decreases-loop
+abbrev decreases-loop : tie.decreases-loop-i
 decreases-loop from before held to₀ at i₀ to i = length from - i
 
 -- where the function was entered, and the loop in a turn
-abbrev start : tie.At-loop invariant-loop decreases-loop → tie.Start invariant-loop decreases-loop
+abbrev start : tie.At-loop-i invariant-loop decreases-loop → tie.Start invariant-loop decreases-loop
 start c = c.before.before.before.before.before.before
 
-abbrev turn : tie.After-between2 invariant-loop decreases-loop → tie.At-loop invariant-loop decreases-loop
+abbrev turn : tie.After-between-in-loop-i invariant-loop decreases-loop → tie.At-loop-i invariant-loop decreases-loop
 turn c = c.before.before.before.before
 
 -- the registers with the first byte stored
-abbrev stored : tie.At-loop invariant-loop decreases-loop → List ℕ
+abbrev stored : tie.At-loop-i invariant-loop decreases-loop → List ℕ
 stored c = set (start c).args.to.now (start c).args.at c.before.between.result
 
 -- there are as many places as at the start
-kept : (c : tie.At-loop invariant-loop decreases-loop) → length c.loop.to ≡ length (start c).args.to.now
+kept : (c : tie.At-loop-i invariant-loop decreases-loop) → length c.loop-i.to ≡ length (start c).args.to.now
 kept c =
     let a = (start c).args in
-    ap length c.loop.invariant.wrote ∙ length-sets (stored c) a.at (shifted a.held a.before (take c.loop.i a.from.now))
+    ap length c.loop-i.invariant.wrote ∙ length-sets (stored c) a.at (shifted a.held a.before (take c.loop-i.i a.from.now))
     ∙ length-set a.to.now a.at c.before.between.result
 
 returns : tie.Need-returns invariant-loop decreases-loop
 returns c =
     let a = c.before.before.before.args in
-    none a.to.now a.at a.held a.before a.from.now c.if1.true
+    none a.to.now a.at a.held a.before a.from.now c.if-from-eq0.true
 
-loop-holds : tie.Need-loop-init invariant-loop decreases-loop
+loop-holds : tie.Need-loop-i-init invariant-loop decreases-loop
 loop-holds c =
     let a = c.before.before.before.before.before.args in
-    let some : 0 < length a.from.now = omega (arith, c.before.before.if1.false) in
+    let some : 0 < length a.from.now = omega (arith, c.before.before.if-from-eq0.false) in
     record {
       some = omega arith;
       within = some;
@@ -58,28 +58,28 @@ loop-holds c =
     }
 
 -- there is one byte more
-tested : (c : tie.After-between2 invariant-loop decreases-loop) → (turn c).loop.i < length (start (turn c)).args.from.now
-tested c = c.before.before.before.loop-test.true
+tested : (c : tie.After-between-in-loop-i invariant-loop decreases-loop) → (turn c).loop-i.i < length (start (turn c)).args.from.now
+tested c = c.before.before.before.loop-i-test.true
 
 -- one byte more of the bytes
-longer : (c : tie.After-between2 invariant-loop decreases-loop)
-    → take ((turn c).loop.i + 1) (start (turn c)).args.from.now
-    ≡ take (turn c).loop.i (start (turn c)).args.from.now ++ (get_or (start (turn c)).args.from.now (turn c).loop.i 0 ∷ [])
+longer : (c : tie.After-between-in-loop-i invariant-loop decreases-loop)
+    → take ((turn c).loop-i.i + 1) (start (turn c)).args.from.now
+    ≡ take (turn c).loop-i.i (start (turn c)).args.from.now ++ (get_or (start (turn c)).args.from.now (turn c).loop-i.i 0 ∷ [])
 longer c =
     let bs = (start (turn c)).args.from.now in
-    ap (λ (n : ℕ). take n bs) (add-one (turn c).loop.i) ∙ take-suc bs (turn c).loop.i 0 (tested c)
+    ap (λ (n : ℕ). take n bs) (add-one (turn c).loop-i.i) ∙ take-suc bs (turn c).loop-i.i 0 (tested c)
 
-loop-again : tie.Need-loop-preserved invariant-loop decreases-loop
+loop-again : tie.Need-loop-i-preserved invariant-loop decreases-loop
 unfolding shifted
 loop-again c =
-    let l = (turn c).loop in
+    let l = (turn c).loop-i in
     let a = (start (turn c)).args in
     let bs = a.from.now in
     let xs = take l.i bs in
     let x = get_or bs l.i 0 in
     let n : length xs ≡ l.i = length-take-le l.i bs l.inv.within in
-    let told : c.between2.result ≡ between a.held (last_from a.before xs) x =
-    c.between2.ensures ∙ ap (λ (y : ℕ). between a.held y x) (sym (last_taken a.before bs l.i l.inv.some l.inv.within)) in
+    let told : c.between-in-loop-i.result ≡ between a.held (last_from a.before xs) x =
+    c.between-in-loop-i.ensures ∙ ap (λ (y : ℕ). between a.held y x) (sym (last_taken a.before bs l.i l.inv.some l.inv.within)) in
     record {
       some = omega arith;
       within = omega (arith, tested c);
@@ -91,24 +91,24 @@ loop-again c =
           ∙ ap (λ (ys : List ℕ). sets (stored (turn c)) a.at (shifted a.held a.before ys)) (sym (longer c));
     }
 
-returns-2 : tie.Need-returns-2 invariant-loop decreases-loop
+returns-2 : tie.Need-returns invariant-loop decreases-loop
 returns-2 c =
     let t = c.before.before in
-    let l = t.loop in
+    let l = t.loop-i in
     let a = (start t).args in
     let bs = a.from.now in
     let some : 0 < length bs = omega (arith, l.invariant.some, l.invariant.within) in
-    let all : take l.i bs ≡ bs = take_all l.i bs c.before.loop-test.false in (
+    let all : take l.i bs ≡ bs = take_all l.i bs c.before.loop-i-test.false in (
       sym (last_taken a.before bs (length bs) some (omega arith)) ∙ ap (last_from a.before) (take_all (length bs) bs (omega arith)),
       l.invariant.wrote ∙ ap (λ (ys : List ℕ). sets (stored t) a.at (shifted a.held a.before ys)) all
           ∙ again a.to.now a.at a.held a.before t.before.between.result bs some,
     )
 
 -- there is room for it
-room : tie.Need-slice-write-to-2 invariant-loop decreases-loop
+room : tie.Need-bounds-to-at-in-loop-i invariant-loop decreases-loop
 room c = omega (arith, (start (turn c)).pre.0, kept (turn c), tested c)
 
-add-to : tie.Need-overflow-add-to invariant-loop decreases-loop
+add-to : tie.Need-overflow_add-to invariant-loop decreases-loop
 add-to c = record { fits = omega (arith, room c, kept (turn c), (start (turn c)).good.0.0) }
 
 pub shift_spec : {M : Type 1} → statement M

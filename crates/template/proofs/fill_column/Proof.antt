@@ -12,18 +12,18 @@ use Rattle.template.proofs.fill_column.Statement.{statement}
 use Rattle.template.proofs.fill_column.Tie as tie
 
 -- the part of the table found is the column
-part : (c : tie.After-column-end) → (let s = c.before in let a = s.before.before.before.args in
-    take (c.column-end.result - s.column-start.result) (drop s.column-start.result a.table.now) ≡ column_in a.table.now a.column)
-part c = c.column-end.ensures.1 ∙ c.before.column-start.ensures.1
+part : (c : tie.After-column_end-end) → (let s = c.before in let a = s.before.before.before.args in
+    take (c.column_end-end.result - s.column_start-start.result) (drop s.column_start-start.result a.table.now) ≡ column_in a.table.now a.column)
+part c = c.column_end-end.ensures.1 ∙ c.before.column_start-start.ensures.1
 
 fill-requires : tie.Need-fill-requires
 fill-requires c κs =
     let e = c.before.before in
     let s = e.before in
     let start = s.before.before.before in
-    let from = s.column-start.result in
+    let from = s.column_start-start.result in
     let table = start.args.table.now in
-    let most = length-take (e.column-end.result - from) (drop from table) in
+    let most = length-take (e.column_end-end.result - from) (drop from table) in
     (omega (arith, ap widths (part e), start.requires.0), omega (arith, most, length-drop from table, start.requires.1))
 
 returns : tie.Need-returns
@@ -31,7 +31,7 @@ returns c =
     let p = c.before.before in
     let e = p.before.before.before in
     let a = e.before.before.before.before.args in
-    subst (λ (t : List ℕ). Put (widths t) a.line.now a.at (filled t (drop a.first a.numbers.now)) p.fill.new.0 p.fill.result) (part e)
+    subst (λ (t : List ℕ). Put (widths t) a.line-1.now a.at (filled t (drop a.first a.numbers.now)) p.fill.new.0 p.fill.result) (part e)
     p.fill.ensures
 
 pub fill_column_spec : {M : Type 1} → statement M

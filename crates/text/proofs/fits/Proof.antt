@@ -20,10 +20,10 @@ no line at n h = sym (lt-leb (at + n) (length line) h)
 returns : tie.Need-returns
 returns c = let a = c.before.args in no a.line.now a.at a.n (omega arith)
 
-returns-2 : tie.Need-returns-2
+returns-2 : tie.Need-returns-then-n-line
 returns-2 c = let a = c.before.before.args in yes a.line.now a.at a.n (omega arith)
 
-returns-3 : tie.Need-returns-3
+returns-3 : tie.Need-returns
 returns-3 c = let a = c.before.before.args in no a.line.now a.at a.n (omega arith)
 
 pub fits_spec : {M : Type 1} → statement M

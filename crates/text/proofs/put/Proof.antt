@@ -30,7 +30,7 @@ returns c =
     let p = c.before.before in
     let start = p.before.before.before.before in
     let a = start.args in
-    (ap (λ (n : ℕ). a.at + n) p.copy.ensures.0, copied a.line.now a.at a.text.now p.copy.new.1.0 start.requires p.copy.ensures.1)
+    (ap (λ (n : ℕ). a.at + n) p.copy.ensures.0, copied a.line-1.now a.at a.text.now p.copy.new.1.0 start.requires p.copy.ensures.1)
 
 pub put_spec : {M : Type 1} → statement M
 put_spec =

@@ -22,56 +22,56 @@ record Inv (plan : List ℕ) (cursor : Cursor) (transactions : ℕ) : Type 0 whe
   walked : Walked plan Ascending done cursor
   counts : transactions ≡ length done
 
-abbrev invariant-loop : tie.invariant-loop
+abbrev invariant-loop : tie.invariant-loop-after
 invariant-loop plan cursor₀ transactions₀ cursor transactions = Inv plan cursor transactions
 
-abbrev decreases-loop : tie.decreases-loop
+abbrev decreases-loop : tie.decreases-loop-after
 decreases-loop plan cursor₀ transactions₀ cursor transactions = cursor.left
 
-abbrev plan-at : tie.At-loop invariant-loop decreases-loop → List ℕ
+abbrev plan-at : tie.At-loop-after invariant-loop decreases-loop → List ℕ
 plan-at c = c.before.before.before.args.plan.now
 
-loop-holds : tie.Need-loop-init invariant-loop decreases-loop
+loop-holds : tie.Need-loop-after-init invariant-loop decreases-loop
 loop-holds c =
     let k = c.before in
     record {
       done = [];
-      walked = rw c.begin.ensures (walk_begins k.before.args.plan.now Ascending (λ i. (k.shared-slice-known.given i).fits));
+      walked = rw c.begin-cursor.ensures (walk_begins k.before.args.plan.now Ascending (λ i. (k.shared_slice_known-1.given i).fits));
       counts = refl;
     }
 
 -- what the step says
-said : (c : tie.After-next invariant-loop decreases-loop) (r : Step) → c.next.result ≡ r → Stepped (plan-at c.before) c.before.loop.cursor r
-said c r e = subst (Stepped (plan-at c.before) c.before.loop.cursor) (sym c.next.ensures ∙ e)
-    (stepped (plan-at c.before) c.before.loop.cursor)
+said : (c : tie.After-next invariant-loop decreases-loop) (r : Step) → c.next.result ≡ r → Stepped (plan-at c.before) c.before.loop-after.cursor r
+said c r e = subst (Stepped (plan-at c.before) c.before.loop-after.cursor) (sym c.next.ensures ∙ e)
+    (stepped (plan-at c.before) c.before.loop-after.cursor)
 
-returns : tie.Need-returns invariant-loop decreases-loop
+returns : tie.Need-returns-in-Fault invariant-loop decreases-loop
 returns c =
     let n = c.before.before in
-    sym (ap counted (walk_fails n.before.loop.invariant.walked (said n _ c.enum_told.given.1)))
+    sym (ap counted (walk_fails n.before.loop-after.invariant.walked (said n _ c.enum_told-1.given.1)))
 
-returns-2 : tie.Need-returns-2 invariant-loop decreases-loop
+returns-2 : tie.Need-returns-in-End invariant-loop decreases-loop
 returns-2 c =
     let n = c.before.before in
-    let v = n.before.loop.invariant in
-    ap accepted v.counts ∙ sym (ap counted (walk_ends v.walked (said n _ c.enum-told2.given.1)))
+    let v = n.before.loop-after.invariant in
+    ap accepted v.counts ∙ sym (ap counted (walk_ends v.walked (said n _ c.enum_told-in-End-1.given.1)))
 
-add-transactions : tie.Need-overflow-add-transactions invariant-loop decreases-loop
-add-transactions c = let v = c.before.before.before.before.loop.invariant in record { fits = omega (arith, v.counts, v.walked.few) }
+add-transactions : tie.Need-overflow_add-transactions invariant-loop decreases-loop
+add-transactions c = let v = c.before.before.before.before.loop-after.invariant in record { fits = omega (arith, v.counts, v.walked.few) }
 
 -- the transaction that was found
-went : (c : tie.After-after invariant-loop decreases-loop)
-    → Went (plan-at c.before.before.before) c.before.before.before.loop.cursor c.after.given.0.0 c.after.given.0.1.0
-    c.after.given.0.1.1.0
-    c.after.given.0.1.1.1.0
-went c = said c.before.before _ c.after.given.1
+went : (c : tie.In-Transaction-2 invariant-loop decreases-loop)
+    → Went (plan-at c.before.before.before) c.before.before.before.loop-after.cursor c.after-1.given.0.0 c.after-1.given.0.1.0
+    c.after-1.given.0.1.1.0
+    c.after-1.given.0.1.1.1.0
+went c = said c.before.before _ c.after-1.given.1
 
-loop-less : tie.Need-loop-smaller invariant-loop decreases-loop
+loop-less : tie.Need-loop-after-smaller invariant-loop decreases-loop
 loop-less c = omega (arith, (went c.before).left)
 
-loop-again : tie.Need-loop-preserved invariant-loop decreases-loop
+loop-again : tie.Need-loop-after-preserved invariant-loop decreases-loop
 loop-again c =
-    let v = c.before.before.before.before.loop.invariant in
+    let v = c.before.before.before.before.loop-after.invariant in
     record {
       done = v.done ++ (_ ∷ []);
       walked = walk_goes v.walked (went c.before);

@@ -15,7 +15,7 @@ returns c =
     let h = c.before.before in
     let start = h.before.before in
     let a = start.args in
-    c.why.ensures.0 ∙ ap (λ (s : List ℤ). why_of (board_in a.image.now) s no_limit a.register) h.house.ensures
+    c.why.ensures.0 ∙ ap (λ (s : List ℤ). why_of (board_in a.image.now) s no_limit a.register) h.house-numbers.ensures
     ∙ house-passes a.image.now a.register start.requires
 
 pub house_reason_spec : {M : Type 1} → statement M

@@ -17,9 +17,9 @@ returns c =
     let s = w.before.before.before.before in
     let n = s.before.before.before.before.before in
     let h = n.before.before.before.before.requires.0 in
-    let number = more n.put-hex.ensures (put s.put.ensures.0 s.put.ensures.1) (omega arith) in
-    let reason = more number (same_text (ap answer_words w.house-reason.ensures) p.put-reason.ensures) (omega arith) in
-    wider register_width (omega arith) (more reason (put e.put2.ensures.0 e.put2.ensures.1) (omega arith))
+    let number = more n.put_hex-number.ensures (put s.put-spaced.ensures.0 s.put-spaced.ensures.1) (omega arith) in
+    let reason = more number (same_text (ap answer_words w.house_reason.ensures) p.put_reason-reason.ensures) (omega arith) in
+    wider register_width (omega arith) (more reason (put e.put.ensures.0 e.put.ensures.1) (omega arith))
 
 pub register_line_spec : {M : Type 1} → statement M
 register_line_spec =

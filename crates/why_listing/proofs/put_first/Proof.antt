@@ -15,22 +15,22 @@ use Rattle.why_listing.proofs.put_first.Statement.{statement}
 use Rattle.why_listing.proofs.put_first.Tie as tie
 
 -- the text of the line that was made
-abbrev text : tie.After-first-line → List ℕ
+abbrev text : tie.After-first_line-first → List ℕ
 text c = first_line (answer_of c.before.before.args.planned)
 
 -- it stands at the front of the line's bytes
-part : (c : tie.After-first-line) → take (c.first-line.result.length - 0) c.first-line.result.bytes ≡ text c
-part c = line_part c.first-line.result (text c) c.first-line.ensures
+part : (c : tie.After-first_line-first) → take (c.first_line-first.result.length - 0) c.first_line-first.result.bytes-1 ≡ text c
+part c = line_part c.first_line-first.result (text c) c.first_line-first.ensures
 
-long : (c : tie.After-first-line) → c.first-line.result.length ≤ length c.first-line.result.bytes
-long c = line_long c.first-line.result (text c) c.first-line.ensures
+long : (c : tie.After-first_line-first) → c.first_line-first.result.length ≤ length c.first_line-first.result.bytes-1
+long c = line_long c.first_line-first.result (text c) c.first_line-first.ensures
 
 -- and has no more bytes than the line
-short : (c : tie.After-bytes) → length (text c.before) ≤ line_width
+short : (c : tie.After-bytes-1) → length (text c.before) ≤ line_width
 short c =
-    let all : length c.before.first-line.result.bytes ≡ line_width = search rules in
+    let all : length c.before.first_line-first.result.bytes-1 ≡ line_width = search rules in
     let h = long c.before in
-    let taken = length-take-le (c.before.first-line.result.length - 0) c.before.first-line.result.bytes (omega (arith, h)) in
+    let taken = length-take-le (c.before.first_line-first.result.length - 0) c.before.first_line-first.result.bytes-1 (omega (arith, h)) in
     omega (arith, ap length (part c.before), h, taken)
 
 put-requires : tie.Need-put-requires

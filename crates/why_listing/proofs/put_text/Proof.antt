@@ -22,7 +22,7 @@ use Rattle.why_listing.proofs.put_text.Statement.{statement}
 use Rattle.why_listing.proofs.put_text.Tie as tie
 
 -- where the function was entered
-abbrev start : tie.After-put-first → tie.Start
+abbrev start : tie.After-put_first-first → tie.Start
 start c = c.before.before.before.before.before
 
 returns : tie.Need-returns
@@ -30,46 +30,46 @@ returns c =
     let p = c.before.before.before.before in
     let a = (start p).args in
     let text : Planned → List ℕ = λ r. answer_text (transaction_text (house_reason a.image.now)) (list_in a.plan.now (answer_of r)) (answer_of r) in
-    let e = c.enum_told.given.1 in
-    same_text (ap (λ (r : Planned). first_line (answer_of r)) e ∙ sym (ap text e)) (wider text_width (omega arith) p.put_first.ensures)
+    let e = c.enum_told-1.given.1 in
+    same_text (ap (λ (r : Planned). first_line (answer_of r)) e ∙ sym (ap text e)) (wider text_width (omega arith) p.put_first-first.ensures)
 
 -- the counts that were answered
-abbrev counts : tie.After-planned → Counts
-counts c = record { length = c.planned.given.0.0; transactions = c.planned.given.0.1.0; bus_bytes = c.planned.given.0.1.1.0 }
+abbrev counts : tie.In-Done-2 → Counts
+counts c = record { length = c.planned-1.given.0.0; transactions = c.planned-1.given.0.1.0; bus_bytes = c.planned-1.given.0.1.1.0 }
 
-abbrev first : tie.After-planned → tie.After-put-first
+abbrev first : tie.In-Done-2 → tie.After-put_first-first
 first c = c.before.before.before.before
 
 -- the answer is good, so the plan holds it
-answer : (c : tie.After-planned) → answer_of (start (first c)).args.planned ≡ good (counts c)
-answer c = ap answer_of c.planned.given.1
+answer : (c : tie.In-Done-2) → answer_of (start (first c)).args.planned-1 ≡ good (counts c)
+answer c = ap answer_of c.planned-1.given.1
 
-ready : (c : tie.After-planned) → Ready (start (first c)).args.image.now (start (first c)).args.plan.now (good (counts c))
+ready : (c : tie.In-Done-2) → Ready (start (first c)).args.image.now (start (first c)).args.plan.now (good (counts c))
 ready c =
     let a = (start (first c)).args in
     subst (Ready a.image.now a.plan.now) (answer c) (start (first c)).requires.1
 
 -- the bytes of the plan that hold it
-part : (c : tie.After-planned) → (let plan = (start (first c)).args.plan.now in take ((counts c).length - 0) plan ≡ take (counts c).length plan)
+part : (c : tie.In-Done-2) → (let plan = (start (first c)).args.plan.now in take ((counts c).length - 0) plan ≡ take (counts c).length plan)
 part c = ap (λ (n : ℕ). take n (start (first c)).args.plan.now) (sub-zero (counts c).length)
 
 -- no more than the longest has
-few : (c : tie.After-planned) → length (take ((counts c).length - 0) (start (first c)).args.plan.now) ≤ (counts c).length
+few : (c : tie.In-Done-2) → length (take ((counts c).length - 0) (start (first c)).args.plan.now) ≤ (counts c).length
 few c =
     let r = ready c in
     omega (arith, length-take-le ((counts c).length - 0) (start (first c)).args.plan.now (omega (arith, r.holds.within)))
 
-plan-lines-requires : tie.Need-plan-lines-requires
+plan-lines-requires : tie.Need-plan_lines-requires
 plan-lines-requires c κs =
     let p = c.before.before.before in
     let f = first p in
     let r = ready p in
-    let w = f.put_first.ensures in (
+    let w = f.put_first-first.ensures in (
       subst Accepted (sym (part p)) r.holds.well_formed_lem,
       (omega (arith, few p, r.holds.within, r.most, kept w, w.most, (start f).pre.0), r.whole (counts p) refl),
     )
 
-returns-2 : tie.Need-returns-2
+returns-2 : tie.Need-returns
 returns-2 c =
     let l = c.before.before in
     let p = l.before.before.before.before in
@@ -78,7 +78,7 @@ returns-2 c =
     let a = (start f).args in
     let why = house_reason a.image.now in
     let plan = a.plan.now in
-    let both = more f.put_first.ensures l.plan-lines.ensures (omega (arith, few p, r.holds.within, r.most, (start f).pre.0)) in
+    let both = more f.put_first-first.ensures l.plan_lines.ensures (omega (arith, few p, r.holds.within, r.most, (start f).pre.0)) in
     wider text_width (omega (arith, few p, r.holds.within, r.most))
     (same_text (ap₂ (λ (v : Verdict Counts) (bs : List ℕ). first_line v ++ flat_map (transaction_text why) (listed (unpack bs))) (answer p) (part p)
     ∙ planned_text why plan (counts p) r.holds ∙ sym (ap (λ (v : Verdict Counts). answer_text (transaction_text why) (list_in plan v) v) (answer p))) both)

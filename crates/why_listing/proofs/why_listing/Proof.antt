@@ -25,50 +25,50 @@ use Rattle.why_listing.proofs.why_listing.Statement.{statement}
 use Rattle.why_listing.proofs.why_listing.Tie as tie
 
 -- where the function was entered, the list, what planning answered, and what it left of the lent plan
-abbrev start : tie.After-plan-house → tie.Start
+abbrev start : tie.After-plan_house-planned → tie.Start
 start c = c.before.before.before.before
 
-abbrev list : tie.After-plan-house → List Transaction
+abbrev list : tie.After-plan_house-planned → List Transaction
 list c = list_of (board_in (start c).args.image.now) house no_limit
 
-abbrev verdict : tie.After-plan-house → Verdict Counts
-verdict c = answer_of c.plan-house.result
+abbrev verdict : tie.After-plan_house-planned → Verdict Counts
+verdict c = answer_of c.plan_house-planned.result
 
-abbrev after : tie.After-plan-house → List ℕ
-after c = c.plan-house.new.1.0
+abbrev after : tie.After-plan_house-planned → List ℕ
+after c = c.plan_house-planned.new.1.0
 
 -- they are those of a planner of the list
-planned : (c : tie.After-plan-house) → Plans (list c) (zeros wide_bytes) (after c) (verdict c)
+planned : (c : tie.After-plan_house-planned) → Plans (list c) (zeros wide_bytes) (after c) (verdict c)
 planned c =
-    plans (start c).args.image.now (zeros wide_bytes) (verdict c) c.plan-house.ensures.0
-    (λ r. (c.before.before.shared-slice-known.given r).fits) (after c) c.plan-house.ensures.1
+    plans (start c).args.image.now (zeros wide_bytes) (verdict c) c.plan_house-planned.ensures.0
+    (λ r. (c.before.before.shared_slice_known-1.given r).fits) (after c) c.plan_house-planned.ensures.1
 
-put-text-requires : tie.Need-put-text-requires
+put-text-requires : tie.Need-put_text-end-requires
 put-text-requires c κs =
     let p = c.before.before.before in (
       search rules,
       record {
         holds = holds (list p) (zeros wide_bytes) (after p) (verdict p) (planned p);
         most = search rules;
-        whole = image-whole (start p).args.image.now (zeros wide_bytes) (verdict p) p.plan-house.ensures.0;
+        whole = image-whole (start p).args.image.now (zeros wide_bytes) (verdict p) p.plan_house-planned.ensures.0;
       },
     )
 
 -- the text of the answer is the house setting's
-text : (c : tie.After-plan-house) → (let image = (start c).args.image.now in
+text : (c : tie.After-plan_house-planned) → (let image = (start c).args.image.now in
     answer_text (transaction_text (house_reason image)) (list_in (after c) (verdict c)) (verdict c) ≡ house_why_text image)
 unfolding house_why_text
 text c =
     let lines = transaction_text (house_reason (start c).args.image.now) in
-    text_of (list c) (zeros wide_bytes) (after c) lines (verdict c) (planned c) ∙ ap (answer_text lines (list c)) c.plan-house.ensures.0
+    text_of (list c) (zeros wide_bytes) (after c) lines (verdict c) (planned c) ∙ ap (answer_text lines (list c)) c.plan_house-planned.ensures.0
 
 returns : tie.Need-returns
 returns c =
     let k = c.before.before in
     let t = k.before.before.before.before.before in
     let p = t.before.before.before.before in
-    let out = (start p).args.out.now in
-    let w = t.put-text.ensures in
+    let out = (start p).args.out-1.now in
+    let w = t.put_text-end.ensures in
     let e = part w (search rules) ∙ text p in
     (k.append.ensures.0 ∙ ap (place_after out 0) e, (k.append.ensures.1 ∙ ap (appended out 0) e, omega (arith, w.answer, w.most, ap length (text p))))
 

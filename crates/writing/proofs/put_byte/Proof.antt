@@ -9,7 +9,7 @@ returns c =
     let q = c.before.before in
     let p = q.before.before.before.before in
     let start = p.before.before.before.before in
-    more (put p.put.ensures.0 p.put.ensures.1) q.put-hex.ensures start.requires
+    more (put p.put-spaced.ensures.0 p.put-spaced.ensures.1) q.put_hex.ensures start.requires
 
 pub put_byte_spec : {M : Type 1} → statement M
 put_byte_spec =

@@ -11,8 +11,8 @@ returns c =
     let q = r.before.before.before.before in
     let p = q.before.before.before.before in
     let start = p.before.before.before.before.before in
-    let w = more (put p.put.ensures.0 p.put.ensures.1) q.put-decimal.ensures (omega (arith, start.requires)) in
-    more w (put r.put2.ensures.0 r.put2.ensures.1) start.requires
+    let w = more (put p.put-begun.ensures.0 p.put-begun.ensures.1) q.put_decimal-counted.ensures (omega (arith, start.requires)) in
+    more w (put r.put.ensures.0 r.put.ensures.1) start.requires
 
 pub put_counted_spec : {M : Type 1} → statement M
 put_counted_spec =

@@ -11,7 +11,7 @@ returns c =
     let p = q.before.before.before.before in
     let start = p.before.before.before.before in
     let a = start.args in
-    more (put p.put.ensures.0 p.put.ensures.1) (passed signed a.n start.ranges.n.sfits q.put-signed.ensures) start.requires
+    more (put p.put-after.ensures.0 p.put-after.ensures.1) (passed signed a.n start.ranges.n.sfits q.put_signed.ensures) start.requires
 
 pub put_number_spec : {M : Type 1} → statement M
 put_number_spec = tie.close (tie.spec (λ c κs. search rules) (λ c κs. search rules) (λ c. search rules) returns)

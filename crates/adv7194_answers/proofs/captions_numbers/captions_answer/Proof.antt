@@ -6,11 +6,11 @@ use Rattle.adv7194_answers.specs.Answers.{captions_answer}
 use Rattle.adv7194_answers.proofs.captions_numbers.captions_answer.Statement.{statement}
 use Rattle.adv7194_answers.proofs.captions_numbers.captions_answer.Tie as tie
 
-returns : tie.Need-returns
-returns c = rw c.number.ensures (sym (ap (λ p. captions_answer (read_as p)) c.before.before.taken.given.1))
+returns : tie.Need-returns-in-Refused
+returns c = rw c.number.ensures (sym (ap (λ p. captions_answer (read_as p)) c.before.before.taken-1.given.1))
 
-returns-2 : tie.Need-returns-2
-returns-2 c = sym (ap (λ p. captions_answer (read_as p)) c.before.taken2.given.1)
+returns-2 : tie.Need-returns-in-Done
+returns-2 c = sym (ap (λ p. captions_answer (read_as p)) c.before.taken-in-Done-1.given.1)
 
 pub captions_answer_spec : {M : Type 1} → statement M
 captions_answer_spec =

@@ -8,23 +8,23 @@ use Rattle.adv7194_answers.specs.Answers.{compare_answer}
 use Rattle.adv7194_answers.proofs.compare_numbers.compare_answer.Statement.{statement}
 use Rattle.adv7194_answers.proofs.compare_numbers.compare_answer.Tie as tie
 
-returns : tie.Need-returns
-returns c = rw c.number.ensures (sym (ap (λ p. compare_answer (compared_as p)) c.before.before.compared.given.1))
+returns : tie.Need-returns-in-Refused
+returns c = rw c.number.ensures (sym (ap (λ p. compare_answer (compared_as p)) c.before.before.compared-1.given.1))
 
-returns-2 : tie.Need-returns-2
+returns-2 : tie.Need-returns-then-readable
 returns-2 c =
-    let told = c.before.before.compared2.given in
+    let told = c.before.before.compared-in-Done-1.given in
     sym (
     ap (λ p. compare_answer (compared_as p)) told.1
-    ∙ ap (λ (b : Bool). compare_answer (good (record { readable = b; fields = told.0.1.0; registers = told.0.1.1.0 }))) c.if1.true
+    ∙ ap (λ (b : Bool). compare_answer (good (record { readable = b; fields = told.0.1.0; registers = told.0.1.1.0 }))) c.if-readable.true
     )
 
-returns-3 : tie.Need-returns-3
+returns-3 : tie.Need-returns-else-readable
 returns-3 c =
-    let told = c.before.before.compared2.given in
+    let told = c.before.before.compared-in-Done-1.given in
     sym (
     ap (λ p. compare_answer (compared_as p)) told.1
-    ∙ ap (λ (b : Bool). compare_answer (good (record { readable = b; fields = told.0.1.0; registers = told.0.1.1.0 }))) c.if1.false
+    ∙ ap (λ (b : Bool). compare_answer (good (record { readable = b; fields = told.0.1.0; registers = told.0.1.1.0 }))) c.if-readable.false
     )
 
 pub compare_answer_spec : {M : Type 1} → statement M

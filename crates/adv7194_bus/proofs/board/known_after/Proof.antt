@@ -12,7 +12,7 @@ use Rattle.adv7194_bus.proofs.board.known_after.Tie as tie
 returns : tie.Need-returns
 returns c own bytes =
     let a = c.before.args in
-    c.known_by_lem.ensures own bytes
+    c.known_by.ensures own bytes
     ∙ ap (λ (κ : Kind). known_by κ (chip_at a.state.phase a.state.pointer bytes) a.known a.event) (kind-map own register_count refl)
 
 pub known_after_spec : {M : Type 1} → statement M

@@ -18,33 +18,33 @@ use Rattle.adv7194_caption_planning.proofs.pairs.pack_pair.Tie as tie
 returns : tie.Need-returns
 returns c =
     let s = c.before.before in
-    rw (none-bits s.args.register s.args.pair.now c.if1.true) (put-none s.args.plan.now s.args.pending s.requires.0)
+    rw (none-bits s.args.register s.args.pair.now c.if-pair-eq0.true) (put-none s.args.plan-1.now s.args.pending s.requires.0)
 
 -- where the function was entered
-abbrev start : tie.After-pair-bytes → tie.Start
+abbrev start : tie.After-pair_bytes-bytes → tie.Start
 start c = c.before.before.before
 
 -- the transaction that is packed
-abbrev packs : tie.After-pair-bytes → Transaction
-packs c = record { subaddress = (start c).args.register; bytes = c.pair-bytes.result }
+abbrev packs : tie.After-pair_bytes-bytes → Transaction
+packs c = record { subaddress = (start c).args.register; bytes = c.pair_bytes-bytes.result }
 
 -- it is the pair's
-bits : (c : tie.After-pair-bytes) → list_bits (pair_at (start c).args.register (start c).args.pair.now) ≡ transaction_bits (packs c)
+bits : (c : tie.After-pair_bytes-bytes) → list_bits (pair_at (start c).args.register (start c).args.pair.now) ≡ transaction_bits (packs c)
 bits c =
     let a = (start c).args in
-    pair-bits a.register a.pair.now (omega (arith, c.before.if1.false))
-    ∙ ap (λ (l : List ℕ). transaction_bits (record { subaddress = a.register; bytes = l })) (sym c.pair-bytes.ensures)
+    pair-bits a.register a.pair.now (omega (arith, c.before.if-pair-eq0.false))
+    ∙ ap (λ (l : List ℕ). transaction_bits (record { subaddress = a.register; bytes = l })) (sym c.pair_bytes-bytes.ensures)
 
-pack-transaction-requires : tie.Need-pack-transaction-requires
+pack-transaction-requires : tie.Need-pack_transaction-requires
 pack-transaction-requires c κs =
     let p = c.before.before in
     let s = start p in
     (s.pre.0, s.pre.1, search rules, omega (arith, s.pre.3, ap length (bits p), transaction_bits-length (packs p)))
 
-returns-2 : tie.Need-returns-2
+returns-2 : tie.Need-returns
 returns-2 c =
     let t = c.before.before in
-    rw (bits t.before.before.before) t.pack-transaction.ensures
+    rw (bits t.before.before.before) t.pack_transaction.ensures
 
 pub pack_pair_spec : {M : Type 1} → statement M
 pack_pair_spec =

@@ -30,20 +30,20 @@ second c = get_or c.args.pair.now 1 (pos 0)
 same : (z : ℤ) → mag z < 2 ^ 31 → to_z w32 (of_z w32 z) ≡ z
 same z h = to_z-of_z w32 z (record { sfits = h })
 
-caption-byte-requires : tie.Need-caption-byte-requires
-caption-byte-requires c κs = ap is_character (same (first c.before) c.caption-byte-arg.given) ∙ (known c.before).front
+caption-byte-requires : tie.Need-caption_byte-first-requires
+caption-byte-requires c κs = ap is_character (same (first c.before) c.caption_byte-arg-1.given) ∙ (known c.before).front
 
-caption-byte-requires-2 : tie.Need-caption-byte-requires-2
+caption-byte-requires-2 : tie.Need-caption_byte-second-requires
 caption-byte-requires-2 c κs =
     let s = c.before.before.before in
-    ap is_character (same (second s) c.caption-byte-arg2.given) ∙ (known s).back
+    ap is_character (same (second s) c.caption_byte-arg-2-1.given) ∙ (known s).back
 
 returns : tie.Need-returns
 returns c =
     let b = c.before.before in
     let s = b.before.before in
-    ap₂ (λ (x y : ℕ). x ∷ y ∷ []) (b.caption-byte.ensures ∙ ap caption_byte (same (first s) b.before.caption-byte-arg.given))
-    (c.caption-byte2.ensures ∙ ap caption_byte (same (second s) c.before.caption-byte-arg2.given))
+    ap₂ (λ (x y : ℕ). x ∷ y ∷ []) (b.caption_byte-first.ensures ∙ ap caption_byte (same (first s) b.before.caption_byte-arg-1.given))
+    (c.caption_byte-second.ensures ∙ ap caption_byte (same (second s) c.before.caption_byte-arg-2-1.given))
     ∙ sym (known s).bytes
 
 pub pair_bytes_spec : {M : Type 1} → statement M

@@ -16,19 +16,19 @@ use Rattle.adv7194_codes.proofs.brightness.brightness_code.Statement.{statement}
 use Rattle.adv7194_codes.proofs.brightness.brightness_code.Tie as tie
 
 -- the flag of the range test
-judged : (c : tie.After-out-of-range) → c.out_of_range.result ≡ outside brightness.row c.before.args.tenths
+judged : (c : tie.After-out_of_range) → c.out_of_range.result ≡ outside brightness.row c.before.args.tenths
 judged c = rw (to_z-of_z w32 c.before.args.tenths c.before.ranges.tenths) at c.out_of_range.ensures
 
-inside : (c : tie.Else1) → outside brightness.row c.before.before.args.tenths ≡ false
-inside c = sym (judged c.before) ∙ c.if1.false
+inside : (c : tie.Else-out_of_range) → outside brightness.row c.before.before.args.tenths ≡ false
+inside c = sym (judged c.before) ∙ c.if-out_of_range.false
 
 -- the level that was found
-found : (c : tie.After-nearest-level) → c.nearest-level.result ≡ nearest_times 2015631 10000000 c.before.before.before.args.tenths
-found c = rw (to_z-of_z w32 c.before.before.before.args.tenths c.before.before.before.ranges.tenths) at c.nearest-level.ensures.0
+found : (c : tie.After-nearest_level-level) → c.nearest_level-level.result ≡ nearest_times 2015631 10000000 c.before.before.before.args.tenths
+found c = rw (to_z-of_z w32 c.before.before.before.args.tenths c.before.before.before.ranges.tenths) at c.nearest_level-level.ensures.0
 
 -- what is computed at each level
-at : (P : ℤ → Bool) → T (everywhere 15 30 P) → (c : tie.After-nearest-level) → T (P c.nearest-level.result)
-at P t c = in_range 15 30 P t c.nearest-level.result c.nearest-level.ensures.1
+at : (P : ℤ → Bool) → T (everywhere 15 30 P) → (c : tie.After-nearest_level-level) → T (P c.nearest_level-level.result)
+at P t c = in_range 15 30 P t c.nearest_level-level.result c.nearest_level-level.ensures.1
 
 -- the code's values
 abbrev negative : ℤ → Bool
@@ -42,22 +42,22 @@ abbrev magnitude : ℤ → ℕ
 magnitude l = nat_abs (back w32 (opposite l))
 
 returns : tie.Need-returns
-returns c = outside-refused brightness _ (sym (judged c.before) ∙ c.if1.true) refl
+returns c = outside-refused brightness _ (sym (judged c.before) ∙ c.if-out_of_range.true) refl
 
-nearest-level-requires : tie.Need-nearest-level-requires
+nearest-level-requires : tie.Need-nearest_level-level-requires
 nearest-level-requires c κs = rw (to_z-of_z w32 c.before.before.args.tenths c.before.before.ranges.tenths) (inside c)
 
 -- what is computed at each negative level
-below : (P : ℤ → Bool) → T (everywhere 15 30 (λ l. imp (negative l) (P l))) → (c : tie.Then2) → T (P c.before.nearest-level.result)
-below P t c = imp→ _ _ (at (λ l. imp (negative l) (P l)) t c.before) c.if2.true
+below : (P : ℤ → Bool) → T (everywhere 15 30 (λ l. imp (negative l) (P l))) → (c : tie.Then-level-lt0) → T (P c.before.nearest_level-level.result)
+below P t c = imp→ _ _ (at (λ l. imp (negative l) (P l)) t c.before) c.if-level-lt0.true
 
-cast-complement : tie.Need-overflow-cast-complement
+cast-complement : tie.Need-overflow_cast-level
 cast-complement c = (
   below (λ l. non_neg (back w32 (opposite l))) tt c,
   record { fits = ltb→lt _ _ (below (λ l. ltb (magnitude l) 256) tt c) },
 )
 
-returns-2 : tie.Need-returns-2
+returns-2 : tie.Need-returns-then-level-lt0
 unfolding code_by
 returns-2 c =
     inside_coded brightness _ _ (inside c.before.before.before)
@@ -65,17 +65,17 @@ returns-2 c =
     ∙ eqb→eq _ _ (below (λ l. eqb (128 - magnitude l) (twos_complement 7 l)) tt c.before)
     ∙ ap (twos_complement 7) (found c.before.before))
 
-cast-t9 : tie.Need-overflow-cast-t9
+cast-t9 : tie.Need-overflow_cast-result
 cast-t9 c = (
-  imp→not _ _ (at (λ l. imp (not (negative l)) (non_neg (back w32 l))) tt c.before) c.if2.false,
+  imp→not _ _ (at (λ l. imp (not (negative l)) (non_neg (back w32 l))) tt c.before) c.if-level-lt0.false,
   record { fits = ltb→lt _ _ (at (λ l. ltb (nat_abs (back w32 l)) 256) tt c.before) },
 )
 
-returns-3 : tie.Need-returns-3
+returns-3 : tie.Need-returns
 unfolding code_by
 returns-3 c =
     inside_coded brightness _ _ (inside c.before.before)
-    (eqb→eq _ _ (imp→not _ _ (at (λ l. imp (not (negative l)) (eqb (nat_abs (back w32 l)) (twos_complement 7 l))) tt c.before) c.if2.false)
+    (eqb→eq _ _ (imp→not _ _ (at (λ l. imp (not (negative l)) (eqb (nat_abs (back w32 l)) (twos_complement 7 l))) tt c.before) c.if-level-lt0.false)
     ∙ ap (twos_complement 7) (found c.before))
 
 pub brightness_code_spec : {M : Type 1} → statement M

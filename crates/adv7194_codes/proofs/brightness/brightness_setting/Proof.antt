@@ -34,22 +34,22 @@ unused : (c : ℕ) → T (not (used c)) → refused 3 ≡ decode brightness c
 unused c h =
     decode-outside brightness c refl (λ z. no_code brightness c z (λ o e. T_not (used c) h (subst (λ (k : ℕ). T (used k)) e (codes-used z o))))
 
-returns : tie.Need-returns
+returns : tie.Need-returns-then-code-gt-HIGHEST_CODE
 returns c = unused c.before.args.code (from_at (λ k. not (used k)) 128 128 tt c.before.args.code (omega arith) (omega arith))
 
-returns-2 : tie.Need-returns-2
+returns-2 : tie.Need-returns-then-code-lt-LOWEST_NEGATIVE
 returns-2 c =
     let code = c.before.before.before.args.code in
     unused code (from_at (λ k. not (used k)) 31 82 tt code (omega arith) (omega (arith, ltb-true)))
 
 -- what is computed at each code that a setting has
-at : (P : ℕ → Bool) → T (below P 31) → T (below (λ k. P (113 + k)) 15) → (c : tie.Joined2) → T (P c.before.before.args.code)
+at : (P : ℕ → Bool) → T (below P 31) → T (below (λ k. P (113 + k)) 15) → (c : tie.Joined-else-code-gt-HIGHEST_POSITIVE) → T (P c.before.before.args.code)
 at P low high c =
     let code = c.before.before.args.code in
     ⊎_elim
     (λ w. from_at P 113 15 high code (ltb-false code 113 w.1.left) (omega arith))
     (λ w. below_at P 31 low code (omega arith))
-    c.if2.branch
+    c.if-code-gt-HIGHEST_POSITIVE.branch
 
 -- the code's values
 abbrev negative : ℕ → Bool
@@ -68,33 +68,33 @@ abbrev negated : ℕ → ℤ
 negated k = pos 0 -ℤ to_z w32 (least k)
 
 -- the level that either arm chose
-levelled : (c : tie.Joined4) → c.if4.level ≡ level c.before.before.before.args.code
-levelled c = ⊎_elim (λ w. rw w.0.taken w.1) (λ w. rw w.0.left w.1) c.if4.branch
+levelled : (c : tie.Joined-negative) → c.if-negative.level ≡ level c.before.before.before.args.code
+levelled c = ⊎_elim (λ w. rw w.0.taken w.1) (λ w. rw w.0.left w.1) c.if-negative.branch
 
-least-tenths-requires : tie.Need-least-tenths-requires
+least-tenths-requires : tie.Need-least_tenths-tenths-requires
 least-tenths-requires c κs = rw (levelled c.before) (leb→le _ _ (at (λ k. leb (level k) 30) tt tt c.before.before))
 
 -- the magnitude that was found
-found : (c : tie.After-least-tenths) → c.least-tenths.result ≡ least c.before.before.before.before.before.args.code
-found c = c.least-tenths.ensures.0 ∙ ap least_tenths (levelled c.before.before)
+found : (c : tie.After-least_tenths-tenths) → c.least_tenths-tenths.result ≡ least c.before.before.before.before.before.args.code
+found c = c.least_tenths-tenths.ensures.0 ∙ ap least_tenths (levelled c.before.before)
 
-sub-t22 : tie.Need-overflow-sub-t22
+sub-t22 : tie.Need-overflow_sub-result
 sub-t22 c = rw (found c.before) (fits→ w32 _ (at (λ k. sfitsb w32 (negated k)) tt tt c.before.before.before.before))
 
-returns-3 : tie.Need-returns-3
+returns-3 : tie.Need-returns-then-negative-2
 unfolding decode code_by nearest first_from
 returns-3 c =
     rw (found c.before)
     (is_setting→ _ _
-    (imp→ _ _ (at (λ k. imp (negative k) (is_setting (back w32 (negated k)) (decode brightness k))) tt tt c.before.before.before.before) c.if5.true))
+    (imp→ _ _ (at (λ k. imp (negative k) (is_setting (back w32 (negated k)) (decode brightness k))) tt tt c.before.before.before.before) c.if-negative-2.true))
 
-returns-4 : tie.Need-returns-4
+returns-4 : tie.Need-returns-else-negative-2
 unfolding decode code_by nearest first_from
 returns-4 c =
     rw (found c.before)
     (is_setting→ _ _
     (imp→not _ _
-    (at (λ k. imp (not (negative k)) (is_setting (to_z w32 (least k)) (decode brightness k))) tt tt c.before.before.before.before) c.if5.false))
+    (at (λ k. imp (not (negative k)) (is_setting (to_z w32 (least k)) (decode brightness k))) tt tt c.before.before.before.before) c.if-negative-2.false))
 
 pub brightness_setting_spec : {M : Type 1} → statement M
 brightness_setting_spec =

@@ -15,12 +15,12 @@ use Rattle.adv7194_codes.proofs.clamp_delay.clamp_delay_code.Statement.{statemen
 use Rattle.adv7194_codes.proofs.clamp_delay.clamp_delay_code.Tie as tie
 
 -- the flag of the range test
-judged : (c : tie.After-out-of-range) → c.out_of_range.result ≡ outside clamp_delay.row c.before.args.clocks
+judged : (c : tie.After-out_of_range) → c.out_of_range.result ≡ outside clamp_delay.row c.before.args.clocks
 judged c = rw (to_z-of_z w32 c.before.args.clocks c.before.ranges.clocks) at c.out_of_range.ensures
 
 -- what is computed at each setting of the range
-at : (P : ℤ → Bool) → T (everywhere 3 3 P) → (c : tie.Else1) → T (P c.before.before.args.clocks)
-at P t c = in_range 3 3 P t c.before.before.args.clocks (sym (judged c.before) ∙ c.if1.false)
+at : (P : ℤ → Bool) → T (everywhere 3 3 P) → (c : tie.Else-out_of_range) → T (P c.before.before.args.clocks)
+at P t c = in_range 3 3 P t c.before.before.args.clocks (sym (judged c.before) ∙ c.if-out_of_range.false)
 
 -- the code's values
 abbrev negative : ℤ → Bool
@@ -33,35 +33,35 @@ abbrev signed : ℤ → ℤ
 signed s = pos 4 +ℤ back w32 (opposite s)
 
 returns : tie.Need-returns
-returns c = outside-refused clamp_delay _ (sym (judged c.before) ∙ c.if1.true) refl
+returns c = outside-refused clamp_delay _ (sym (judged c.before) ∙ c.if-out_of_range.true) refl
 
-returns-2 : tie.Need-returns-2
+returns-2 : tie.Need-returns-then-clocks-lt0
 unfolding code_by
 returns-2 c =
-    inside_coded clamp_delay _ _ (sym (judged c.before.before) ∙ c.before.if1.false)
-    (eqb→eq _ _ (imp→ _ _ (at (λ s. imp (negative s) (eqb (nat_abs (back w32 (signed s))) (code_of clamp_delay s))) tt c.before) c.if2.true))
+    inside_coded clamp_delay _ _ (sym (judged c.before.before) ∙ c.before.if-out_of_range.false)
+    (eqb→eq _ _ (imp→ _ _ (at (λ s. imp (negative s) (eqb (nat_abs (back w32 (signed s))) (code_of clamp_delay s))) tt c.before) c.if-clocks-lt0.true))
 
-returns-3 : tie.Need-returns-3
+returns-3 : tie.Need-returns
 unfolding code_by
 returns-3 c =
-    inside_coded clamp_delay _ _ (sym (judged c.before.before) ∙ c.before.if1.false)
-    (eqb→eq _ _ (imp→not _ _ (at (λ s. imp (not (negative s)) (eqb (nat_abs (back w32 s)) (code_of clamp_delay s))) tt c.before) c.if2.false))
+    inside_coded clamp_delay _ _ (sym (judged c.before.before) ∙ c.before.if-out_of_range.false)
+    (eqb→eq _ _ (imp→not _ _ (at (λ s. imp (not (negative s)) (eqb (nat_abs (back w32 s)) (code_of clamp_delay s))) tt c.before) c.if-clocks-lt0.false))
 
-sub-t5 : tie.Need-overflow-sub-t5
+sub-t5 : tie.Need-overflow_sub-result
 sub-t5 c = fits→ w32 _ (at (λ s. sfitsb w32 (opposite s)) tt c.before)
 
-add-t6 : tie.Need-overflow-add-t6
+add-t6 : tie.Need-overflow_add-result
 add-t6 c = fits→ w32 _ (at (λ s. sfitsb w32 (signed s)) tt c.before)
 
-cast-t7 : tie.Need-overflow-cast-t7
+cast-t7 : tie.Need-overflow_cast-result
 cast-t7 c = (
   at (λ s. non_neg (back w32 (signed s))) tt c.before,
   record { fits = ltb→lt _ _ (at (λ s. ltb (nat_abs (back w32 (signed s))) 256) tt c.before) },
 )
 
-cast-t8 : tie.Need-overflow-cast-t8
+cast-t8 : tie.Need-overflow_cast-result-2
 cast-t8 c = (
-  imp→not _ _ (at (λ s. imp (not (negative s)) (non_neg (back w32 s))) tt c.before) c.if2.false,
+  imp→not _ _ (at (λ s. imp (not (negative s)) (non_neg (back w32 s))) tt c.before) c.if-clocks-lt0.false,
   record { fits = ltb→lt _ _ (at (λ s. ltb (nat_abs (back w32 s)) 256) tt c.before) },
 )
 

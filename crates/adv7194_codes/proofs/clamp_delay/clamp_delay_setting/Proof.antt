@@ -16,7 +16,7 @@ returns : tie.Need-returns
 unfolding decode code_by first_from
 returns c = is_refused→ 3 _ (from_at (λ k. is_refused 3 (decode clamp_delay k)) 8 248 tt c.before.args.code (omega arith) (omega arith))
 
-returns-2 : tie.Need-returns-2
+returns-2 : tie.Need-returns-then-code-eq-SIGN_CODE
 unfolding decode code_by first_from
 returns-2 c = is_refused→ 4 _ (from_at (λ k. is_refused 4 (decode clamp_delay k)) 4 1 tt c.before.before.args.code (omega arith) (omega arith))
 
@@ -24,17 +24,17 @@ returns-2 c = is_refused→ 4 _ (from_at (λ k. is_refused 4 (decode clamp_delay
 abbrev negated : ℕ → ℤ
 negated k = pos 0 -ℤ back w32 (pos (k - 4))
 
-sub-t7 : tie.Need-overflow-sub-t7
+sub-t7 : tie.Need-overflow_sub-result-then-code-gt-SIGN_CODE
 sub-t7 c = fits→ w32 _ (from_at (λ k. sfitsb w32 (negated k)) 5 3 tt c.before.before.before.args.code (omega arith) (omega arith))
 
-returns-3 : tie.Need-returns-3
+returns-3 : tie.Need-returns-then-code-gt-SIGN_CODE
 unfolding decode code_by first_from
 returns-3 c =
     let code = c.before.before.before.args.code in
     is_setting→ (back w32 (negated code)) _
     (from_at (λ k. is_setting (back w32 (negated k)) (decode clamp_delay k)) 5 3 tt code (omega arith) (omega arith))
 
-returns-4 : tie.Need-returns-4
+returns-4 : tie.Need-returns
 unfolding decode code_by first_from
 returns-4 c =
     let code = c.before.before.before.args.code in

@@ -15,11 +15,11 @@ use Rattle.adv7194_codes.proofs.hue.hue_code.Statement.{statement}
 use Rattle.adv7194_codes.proofs.hue.hue_code.Tie as tie
 
 -- the flag of the range test
-judged : (c : tie.After-out-of-range) → c.out_of_range.result ≡ outside hue.row c.before.args.tenths
+judged : (c : tie.After-out_of_range) → c.out_of_range.result ≡ outside hue.row c.before.args.tenths
 judged c = rw (to_z-of_z w32 c.before.args.tenths c.before.ranges.tenths) at c.out_of_range.ensures
 
-inside : (c : tie.Else1) → outside hue.row c.before.before.args.tenths ≡ false
-inside c = sym (judged c.before) ∙ c.if1.false
+inside : (c : tie.Else-out_of_range) → outside hue.row c.before.before.args.tenths ≡ false
+inside c = sym (judged c.before) ∙ c.if-out_of_range.false
 
 -- the number of steps that was found
 found : (c : tie.After-steps) → c.steps.result ≡ nearest_times 256 450 c.before.before.before.args.tenths
@@ -34,18 +34,18 @@ abbrev sum : ℤ → ℤ
 sum r = pos 128 +ℤ back w32 r
 
 returns : tie.Need-returns
-returns c = outside-refused hue _ (sym (judged c.before) ∙ c.if1.true) refl
+returns c = outside-refused hue _ (sym (judged c.before) ∙ c.if-out_of_range.true) refl
 
 steps-requires : tie.Need-steps-requires
 steps-requires c κs = rw (to_z-of_z w32 c.before.before.args.tenths c.before.before.ranges.tenths) (inside c)
 
-cast-t6 : tie.Need-overflow-cast-t6
+cast-t6 : tie.Need-overflow_cast-result
 cast-t6 c = (
   at (λ r. non_neg (back w32 (sum r))) tt c,
   record { fits = ltb→lt _ _ (at (λ r. ltb (nat_abs (back w32 (sum r))) 256) tt c) },
 )
 
-returns-2 : tie.Need-returns-2
+returns-2 : tie.Need-returns
 unfolding code_by
 returns-2 c =
     inside_coded hue _ _ (inside c.before)

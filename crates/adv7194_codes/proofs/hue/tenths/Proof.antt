@@ -34,13 +34,13 @@ abbrev quotient : ℤ → ℤ
 quotient s = quot_z (back w32 (sum s)) (pos 512)
 
 -- the offset that either arm chose
-chosen : (c : tie.Joined1) → c.if1.offset ≡ offset c.before.args.steps
-chosen c = ⊎_elim (λ w. rw w.0.taken w.1) (λ w. rw w.0.left w.1) c.if1.branch
+chosen : (c : tie.Joined-product-lt0) → c.if-product-lt0.offset ≡ offset c.before.args.steps
+chosen c = ⊎_elim (λ w. rw w.0.taken w.1) (λ w. rw w.0.left w.1) c.if-product-lt0.branch
 
-add-result : tie.Need-overflow-add-result
+add-result : tie.Need-overflow_add-result
 add-result c = rw (chosen c) (fits→ w32 _ (at (λ s. sfitsb w32 (sum s)) tt c.before))
 
-div-result : tie.Need-nonzero-div-result
+div-result : tie.Need-nonzero_div-result
 div-result c = rw (chosen c) (lit< tt, fits→ w32 _ (at (λ s. sfitsb w32 (quotient s)) tt c.before))
 
 returns : tie.Need-returns

@@ -15,33 +15,33 @@ use Rattle.adv7194_codes.proofs.sharpness.sharpness_code.Statement.{statement}
 use Rattle.adv7194_codes.proofs.sharpness.sharpness_code.Tie as tie
 
 -- the flag of the range test
-judged : (c : tie.After-out-of-range) → c.out_of_range.result ≡ outside sharpness.row c.before.args.step
+judged : (c : tie.After-out_of_range) → c.out_of_range.result ≡ outside sharpness.row c.before.args.step
 judged c = rw (to_z-of_z w32 c.before.args.step c.before.ranges.step) at c.out_of_range.ensures
 
 -- what is computed at each step of the range
-at : (P : ℤ → Bool) → T (everywhere 6 6 P) → (c : tie.Else1) → T (P c.before.before.args.step)
-at P t c = in_range 6 6 P t c.before.before.args.step (sym (judged c.before) ∙ c.if1.false)
+at : (P : ℤ → Bool) → T (everywhere 6 6 P) → (c : tie.Else-out_of_range) → T (P c.before.before.args.step)
+at P t c = in_range 6 6 P t c.before.before.args.step (sym (judged c.before) ∙ c.if-out_of_range.false)
 
 -- the code's sum
 abbrev sum : ℤ → ℤ
 sum s = back w32 s +ℤ pos 6
 
 returns : tie.Need-returns
-returns c = outside-refused sharpness _ (sym (judged c.before) ∙ c.if1.true) refl
+returns c = outside-refused sharpness _ (sym (judged c.before) ∙ c.if-out_of_range.true) refl
 
-add-t4 : tie.Need-overflow-add-t4
+add-t4 : tie.Need-overflow_add-result
 add-t4 c = fits→ w32 _ (at (λ s. sfitsb w32 (sum s)) tt c)
 
-cast-t5 : tie.Need-overflow-cast-t5
+cast-t5 : tie.Need-overflow_cast-result
 cast-t5 c = (
   at (λ s. non_neg (back w32 (sum s))) tt c,
   record { fits = ltb→lt _ _ (at (λ s. ltb (nat_abs (back w32 (sum s))) 256) tt c) },
 )
 
-returns-2 : tie.Need-returns-2
+returns-2 : tie.Need-returns
 unfolding code_by
 returns-2 c =
-    inside_coded sharpness _ _ (sym (judged c.before) ∙ c.if1.false)
+    inside_coded sharpness _ _ (sym (judged c.before) ∙ c.if-out_of_range.false)
     (eqb→eq _ _ (at (λ s. eqb (nat_abs (back w32 (sum s))) (code_of sharpness s)) tt c))
 
 pub sharpness_code_spec : {M : Type 1} → statement M

@@ -26,23 +26,23 @@ abbrev row_in : tie.Start → Row
 row_in c = row_of c.args.packed
 
 -- the flag of the range test
-judged : (c : tie.After-out-of-range) → c.out_of_range.result ≡ outside (row_in c.before) c.before.args.setting
+judged : (c : tie.After-out_of_range) → c.out_of_range.result ≡ outside (row_in c.before) c.before.args.setting
 judged c = rw (same c.before) at c.out_of_range.ensures
 
-inside : (c : tie.Else1) → outside (row_in c.before.before) c.before.before.args.setting ≡ false
-inside c = sym (judged c.before) ∙ c.if1.false
+inside : (c : tie.Else-out_of_range) → outside (row_in c.before.before) c.before.before.args.setting ≡ false
+inside c = sym (judged c.before) ∙ c.if-out_of_range.false
 
 -- the setting, in the range
-in-scale : (c : tie.Else1) → Scaled (row_in c.before.before) c.before.before.args.setting
+in-scale : (c : tie.Else-out_of_range) → Scaled (row_in c.before.before) c.before.before.args.setting
 in-scale c = scaled (row_in c.before.before) c.before.before.requires c.before.before.args.setting (inside c)
 
 returns : tie.Need-returns
-returns c = outside-refused (in_thousandths (row_in c.before.before)) _ (sym (judged c.before) ∙ c.if1.true) refl
+returns c = outside-refused (in_thousandths (row_in c.before.before)) _ (sym (judged c.before) ∙ c.if-out_of_range.true) refl
 
-cast-nearest-2 : tie.Need-overflow-cast-nearest-2
+cast-nearest-2 : tie.Need-overflow_cast-nearest-2
 cast-nearest-2 c = rw (same c.before.before) ((in-scale c).positive, record { fits = omega (arith, (in-scale c).bound) })
 
-mul-nearest : tie.Need-overflow-mul-nearest
+mul-nearest : tie.Need-overflow_mul-setting
 mul-nearest c = rw (same c.before.before) (omega (arith, (in-scale c).bound))
 
 nearest-requires : tie.Need-nearest-requires
@@ -52,7 +52,7 @@ nearest-requires c κs = rw (same c.before.before) (omega (arith, (in-scale c).b
 found : (c : tie.After-nearest) → c.nearest.result ≡ nearest (128 * nat_abs c.before.before.before.args.setting) 1000
 found c = rw (same c.before.before.before) at c.nearest.ensures
 
-returns-2 : tie.Need-returns-2
+returns-2 : tie.Need-returns
 returns-2 c =
     let s = c.before.before.before in
     inside_coded (in_thousandths (row_in s)) s.args.setting _ (inside c.before) (found c ∙ (in-scale c.before).code)

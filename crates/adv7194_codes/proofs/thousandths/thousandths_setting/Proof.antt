@@ -14,29 +14,29 @@ use Rattle.adv7194_codes.proofs.Rounded.{least-small, read_least, read_none}
 use Rattle.adv7194_codes.proofs.thousandths.thousandths_setting.Statement.{statement}
 use Rattle.adv7194_codes.proofs.thousandths.thousandths_setting.Tie as tie
 
-small : (c : tie.After-least-multiple) → c.least-multiple.result ≤ 1996
-small c = least-small c.before.args.code _ c.before.ranges.code.fits c.least-multiple.ensures
+small : (c : tie.After-least_multiple-setting) → c.least_multiple-setting.result ≤ 1996
+small c = least-small c.before.args.code _ c.before.ranges.code.fits c.least_multiple-setting.ensures
 
 -- the least setting as a signed number
-same : (c : tie.After-least-multiple) → to_z w32 c.least-multiple.result ≡ pos c.least-multiple.result
-same c = as_signed c.least-multiple.result (omega (arith, small c))
+same : (c : tie.After-least_multiple-setting) → to_z w32 c.least_multiple-setting.result ≡ pos c.least_multiple-setting.result
+same c = as_signed c.least_multiple-setting.result (omega (arith, small c))
 
 -- the flag of the range test
-judged : (c : tie.After-out-of-range) → c.out_of_range.result ≡ outside (row_of c.before.before.args.packed) (pos c.before.least-multiple.result)
+judged : (c : tie.After-out_of_range) → c.out_of_range.result ≡ outside (row_of c.before.before.args.packed) (pos c.before.least_multiple-setting.result)
 judged c = rw (same c.before) at c.out_of_range.ensures
 
 returns : tie.Need-returns
 returns c =
     let l = c.before.before in
-    read_none (row_of l.before.args.packed) l.before.requires l.before.args.code _ (sym (judged c.before) ∙ c.if1.true)
-    l.least-multiple.ensures
+    read_none (row_of l.before.args.packed) l.before.requires l.before.args.code _ (sym (judged c.before) ∙ c.if-out_of_range.true)
+    l.least_multiple-setting.ensures
 
-returns-2 : tie.Need-returns-2
+returns-2 : tie.Need-returns
 returns-2 c =
     let l = c.before.before in
     ap accepted (same l)
-    ∙ read_least (row_of l.before.args.packed) l.before.requires l.before.args.code _ (sym (judged c.before) ∙ c.if1.false)
-    l.least-multiple.ensures
+    ∙ read_least (row_of l.before.args.packed) l.before.requires l.before.args.code _ (sym (judged c.before) ∙ c.if-out_of_range.false)
+    l.least_multiple-setting.ensures
 
 pub thousandths_setting_spec : {M : Type 1} → statement M
 thousandths_setting_spec =

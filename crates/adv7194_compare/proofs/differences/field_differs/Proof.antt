@@ -14,42 +14,42 @@ record Inv (a b : List ℕ) (n r : ℕ) : Type 0 where
   inside : r ≤ register_count
   same : same_from a b n r (register_count - r) ≡ same_from a b n 0 register_count
 
-abbrev invariant-loop : tie.invariant-loop
+abbrev invariant-loop : tie.invariant-loop-register
 invariant-loop a b field register₀ register = Inv a b field register
 
-abbrev decreases-loop : tie.decreases-loop
+abbrev decreases-loop : tie.decreases-loop-register
 decreases-loop a b field register₀ register = register_count - register
 
-abbrev start : tie.At-loop invariant-loop decreases-loop → tie.Start invariant-loop decreases-loop
+abbrev start : tie.At-loop-register invariant-loop decreases-loop → tie.Start invariant-loop decreases-loop
 start c = c.before.before.before
 
 returns : tie.Need-returns invariant-loop decreases-loop
 returns c =
     let w = c.before.before.before in
     let l = w.before in
-    let p = c.before.before.own_bits_lem.ensures in
-    let q = c.before.own-bits2.ensures in
+    let p = c.before.before.own_bits.ensures in
+    let q = c.before.own_bits-in-loop-register.ensures in
     let s = (start l).args in
-    let k = other_turn s.a.now s.b.now s.field l.loop.register w.loop-test.true (λ e. c.if1.true (p ∙ e ∙ sym q)) in
-    sym (ap not (sym l.loop.invariant.same ∙ k))
+    let k = other_turn s.a.now s.b.now s.field l.loop-register.register w.loop-register-test.true (λ e. c.if-own_bits.true (p ∙ e ∙ sym q)) in
+    sym (ap not (sym l.loop-register.invariant.same ∙ k))
 
-loop-again : tie.Need-loop-preserved invariant-loop decreases-loop
+loop-again : tie.Need-loop-register-preserved invariant-loop decreases-loop
 loop-again c =
     let w = c.before.before.before in
     let l = w.before in
-    let p = c.before.before.own_bits_lem.ensures in
-    let q = c.before.own-bits2.ensures in
+    let p = c.before.before.own_bits.ensures in
+    let q = c.before.own_bits-in-loop-register.ensures in
     let s = (start l).args in
     record {
-      inside = omega (arith, w.loop-test.true);
-      same = same_turn s.a.now s.b.now s.field l.loop.register w.loop-test.true (sym p ∙ c.if1.false ∙ q) ∙ l.loop.invariant.same;
+      inside = omega (arith, w.loop-register-test.true);
+      same = same_turn s.a.now s.b.now s.field l.loop-register.register w.loop-register-test.true (sym p ∙ c.if-own_bits.false ∙ q) ∙ l.loop-register.invariant.same;
     }
 
-returns-2 : tie.Need-returns-2 invariant-loop decreases-loop
+returns-2 : tie.Need-returns invariant-loop decreases-loop
 returns-2 c =
     let l = c.before in
     let s = (start l).args in
-    sym (ap not (sym l.loop.invariant.same ∙ same_end s.a.now s.b.now s.field l.loop.register c.loop-test.false))
+    sym (ap not (sym l.loop-register.invariant.same ∙ same_end s.a.now s.b.now s.field l.loop-register.register c.loop-register-test.false))
 
 pub field_differs_spec : {M : Type 1} → statement M
 field_differs_spec =

@@ -9,30 +9,30 @@ use Rattle.adv7194_compare.proofs.DifferenceLaws.{Gathering, gathering_begins, b
 use Rattle.adv7194_compare.proofs.differences.fields_differing.Statement.{statement}
 use Rattle.adv7194_compare.proofs.differences.fields_differing.Tie as tie
 
-abbrev invariant-loop : tie.invariant-loop
+abbrev invariant-loop : tie.invariant-loop-field
 invariant-loop a b map₀ field₀ map field = Gathering (field_differs a b) 1 29 map field
 
-abbrev decreases-loop : tie.decreases-loop
+abbrev decreases-loop : tie.decreases-loop-field
 decreases-loop a b map₀ field₀ map field = 29 - field
 
 -- a field is one of those
-inside : (c : tie.In-loop invariant-loop decreases-loop) → c.before.loop.field < 29
-inside c = omega (arith, c.loop-test.true)
+inside : (c : tie.In-loop-field invariant-loop decreases-loop) → c.before.loop-field.field < 29
+inside c = omega (arith, c.loop-field-test.true)
 
-add-map : tie.Need-overflow-add-map invariant-loop decreases-loop
+add-map : tie.Need-overflow_add-map invariant-loop decreases-loop
 add-map c =
     let i = c.before.before in
-    record { fits = bit-fits i.before.loop.invariant (inside i) c.before.field-differs.ensures 32 (omega arith) c.if1.true }
+    record { fits = bit-fits i.before.loop-field.invariant (inside i) c.before.field_differs.ensures 32 (omega arith) c.if-field_differs.true }
 
-loop-again : tie.Need-loop-preserved invariant-loop decreases-loop
+loop-again : tie.Need-loop-field-preserved invariant-loop decreases-loop
 loop-again c =
     let i = c.before.before in
-    let g = i.before.loop.invariant in
-    let e = c.before.field-differs.ensures in
-    ⊎_elim (λ w. with-bit g (inside i) e 32 (omega arith) w.0.taken w.1) (λ w. without-bit g (inside i) e w.0.left w.1) c.if1.branch
+    let g = i.before.loop-field.invariant in
+    let e = c.before.field_differs.ensures in
+    ⊎_elim (λ w. with-bit g (inside i) e 32 (omega arith) w.0.taken w.1) (λ w. without-bit g (inside i) e w.0.left w.1) c.if-field_differs.branch
 
 returns : tie.Need-returns invariant-loop decreases-loop
-returns c = all_gathered c.before.loop.invariant (omega (arith, c.loop-test.false)) ∙ sym (fields_map _ _)
+returns c = all_gathered c.before.loop-field.invariant (omega (arith, c.loop-field-test.false)) ∙ sym (fields_map _ _)
 
 pub fields_differing_spec : {M : Type 1} → statement M
 fields_differing_spec =

@@ -9,30 +9,30 @@ use Rattle.adv7194_compare.proofs.DifferenceLaws.{Gathering, gathering_begins, b
 use Rattle.adv7194_compare.proofs.differences.registers_differing.Statement.{statement}
 use Rattle.adv7194_compare.proofs.differences.registers_differing.Tie as tie
 
-abbrev invariant-loop : tie.invariant-loop
+abbrev invariant-loop : tie.invariant-loop-register
 invariant-loop a b map₀ register₀ map register = Gathering (register_differs a b) 0 54 map register
 
-abbrev decreases-loop : tie.decreases-loop
+abbrev decreases-loop : tie.decreases-loop-register
 decreases-loop a b map₀ register₀ map register = 54 - register
 
 -- a register is one of those
-inside : (c : tie.In-loop invariant-loop decreases-loop) → c.before.loop.register < 54
-inside c = omega (arith, c.loop-test.true)
+inside : (c : tie.In-loop-register invariant-loop decreases-loop) → c.before.loop-register.register < 54
+inside c = omega (arith, c.loop-register-test.true)
 
-add-map : tie.Need-overflow-add-map invariant-loop decreases-loop
+add-map : tie.Need-overflow_add-map invariant-loop decreases-loop
 add-map c =
     let i = c.before.before in
-    record { fits = bit-fits i.before.loop.invariant (inside i) c.before.register-differs.ensures 64 (omega arith) c.if1.true }
+    record { fits = bit-fits i.before.loop-register.invariant (inside i) c.before.register_differs.ensures 64 (omega arith) c.if-register_differs.true }
 
-loop-again : tie.Need-loop-preserved invariant-loop decreases-loop
+loop-again : tie.Need-loop-register-preserved invariant-loop decreases-loop
 loop-again c =
     let i = c.before.before in
-    let g = i.before.loop.invariant in
-    let e = c.before.register-differs.ensures in
-    ⊎_elim (λ w. with-bit g (inside i) e 64 (omega arith) w.0.taken w.1) (λ w. without-bit g (inside i) e w.0.left w.1) c.if1.branch
+    let g = i.before.loop-register.invariant in
+    let e = c.before.register_differs.ensures in
+    ⊎_elim (λ w. with-bit g (inside i) e 64 (omega arith) w.0.taken w.1) (λ w. without-bit g (inside i) e w.0.left w.1) c.if-register_differs.branch
 
 returns : tie.Need-returns invariant-loop decreases-loop
-returns c = all_gathered c.before.loop.invariant (omega (arith, c.loop-test.false)) ∙ sym (registers-map _ _)
+returns c = all_gathered c.before.loop-register.invariant (omega (arith, c.loop-register-test.false)) ∙ sym (registers-map _ _)
 
 pub registers_differing_spec : {M : Type 1} → statement M
 registers_differing_spec =

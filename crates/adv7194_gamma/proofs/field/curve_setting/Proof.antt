@@ -13,10 +13,10 @@ use Rattle.adv7194_gamma.proofs.field.curve_setting.Tie as tie
 returns : tie.Need-returns
 returns c = let a = c.before.args in rw (lt-leb (a.register + 7) (length a.image.now) (omega arith))
 
-returns-2 : tie.Need-returns-2
+returns-2 : tie.Need-returns-then-image-register
 returns-2 c = let a = c.before.before.args in rw (lt-leb (a.register + 7) (length a.image.now) (omega arith))
 
-returns-3 : tie.Need-returns-3
+returns-3 : tie.Need-returns
 returns-3 c =
     let s = c.before.before.before.before.before.before.before.before.before in
     rw (le-leb (s.args.register + 7) (length s.args.image.now) (omega arith)) (ap accepted (seven_from s.args.image.now s.args.register))

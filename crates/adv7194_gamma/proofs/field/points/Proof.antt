@@ -18,25 +18,25 @@ byte s i = byte_at s.args.numbers.now s.requires.1 i
 kept : (s : tie.Start) (i : ℕ) → back w32 (get_or s.args.numbers.now (3 + i) (pos 0)) ≡ get_or s.args.numbers.now (3 + i) (pos 0)
 kept s i = byte-back _ (byte s i)
 
-cast-t4 : tie.Need-overflow-cast-t4
+cast-t4 : tie.Need-overflow_cast-result
 cast-t4 c = byte_cast _ (byte c.before 0)
 
-cast-t9 : tie.Need-overflow-cast-t9
+cast-t9 : tie.Need-overflow_cast-result-2
 cast-t9 c = byte_cast _ (byte c.before.before 1)
 
-cast-t14 : tie.Need-overflow-cast-t14
+cast-t14 : tie.Need-overflow_cast-result-3
 cast-t14 c = byte_cast _ (byte c.before.before.before 2)
 
-cast-t19 : tie.Need-overflow-cast-t19
+cast-t19 : tie.Need-overflow_cast-result-4
 cast-t19 c = byte_cast _ (byte c.before.before.before.before 3)
 
-cast-t24 : tie.Need-overflow-cast-t24
+cast-t24 : tie.Need-overflow_cast-result-5
 cast-t24 c = byte_cast _ (byte c.before.before.before.before.before 4)
 
-cast-t29 : tie.Need-overflow-cast-t29
+cast-t29 : tie.Need-overflow_cast-result-6
 cast-t29 c = byte_cast _ (byte c.before.before.before.before.before.before 5)
 
-cast-t34 : tie.Need-overflow-cast-t34
+cast-t34 : tie.Need-overflow_cast-result-7
 cast-t34 c = byte_cast _ (byte c.before.before.before.before.before.before.before 6)
 
 returns : tie.Need-returns

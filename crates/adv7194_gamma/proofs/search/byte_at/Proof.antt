@@ -11,15 +11,15 @@ use Rattle.adv7194_gamma.proofs.Budget.{left, half}
 use Rattle.adv7194_gamma.proofs.search.byte_at.Statement.{statement}
 use Rattle.adv7194_gamma.proofs.search.byte_at.Tie as tie
 
-abbrev invariant-loop : tie.invariant-loop
+abbrev invariant-loop : tie.invariant-loop-range
 invariant-loop n p q x range₀ budget₀ range budget =
     (16 ≤ range / 256) × (range / 256 ≤ byte_at p q n) × (byte_at p q n ≤ range / 256 + range % 256) × (range / 256 + range % 256 ≤ 240) × (0 < range % 256)
     × (range % 256 < 2 ^ budget)
 
-abbrev decreases-loop : tie.decreases-loop
+abbrev decreases-loop : tie.decreases-loop-range
 decreases-loop n p q x range₀ budget₀ range budget = budget
 
-loop-holds : tie.Need-loop-init invariant-loop decreases-loop
+loop-holds : tie.Need-loop-range-init invariant-loop decreases-loop
 loop-holds c =
     let a = c.args in (
       omega arith,
@@ -31,10 +31,10 @@ loop-holds c =
     )
 
 -- a round has one to spend
-sub-budget : tie.Need-overflow-sub-budget invariant-loop decreases-loop
-sub-budget c = omega (arith, left c.loop.budget (c.loop.range % 256) (omega arith) (omega arith))
+sub-budget : tie.Need-overflow_sub-budget invariant-loop decreases-loop
+sub-budget c = omega (arith, left c.loop-range.budget (c.loop-range.range % 256) (omega arith) (omega arith))
 
-below-half-requires : tie.Need-below-half-requires invariant-loop decreases-loop
+below-half-requires : tie.Need-below_half-below-requires invariant-loop decreases-loop
 below-half-requires c κs = (omega arith, c.before.requires.2, omega arith)
 
 -- the range after a round: the byte is in it, and at most half of the candidates are above its lowest
@@ -54,50 +54,50 @@ upper-half : (range byte : ℕ) → 16 ≤ range / 256 → 0 < range % 256 → r
 upper-half range byte a b c d e = record { least = omega arith; under = omega arith; over = omega arith; most = omega arith; fewer = omega arith }
 
 -- what a round leaves
-halved : (c : tie.After-choose invariant-loop decreases-loop)
+halved : (c : tie.After-choose-range invariant-loop decreases-loop)
     → let a = c.before.before.before.args in
-    Halved (c.before.before.loop.range / 256) (c.before.before.loop.range % 256) (byte_at a.p a.q a.n) c.choose.result
+    Halved (c.before.before.loop-range.range / 256) (c.before.before.loop-range.range % 256) (byte_at a.p a.q a.n) c.choose-range.result
 halved c =
     let a = c.before.before.before.args in
-    let r = c.before.before.loop.range in
+    let r = c.before.before.loop-range.range in
     let x = a.n - 16 in
     let small = c.before.before.before.requires.2.q_low in
     let middle = r / 256 + r % 256 / 2 - 16 in
     ⊎_elim
     (λ t.
-    let most = at_most x a.p a.q (omega arith) small middle (sym c.before.below_half.ensures ∙ t) in
-    rw (c.choose.ensures, t)
+    let most = at_most x a.p a.q (omega arith) small middle (sym c.before.below_half-below.ensures ∙ t) in
+    rw (c.choose-range.ensures, t)
     (lower-half (r / 256) (r % 256) (byte_at a.p a.q a.n) (omega arith) (omega arith) (omega arith) (omega arith) (omega (arith, most))))
     (λ f.
-    let more = above x a.p a.q (omega arith) small middle (sym c.before.below_half.ensures ∙ f) in
-    rw (c.choose.ensures, f)
+    let more = above x a.p a.q (omega arith) small middle (sym c.before.below_half-below.ensures ∙ f) in
+    rw (c.choose-range.ensures, f)
     (upper-half r (byte_at a.p a.q a.n) (omega arith) (omega arith) (omega arith) (omega arith) (omega (arith, more))))
-    (flag c.before.below_half.result)
+    (flag c.before.below_half-below.result)
 
-cast-found : tie.Need-overflow-cast-found invariant-loop decreases-loop
+cast-found : tie.Need-overflow_cast-found invariant-loop decreases-loop
 cast-found c = omega (arith, (halved c.before).most)
 
-loop-less : tie.Need-loop-smaller invariant-loop decreases-loop
+loop-less : tie.Need-loop-range-smaller invariant-loop decreases-loop
 loop-less c =
-    let l = c.before.before.before.loop in
+    let l = c.before.before.before.loop-range in
     omega (arith, left l.budget (l.range % 256) (omega arith) (omega arith))
 
-loop-again : tie.Need-loop-preserved invariant-loop decreases-loop
+loop-again : tie.Need-loop-range-preserved invariant-loop decreases-loop
 loop-again c =
     let h = halved c.before in
-    let l = c.before.before.before.loop in (
+    let l = c.before.before.before.loop-range in (
       h.least,
       h.under,
       h.over,
       h.most,
-      omega (arith, c.if1.false),
-      half l.budget (l.range % 256) (c.before.choose.result % 256) (omega arith) (omega arith) h.fewer,
+      omega (arith, c.if-range-eq0.false),
+      half l.budget (l.range % 256) (c.before.choose-range.result % 256) (omega arith) (omega arith) h.fewer,
     )
 
 returns : tie.Need-returns invariant-loop decreases-loop
 returns c =
     let h = halved c.before in
-    omega (arith, h.under, h.over, c.if1.true)
+    omega (arith, h.under, h.over, c.if-range-eq0.true)
 
 pub byte_at_spec : {M : Type 1} → statement M
 byte_at_spec =

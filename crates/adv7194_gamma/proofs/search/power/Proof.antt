@@ -7,16 +7,16 @@ use Rattle.adv7194_gamma.proofs.Powers.{both, both_power, first-le, both_le}
 use Rattle.adv7194_gamma.proofs.search.power.Statement.{statement}
 use Rattle.adv7194_gamma.proofs.search.power.Tie as tie
 
-mul-result : tie.Need-overflow-mul-result
+mul-result : tie.Need-overflow_mul-result
 mul-result c =
     rw c.factor.ensures (omega (arith, first-le c.before.args.b c.before.args.e c.before.requires.0 c.before.requires.1))
 
 -- the product of all three
-product : (c : tie.After-factor2) → c.before.before.args.b * c.before.factor.result * c.factor2.result
+product : (c : tie.After-factor-2) → c.before.before.args.b * c.before.factor.result * c.factor-2.result
     ≡ both c.before.before.args.b c.before.before.args.e
-product c = ap₂ (λ (x y : ℕ). c.before.before.args.b * x * y) c.before.factor.ensures c.factor2.ensures
+product c = ap₂ (λ (x y : ℕ). c.before.before.args.b * x * y) c.before.factor.ensures c.factor-2.ensures
 
-mul-result-2 : tie.Need-overflow-mul-result-2
+mul-result-2 : tie.Need-overflow_mul-result-2
 mul-result-2 c =
     let a = c.before.before.args in
     let pre = c.before.before.requires in

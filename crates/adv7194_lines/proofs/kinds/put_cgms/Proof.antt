@@ -14,15 +14,15 @@ returns c =
     let d3 = d4.before.before.before.before.before.before in
     let d2 = d3.before.before.before.before.before.before in
     let d1 = d2.before.before.before.before.before.before in
-    let n4 = d4.before.number-at4 in
-    let n3 = d3.before.number-at3 in
-    let n2 = d2.before.number-at2 in
+    let n4 = d4.before.number_at-4 in
+    let n3 = d3.before.number_at-3 in
+    let n2 = d2.before.number_at-2 in
     let n1 = d1.before.number_at in
     let start = d1.before.before.before.before.before in
-    let w1 = looked (number "CGMS ") n1.type-inv n1.ensures d1.put-number.ensures in
-    let w2 = more w1 (looked (flag " odd ") n2.type-inv n2.ensures d2.put-flag.ensures) (omega (arith, start.requires.0)) in
-    let w3 = more w2 (looked (flag " even ") n3.type-inv n3.ensures d3.put-flag2.ensures) (omega (arith, start.requires.0)) in
-    more w3 (looked (flag " chip check ") n4.type-inv n4.ensures d4.put-flag3.ensures) start.requires.0
+    let w1 = looked (number "CGMS ") n1.type-inv n1.ensures d1.put_number-payload.ensures in
+    let w2 = more w1 (looked (flag " odd ") n2.type-inv n2.ensures d2.put_flag-odd.ensures) (omega (arith, start.requires.0)) in
+    let w3 = more w2 (looked (flag " even ") n3.type-inv n3.ensures d3.put_flag-even.ensures) (omega (arith, start.requires.0)) in
+    more w3 (looked (flag " chip check ") n4.type-inv n4.ensures d4.put_flag.ensures) start.requires.0
 
 pub put_cgms_spec : {M : Type 1} → statement M
 put_cgms_spec =

@@ -16,18 +16,18 @@ use Rattle.adv7194_lines.proofs.kinds.put_curve.Statement.{statement}
 use Rattle.adv7194_lines.proofs.kinds.put_curve.Tie as tie
 
 -- the template that the kind chooses
-chosen : (c : tie.After-curve-template) → (let a = c.before.before.before.args in
-    c.curve-template.result ≡ curve_template (number_at a.numbers.now a.k))
-chosen c = let g = c.before.number_at in c.curve-template.ensures ∙ ap curve_template (same g.result g.type-inv ∙ g.ensures)
+chosen : (c : tie.After-curve_template-t) → (let a = c.before.before.before.args in
+    c.curve_template-t.result ≡ curve_template (number_at a.numbers.now a.k))
+chosen c = let g = c.before.number_at in c.curve_template-t.ensures ∙ ap curve_template (same g.result g.type-inv ∙ g.ensures)
 
 -- has room, and passes over few numbers
-room : (c : tie.After-curve-template) → (let t = c.curve-template.result in (widths (column_in curve_table t.column) ≤ curve_width) × (t.skipped ≤ 3))
+room : (c : tie.After-curve_template-t) → (let t = c.curve_template-t.result in (widths (column_in curve_table t.column) ≤ curve_width) × (t.skipped ≤ 3))
 room c = let a = c.before.before.before.args in rw (chosen c) (curve-room (number_at a.numbers.now a.k))
 
-add-fill-column : tie.Need-overflow-add-fill-column
+add-fill-column : tie.Need-overflow_add-k
 add-fill-column c = let t = c.before.before.before in omega (arith, (room t).1, t.before.before.before.requires.1)
 
-fill-column-requires : tie.Need-fill-column-requires
+fill-column-requires : tie.Need-fill_column-requires
 fill-column-requires c κs =
     let t = c.before.before.before in
     let start = t.before.before.before in
@@ -40,7 +40,7 @@ returns c =
     let a = t.before.before.before.args in
     let zs = a.numbers.now in
     same_text (ap (λ (t : Template). filled (column_in curve_table t.column) (drop (a.k + t.skipped) zs)) (chosen t) ∙ curve-filled zs a.k)
-    (wider curve_width (room t).0 p.fill-column.ensures)
+    (wider curve_width (room t).0 p.fill_column.ensures)
 
 pub put_curve_spec : {M : Type 1} → statement M
 put_curve_spec =

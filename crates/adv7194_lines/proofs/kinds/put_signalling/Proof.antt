@@ -21,41 +21,41 @@ returns : tie.Need-returns
 returns c =
     let p = c.before.before in
     let i = p.before.before in
-    let g = i.before.number_at in
+    let g = i.before.number_at-kind in
     let a = i.before.before.before.args in
-    same_text (cgms-is a.numbers.now a.k (sym g.ensures ∙ number_is 1 g.result g.type-inv refl i.if1.true)) p.put-cgms.ensures
+    same_text (cgms-is a.numbers.now a.k (sym g.ensures ∙ number_is 1 g.result g.type-inv refl i.if-kind-eq-CGMS.true)) p.put_cgms.ensures
 
 -- the template that the kind chooses
-chosen : (c : tie.After-signalling-template) → (let a = c.before.before.before.before.args in
-    c.signalling-template.result ≡ signalling_template (number_at a.numbers.now a.k))
-chosen c = let g = c.before.before.number_at in c.signalling-template.ensures ∙ ap signalling_template (same g.result g.type-inv ∙ g.ensures)
+chosen : (c : tie.After-signalling_template-t) → (let a = c.before.before.before.before.args in
+    c.signalling_template-t.result ≡ signalling_template (number_at a.numbers.now a.k))
+chosen c = let g = c.before.before.number_at-kind in c.signalling_template-t.ensures ∙ ap signalling_template (same g.result g.type-inv ∙ g.ensures)
 
 -- has room, and passes over few numbers
-room : (c : tie.After-signalling-template) → (let t = c.signalling-template.result in
+room : (c : tie.After-signalling_template-t) → (let t = c.signalling_template-t.result in
     (widths (column_in signalling_table t.column) ≤ signalling_width) × (t.skipped ≤ 3))
 room c = let a = c.before.before.before.before.args in rw (chosen c) (signalling-room (number_at a.numbers.now a.k))
 
-add-fill-column : tie.Need-overflow-add-fill-column
+add-fill-column : tie.Need-overflow_add-k
 add-fill-column c = let t = c.before.before.before in omega (arith, (room t).1, t.before.before.before.before.requires.1)
 
-fill-column-requires : tie.Need-fill-column-requires
+fill-column-requires : tie.Need-fill_column-requires
 fill-column-requires c κs =
     let t = c.before.before.before in
     let start = t.before.before.before.before in
     (omega (arith, (room t).0, start.requires.0), omega (arith, (room t).1, start.requires.1))
 
-returns-2 : tie.Need-returns-2
+returns-2 : tie.Need-returns
 returns-2 c =
     let p = c.before.before in
     let t = p.before.before.before.before in
     let i = t.before in
-    let g = i.before.number_at in
+    let g = i.before.number_at-kind in
     let a = i.before.before.before.args in
     let zs = a.numbers.now in
-    let other = ap (is 1) (sym g.ensures) ∙ is_not 1 g.result refl i.if1.false in
+    let other = ap (is 1) (sym g.ensures) ∙ is_not 1 g.result refl i.if-kind-eq-CGMS.false in
     same_text
     (ap (λ (t : Template). filled (column_in signalling_table t.column) (drop (a.k + t.skipped) zs)) (chosen t) ∙ signalling-filled zs a.k other)
-    (wider signalling_width (room t).0 p.fill-column.ensures)
+    (wider signalling_width (room t).0 p.fill_column.ensures)
 
 pub put_signalling_spec : {M : Type 1} → statement M
 put_signalling_spec =

@@ -12,7 +12,7 @@ use borrow.Author.Rules.{rules}
 use Rattle.adv7194_lines.proofs.lines.curve_line.Statement.{statement}
 use Rattle.adv7194_lines.proofs.lines.curve_line.Tie as tie
 
-put-curve-requires : tie.Need-put-curve-requires
+put-curve-requires : tie.Need-put_curve-setting-requires
 put-curve-requires c κs =
     let b = c.before.before.before.before.before.before.before.before.before.before.Block-of in
     (omega arith, omega (arith, ap (λ (x : Block). x.index) b.ensures))
@@ -27,8 +27,8 @@ returns c =
     let start = l.before.before.before.before in
     let zs = start.args.numbers.now in
     let w =
-    composed l.put-label.ensures (put s.put.ensures.0 s.put.ensures.1) v.put-curve.ensures
-    (put e.put2.ensures.0 e.put2.ensures.1) (omega arith) start.requires in
+    composed l.put_label-label.ensures (put s.put-spaced.ensures.0 s.put-spaced.ensures.1) v.put_curve-setting.ensures
+    (put e.put.ensures.0 e.put.ensures.1) (omega arith) start.requires in
     same_text (ap (λ (x : Block). label_text x.field ++ space ++ curve_text zs x.index ++ line_end) b.ensures) w
 
 pub curve_line_spec : {M : Type 1} → statement M

@@ -20,8 +20,8 @@ returns c =
     let d = s.before.before.before.before.before in
     let start = d.before.before.before in
     let f = start.args.field in
-    let w = more d.put-decimal.ensures (put s.put.ensures.0 s.put.ensures.1) (omega (arith, start.requires)) in
-    same_text (ap (λ (t : List ℕ). decimal f ++ space ++ t) (name-is (named f))) (more w n.put-column.ensures start.requires)
+    let w = more d.put_decimal-number.ensures (put s.put-spaced.ensures.0 s.put-spaced.ensures.1) (omega (arith, start.requires)) in
+    same_text (ap (λ (t : List ℕ). decimal f ++ space ++ t) (name-is (named f))) (more w n.put_column.ensures start.requires)
 
 pub put_label_spec : {M : Type 1} → statement M
 put_label_spec =

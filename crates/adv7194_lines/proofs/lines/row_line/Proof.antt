@@ -12,12 +12,12 @@ use Rattle.adv7194_lines.proofs.lines.row_line.Tie as tie
 
 returns : tie.Need-returns
 returns c =
-    let r = c.before.before.row_of in
+    let r = c.before.before.row_of-row in
     let start = c.before.before.before.before in
     let a = start.args in
-    same_text (unlisted a.numbers.now (row_of a.packed) r.ensures c.if1.true) (unwritten a.line.now a.at (omega (arith, start.requires)))
+    same_text (unlisted a.numbers.now (row_of a.packed) r.ensures c.if-row-ge-NUMBERS.true) (unwritten a.line-1.now a.at (omega (arith, start.requires)))
 
-returns-2 : tie.Need-returns-2
+returns-2 : tie.Need-returns
 returns-2 c =
     let e = c.before.before in
     let v = e.before.before.before.before.before in
@@ -25,14 +25,14 @@ returns-2 c =
     let s = v.before.before.before.before.before in
     let l = s.before.before.before.before.before in
     let t = l.before.before in
-    let r = t.before.before.row_of in
+    let r = t.before.before.row_of-row in
     let start = t.before.before.before.before in
     let a = start.args in
-    let value = looked (number_text (named r.result.field)) g.type-inv g.ensures v.put-setting.ensures in
+    let value = looked (number_text (named r.result.field)) g.type-inv g.ensures v.put_setting-setting.ensures in
     let w =
-    composed l.put-label.ensures (put s.put.ensures.0 s.put.ensures.1) value (put e.put2.ensures.0 e.put2.ensures.1) (omega arith)
+    composed l.put_label-label.ensures (put s.put-spaced.ensures.0 s.put-spaced.ensures.1) value (put e.put.ensures.0 e.put.ensures.1) (omega arith)
     start.requires in
-    same_text (listed-row a.numbers.now (row_of a.packed) r.ensures t.if1.false) w
+    same_text (listed-row a.numbers.now (row_of a.packed) r.ensures t.if-row-ge-NUMBERS.false) w
 
 pub row_line_spec : {M : Type 1} → statement M
 row_line_spec =

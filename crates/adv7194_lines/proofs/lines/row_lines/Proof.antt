@@ -21,44 +21,44 @@ record Inv (line₀ : List ℕ) (at : ℕ) (zs : List ℤ) (rows line : List ℕ
   turns : i ≤ length rows
   written : Put (line_width * i) line₀ at (flat_map (line_of zs) (map single (plain_fields (take i rows)))) line place
 
-abbrev invariant-loop : tie.invariant-loop
+abbrev invariant-loop : tie.invariant-loop-i
 invariant-loop line₀ at numbers rows place₀ i₀ line place i = Inv line₀ at numbers rows line place i
 
-abbrev decreases-loop : tie.decreases-loop
+abbrev decreases-loop : tie.decreases-loop-i
 decreases-loop line₀ at numbers rows place₀ i₀ line place i = length rows - i
 
-loop-holds : tie.Need-loop-init invariant-loop decreases-loop
+loop-holds : tie.Need-loop-i-init invariant-loop decreases-loop
 unfolding flat_map plain_fields
 loop-holds c =
     let start = c.before.before in
-    record { turns = omega arith; written = unwritten start.args.line.now start.args.at (omega (arith, start.requires)) }
+    record { turns = omega arith; written = unwritten start.args.line-1.now start.args.at (omega (arith, start.requires)) }
 
-row-line-requires : tie.Need-row-line-requires invariant-loop decreases-loop
+row-line-requires : tie.Need-row_line-place-requires invariant-loop decreases-loop
 row-line-requires c κs =
     let t = c.before.before in
-    let l = t.before.loop in
-    omega (arith, l.invariant.written.most, kept l.invariant.written, t.before.before.before.before.requires, t.loop-test.true)
+    let l = t.before.loop-i in
+    omega (arith, l.invariant.written.most, kept l.invariant.written, t.before.before.before.before.requires, t.loop-i-test.true)
 
-loop-again : tie.Need-loop-preserved invariant-loop decreases-loop
+loop-again : tie.Need-loop-i-preserved invariant-loop decreases-loop
 loop-again c =
     let p = c.before.before in
     let t = p.before.before.before in
-    let l = t.before.loop in
+    let l = t.before.loop-i in
     let start = t.before.before.before.before in
     let a = start.args in
-    let w = more l.invariant.written p.row_Line.ensures (omega (arith, start.requires, t.loop-test.true)) in
+    let w = more l.invariant.written p.row_Line.ensures (omega (arith, start.requires, t.loop-i-test.true)) in
     record {
-      turns = omega (arith, t.loop-test.true);
+      turns = omega (arith, t.loop-i-test.true);
       written =
-          same_text (rows_more a.numbers.now a.rows.now l.i t.loop-test.true) (wider (line_width * (l.i + 1)) (omega arith) w);
+          same_text (rows_more a.numbers.now a.rows.now l.i t.loop-i-test.true) (wider (line_width * (l.i + 1)) (omega arith) w);
     }
 
 returns : tie.Need-returns invariant-loop decreases-loop
 returns c =
-    let l = c.before.loop in
+    let l = c.before.loop-i in
     let a = c.before.before.before.before.args in
     let rows = a.rows.now in
-    let all : l.i ≡ length rows = omega (arith, l.invariant.turns, c.loop-test.false) in
+    let all : l.i ≡ length rows = omega (arith, l.invariant.turns, c.loop-i-test.false) in
     let whole : take l.i rows ≡ rows = take_all l.i rows (omega arith) in
     same_text (ap (λ (ps : List ℕ). flat_map (line_of a.numbers.now) (map single (plain_fields ps))) whole)
     (wider (line_width * length rows) (omega arith) l.invariant.written)
@@ -76,5 +76,5 @@ row_lines_spec =
     (λ c. omega arith)
     (λ c. omega arith)
     loop-again
-    (λ c. kept c.before.loop.invariant.written)
+    (λ c. kept c.before.loop-i.invariant.written)
     returns)

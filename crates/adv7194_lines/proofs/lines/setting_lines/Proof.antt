@@ -18,14 +18,14 @@ returns c =
     let f = s.before.before.before.before in
     let r = f.before.before.before.before in
     let start = r.before.before in
-    let ps = r.rows.result in
-    let front = wider (line_width * 10) (omega (arith, take-most 10 ps)) f.row-lines.ensures in
-    let back = wider (line_width * 16) (omega (arith, take-most 16 (drop 10 ps))) b.row-lines2.ensures in
-    let w = more front s.signalling-line.ensures (omega (arith, start.requires)) in
+    let ps = r.rows-table.result in
+    let front = wider (line_width * 10) (omega (arith, take-most 10 ps)) f.row_lines-front.ensures in
+    let back = wider (line_width * 16) (omega (arith, take-most 16 (drop 10 ps))) b.row_lines-back.ensures in
+    let w = more front s.signalling_line-signalled.ensures (omega (arith, start.requires)) in
     let x = more w back (omega (arith, start.requires)) in
-    let y = more x a.curve-line.ensures (omega (arith, start.requires)) in
-    let z = more y d.curve-line2.ensures (omega (arith, start.requires)) in
-    same_text (table-lines start.args.numbers.now ps r.rows.ensures) (wider text_width (omega arith) z)
+    let y = more x a.curve_line-first.ensures (omega (arith, start.requires)) in
+    let z = more y d.curve_line.ensures (omega (arith, start.requires)) in
+    same_text (table-lines start.args.numbers.now ps r.rows-table.ensures) (wider text_width (omega arith) z)
 
 pub setting_lines_spec : {M : Type 1} → statement M
 setting_lines_spec =

@@ -12,7 +12,7 @@ use borrow.Author.Rules.{rules}
 use Rattle.adv7194_lines.proofs.lines.signalling_line.Statement.{statement}
 use Rattle.adv7194_lines.proofs.lines.signalling_line.Tie as tie
 
-put-signalling-requires : tie.Need-put-signalling-requires
+put-signalling-requires : tie.Need-put_signalling-setting-requires
 put-signalling-requires c κs =
     let b = c.before.before.before.before.before.before.before.before.before.before.Block-of in
     (omega arith, omega (arith, ap (λ (x : Block). x.index) b.ensures))
@@ -27,8 +27,8 @@ returns c =
     let start = l.before.before.before.before in
     let zs = start.args.numbers.now in
     let w =
-    composed l.put-label.ensures (put s.put.ensures.0 s.put.ensures.1) v.put-signalling.ensures
-    (put e.put2.ensures.0 e.put2.ensures.1) (omega arith) start.requires in
+    composed l.put_label-label.ensures (put s.put-spaced.ensures.0 s.put-spaced.ensures.1) v.put_signalling-setting.ensures
+    (put e.put.ensures.0 e.put.ensures.1) (omega arith) start.requires in
     same_text (ap (λ (x : Block). label_text x.field ++ space ++ signalling_text zs x.index ++ line_end) b.ensures) w
 
 pub signalling_line_spec : {M : Type 1} → statement M

@@ -15,7 +15,7 @@ returns c =
     let v = e.before.before.before.before.before in
     let l = v.before.before.before.before in
     let start = l.before.before.before.before in
-    let x = more l.put-place.ensures v.put-words.ensures (omega (arith, start.requires)) in
+    let x = more l.put_place-place.ensures v.put_words-words.ensures (omega (arith, start.requires)) in
     let a = start.args in
     same_text (line_told a.image.now (number_of a.refusal) a.field)
     (wider line_width (omega arith) (more x (put e.put.ensures.0 e.put.ensures.1) (omega (arith, start.requires))))

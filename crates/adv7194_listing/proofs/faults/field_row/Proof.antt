@@ -17,49 +17,49 @@ record Inv (f : ℕ) (table : List ℕ) (i : ℕ) : Type 0 where
   size : length table ≡ 26
   first : row_at f (rows_of (drop i table)) ≡ field_row f
 
-abbrev invariant-loop : tie.invariant-loop
+abbrev invariant-loop : tie.invariant-loop-i
 invariant-loop field table i₀ i = Inv field table i
 
-abbrev decreases-loop : tie.decreases-loop
+abbrev decreases-loop : tie.decreases-loop-i
 decreases-loop field table i₀ i = 26 - i
 
-loop-holds : tie.Need-loop-init invariant-loop decreases-loop
+loop-holds : tie.Need-loop-i-init invariant-loop decreases-loop
 loop-holds c =
-    let r = c.rows in
+    let r = c.rows-table in
     record { turns = omega arith; size = packed_rows r.result r.ensures; first = ap (row_at c.before.args.field) r.ensures }
 
 returns : tie.Need-returns invariant-loop decreases-loop
 returns c =
-    let r = c.before.before.row_of in
+    let r = c.before.before.row_of-row in
     let t = c.before.before.before in
-    let l = t.before.loop in
-    let ps = t.before.before.rows.result in
+    let l = t.before.loop-i in
+    let ps = t.before.before.rows-table.result in
     let f = t.before.before.before.args.field in
-    let same : r.result.field ≡ f = c.if1.true in
-    r.ensures ∙ sym (row_here f ps l.i (omega (arith, l.invariant.size, t.loop-test.true)) (ap (λ (x : Row). x.field) (sym r.ensures) ∙ same))
+    let same : r.result.field ≡ f = c.if-row-field.true in
+    r.ensures ∙ sym (row_here f ps l.i (omega (arith, l.invariant.size, t.loop-i-test.true)) (ap (λ (x : Row). x.field) (sym r.ensures) ∙ same))
     ∙ l.invariant.first
 
-loop-again : tie.Need-loop-preserved invariant-loop decreases-loop
+loop-again : tie.Need-loop-i-preserved invariant-loop decreases-loop
 loop-again c =
-    let r = c.before.before.row_of in
+    let r = c.before.before.row_of-row in
     let t = c.before.before.before in
-    let l = t.before.loop in
-    let ps = t.before.before.rows.result in
+    let l = t.before.loop-i in
+    let ps = t.before.before.rows-table.result in
     let f = t.before.before.before.args.field in
     record {
-      turns = omega (arith, t.loop-test.true);
+      turns = omega (arith, t.loop-i-test.true);
       size = l.invariant.size;
       first =
-          sym (row-past f ps l.i (omega (arith, l.invariant.size, t.loop-test.true)) (λ q. c.if1.false (ap (λ (x : Row). x.field) r.ensures ∙ q)))
+          sym (row-past f ps l.i (omega (arith, l.invariant.size, t.loop-i-test.true)) (λ q. c.if-row-field.false (ap (λ (x : Row). x.field) r.ensures ∙ q)))
           ∙ l.invariant.first;
     }
 
-returns-2 : tie.Need-returns-2 invariant-loop decreases-loop
+returns-2 : tie.Need-returns invariant-loop decreases-loop
 returns-2 c =
-    let l = c.before.loop in
-    let ps = c.before.before.rows.result in
+    let l = c.before.loop-i in
+    let ps = c.before.before.rows-table.result in
     let f = c.before.before.before.args.field in
-    sym (row-none f ps l.i (omega (arith, l.invariant.size, c.loop-test.false))) ∙ l.invariant.first
+    sym (row-none f ps l.i (omega (arith, l.invariant.size, c.loop-i-test.false))) ∙ l.invariant.first
 
 pub field_row_spec : {M : Type 1} → statement M
 field_row_spec =

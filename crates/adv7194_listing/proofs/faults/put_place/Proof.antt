@@ -19,16 +19,16 @@ returns c =
     let p = c.before.before in
     let t = p.before.before in
     let f = t.before.before.args.field in
-    let e : ascii (named f).name ≡ cond (eqb f 0) (ascii (named f).name) (label_text f) = rw (eq-eqb f 0 t.if1.true) in
-    same_text (name-is (named f) ∙ e) (wider label_width (omega arith) p.put-column.ensures)
+    let e : ascii (named f).name ≡ cond (eqb f 0) (ascii (named f).name) (label_text f) = rw (eq-eqb f 0 t.if-field-eq0.true) in
+    same_text (name-is (named f) ∙ e) (wider label_width (omega arith) p.put_column.ensures)
 
-returns-2 : tie.Need-returns-2
+returns-2 : tie.Need-returns
 returns-2 c =
     let p = c.before.before in
     let t = p.before.before in
     let f = t.before.before.args.field in
-    let e : label_text f ≡ cond (eqb f 0) (ascii (named f).name) (label_text f) = rw (ne_eqb f 0 t.if1.false) in
-    same_text e p.put-label.ensures
+    let e : label_text f ≡ cond (eqb f 0) (ascii (named f).name) (label_text f) = rw (ne_eqb f 0 t.if-field-eq0.false) in
+    same_text e p.put_label.ensures
 
 pub put_place_spec : {M : Type 1} → statement M
 put_place_spec =

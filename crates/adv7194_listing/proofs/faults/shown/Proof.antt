@@ -14,24 +14,24 @@ returns c =
     let e = d.before in
     let a = e.before.before.before.args in
     rw (
-      eq-eqb a.column 2 e.before.if1.true,
+      eq-eqb a.column 2 e.before.if-column-eq-SIGNALLING_BYTES.true,
       byte-number e.byte_at.result (search rules),
-      byte-number d.byte-at2.result (search rules),
-      byte-number c.byte-at3.result (search rules),
+      byte-number d.byte_at-then-column-eq-SIGNALLING_BYTES.result (search rules),
+      byte-number c.byte_at-then-column-eq-SIGNALLING_BYTES-2.result (search rules),
       e.byte_at.ensures,
-      d.byte-at2.ensures,
-      c.byte-at3.ensures,
+      d.byte_at-then-column-eq-SIGNALLING_BYTES.ensures,
+      c.byte_at-then-column-eq-SIGNALLING_BYTES-2.ensures,
     )
 
 held-requires : tie.Need-held-requires
 held-requires c κs = field-bits c.before.before.before.args.field c.field_row.ensures
 
-returns-2 : tie.Need-returns-2
+returns-2 : tie.Need-returns
 unfolding shown_numbers
 returns-2 c =
     let r = c.before in
     let a = r.before.before.before.args in
-    rw (ne_eqb a.column 2 r.before.if1.false, byte-number c.held.result (search rules), c.held.ensures, r.field_row.ensures)
+    rw (ne_eqb a.column 2 r.before.if-column-eq-SIGNALLING_BYTES.false, byte-number c.held.result (search rules), c.held.ensures, r.field_row.ensures)
 
 pub shown_spec : {M : Type 1} → statement M
 shown_spec =

@@ -20,15 +20,15 @@ found : (table : List ℕ) (start end f k : ℕ) → table ≡ columns_text name
 found table start end f k t h s e = e ∙ s ∙ ap (λ (l : List ℕ). column_in l (4 * f + k)) t ∙ field_column f k h
 
 -- so it is after the search
-part : (c : tie.After-column-end) → (let s = c.before.before in let n = s.before.before in let a = n.before.before.args in
-    take (c.column-end.result - s.column-start.result) (drop s.column-start.result n.names.result) ≡ column_of (named a.field) a.column)
+part : (c : tie.After-column_end-end) → (let s = c.before.before in let n = s.before.before in let a = n.before.before.args in
+    take (c.column_end-end.result - s.column_start-start.result) (drop s.column_start-start.result n.names-table.result) ≡ column_of (named a.field) a.column)
 part c =
     let s = c.before.before in
     let n = s.before.before in
     let start = n.before.before in
     let a = start.args in
-    found n.names.result s.column-start.result c.column-end.result a.field a.column n.names.ensures start.requires.1
-    s.column-start.ensures.1 c.column-end.ensures.1
+    found n.names-table.result s.column_start-start.result c.column_end-end.result a.field a.column n.names-table.ensures start.requires.1
+    s.column_start-start.ensures.1 c.column_end-end.ensures.1
 
 put-requires : tie.Need-put-requires
 put-requires c κs =

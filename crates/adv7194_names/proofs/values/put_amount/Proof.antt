@@ -16,7 +16,7 @@ returns c =
     let s = u.before.before.before.before in
     let start = s.before.before.before in
     let a = start.args in
-    let w = more (passed signed a.n start.ranges.n.sfits s.put-signed.ensures) u.put-column.ensures start.requires in
+    let w = more (passed signed a.n start.ranges.n.sfits s.put_signed-number.ensures) u.put_column.ensures start.requires in
     same_text (ap (λ (t : List ℕ). signed a.n ++ t) (unit-is (named a.field))) w
 
 pub put_amount_spec : {M : Type 1} → statement M

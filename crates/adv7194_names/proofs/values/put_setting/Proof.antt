@@ -20,20 +20,20 @@ returns c =
     let p = c.before.before.before in
     let start = p.before.before.before in
     let a = start.args in
-    let w = passed (word_of (named a.field)) a.n start.ranges.n.sfits p.put_word.ensures in
-    let some : 0 < length (word_of (named a.field) a.n) = omega (arith, w.answer, c.if1.true) in
+    let w = passed (word_of (named a.field)) a.n start.ranges.n.sfits p.put_word-word.ensures in
+    let some : 0 < length (word_of (named a.field) a.n) = omega (arith, w.answer, c.if-at-word.true) in
     same_text (setting_word (named a.field) a.n some) (wider setting_width (omega arith) w)
 
-returns-2 : tie.Need-returns-2
+returns-2 : tie.Need-returns
 returns-2 c =
     let q = c.before.before in
     let e = q.before.before in
     let p = e.before.before.before in
     let start = p.before.before.before in
     let a = start.args in
-    let w = passed (word_of (named a.field)) a.n start.ranges.n.sfits p.put_word.ensures in
-    let none : length (word_of (named a.field) a.n) ≤ 0 = omega (arith, w.answer, e.if1.false) in
-    let text = passed (λ (z : ℤ). signed z ++ ascii (named a.field).unit) a.n start.ranges.n.sfits q.put-amount.ensures in
+    let w = passed (word_of (named a.field)) a.n start.ranges.n.sfits p.put_word-word.ensures in
+    let none : length (word_of (named a.field) a.n) ≤ 0 = omega (arith, w.answer, e.if-at-word.false) in
+    let text = passed (λ (z : ℤ). signed z ++ ascii (named a.field).unit) a.n start.ranges.n.sfits q.put_amount.ensures in
     same_text (setting_amount (named a.field) a.n none) (instead w none (omega (arith, start.requires)) text)
 
 pub put_setting_spec : {M : Type 1} → statement M

@@ -14,23 +14,23 @@ returns c =
     let t = p.before.before in
     let start = t.before.before in
     let a = start.args in
-    same_text (word-zero (named a.field) a.n (is_it 0 a.n start.ranges.n refl t.if1.true)) p.put-column.ensures
+    same_text (word-zero (named a.field) a.n (is_it 0 a.n start.ranges.n refl t.if-n-eq0.true)) p.put_column.ensures
 
-returns-2 : tie.Need-returns-2
+returns-2 : tie.Need-returns-then-n-eq1
 returns-2 c =
     let p = c.before.before in
     let t = p.before.before in
     let start = t.before.before.before in
     let a = start.args in
-    let e = word-one (named a.field) a.n (is_not 0 a.n refl t.before.if1.false) (is_it 1 a.n start.ranges.n refl t.if2.true) in
-    same_text e p.put-column2.ensures
+    let e = word-one (named a.field) a.n (is_not 0 a.n refl t.before.if-n-eq0.false) (is_it 1 a.n start.ranges.n refl t.if-n-eq1.true) in
+    same_text e p.put_column-then-n-eq1.ensures
 
-returns-3 : tie.Need-returns-3
+returns-3 : tie.Need-returns
 returns-3 c =
     let start = c.before.before.before in
     let a = start.args in
-    let e = word_none (named a.field) a.n (is_not 0 a.n refl c.before.if1.false) (is_not 1 a.n refl c.if2.false) in
-    same_text e (unwritten a.line.now a.at (omega (arith, start.requires)))
+    let e = word_none (named a.field) a.n (is_not 0 a.n refl c.before.if-n-eq0.false) (is_not 1 a.n refl c.if-n-eq1.false) in
+    same_text e (unwritten a.line-1.now a.at (omega (arith, start.requires)))
 
 pub put_word_spec : {M : Type 1} → statement M
 put_word_spec =

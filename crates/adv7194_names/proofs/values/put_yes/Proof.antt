@@ -14,26 +14,26 @@ returns c =
     let p = c.before.before in
     let t = p.before.before.before in
     let start = t.before.before in
-    let e = yes_zero start.args.n (is_it 0 start.args.n start.ranges.n refl t.if1.true) in
+    let e = yes_zero start.args.n (is_it 0 start.args.n start.ranges.n refl t.if-n-eq0.true) in
     same_text e (wider number_width (omega arith) (put p.put.ensures.0 p.put.ensures.1))
 
-returns-2 : tie.Need-returns-2
+returns-2 : tie.Need-returns-then-n-eq1
 returns-2 c =
     let p = c.before.before in
     let t = p.before.before.before in
     let start = t.before.before.before in
     let z = start.args.n in
-    let e = yes_one z (is_not 0 z refl t.before.if1.false) (is_it 1 z start.ranges.n refl t.if2.true) in
-    same_text e (wider number_width (omega arith) (put p.put2.ensures.0 p.put2.ensures.1))
+    let e = yes_one z (is_not 0 z refl t.before.if-n-eq0.false) (is_it 1 z start.ranges.n refl t.if-n-eq1.true) in
+    same_text e (wider number_width (omega arith) (put p.put-then-n-eq1.ensures.0 p.put-then-n-eq1.ensures.1))
 
-returns-3 : tie.Need-returns-3
+returns-3 : tie.Need-returns
 returns-3 c =
     let p = c.before.before in
     let t = p.before.before in
     let start = t.before.before.before in
     let z = start.args.n in
-    let e = yes_other z (is_not 0 z refl t.before.if1.false) (is_not 1 z refl t.if2.false) in
-    same_text e (passed signed z start.ranges.n.sfits p.put-signed.ensures)
+    let e = yes_other z (is_not 0 z refl t.before.if-n-eq0.false) (is_not 1 z refl t.if-n-eq1.false) in
+    same_text e (passed signed z start.ranges.n.sfits p.put_signed.ensures)
 
 pub put_yes_spec : {M : Type 1} → statement M
 put_yes_spec =

@@ -25,27 +25,27 @@ use Rattle.adv7194_planning.proofs.checks.check.Tie as tie
 -- ---- what is known on the way
 
 -- where the function was entered
-abbrev start : tie.After-limit-right → tie.Start
+abbrev start : tie.After-limit_right → tie.Start
 start c = c.before.before
 
 -- the board whose registers are lent
 abbrev board : tie.Start → Board
-board s = board_of s.args.wanted.now s.args.known
+board s = board_of s.args.wanted-1.now s.args.known
 
 -- where the limit and the count were found right
-abbrev counted-at : tie.After-want → tie.Else2
+abbrev counted-at : tie.After-want → tie.Else-numbers-ne-NUMBERS
 counted-at w = w.before.before
 
-abbrev start2 : tie.Else2 → tie.Start
+abbrev start2 : tie.Else-numbers-ne-NUMBERS → tie.Start
 start2 c = start c.before.before
 
 -- the limit is right
-limited : (c : tie.Else1) → limit_right (start c.before).args.limit ≡ true
-limited c = sym c.before.limit-right.ensures ∙ not-false _ c.if1.false
+limited : (c : tie.Else-not-limit_right) → limit_right (start c.before).args.limit ≡ true
+limited c = sym c.before.limit_right.ensures ∙ not-false _ c.if-not-limit_right.false
 
 -- there are as many numbers as settings have
-counted : (c : tie.Else2) → length (start2 c).args.numbers.now ≡ number_count
-counted c = c.if2.false
+counted : (c : tie.Else-numbers-ne-NUMBERS) → length (start2 c).args.numbers.now ≡ number_count
+counted c = c.if-numbers-ne-NUMBERS.false
 
 -- the settings decide, and then row 11; and the image that the settings want is left
 module _ (w : tie.After-want) where
@@ -61,50 +61,50 @@ module _ (w : tie.After-want) where
       check_settings (board s) zs address s.args.limit room (limited (counted-at w).before) (counted (counted-at w))
       ∙ ap (λ (x : Verdict (Unit {0})). after x (unknown_verdict (board s) zs address s.args.limit room)) e
 
-  left : w.want.last.1.0 ≡ checked_image s.args.wanted.now zs s.args.limit
+  left : w.want.last.1.0 ≡ checked_image s.args.wanted-1.now zs s.args.limit
   left =
       w.want.ensures.1.0
-      ∙ sym (image-is s.args.wanted.now zs s.args.limit (limited (counted-at w).before) (counted (counted-at w)))
+      ∙ sym (image-is s.args.wanted-1.now zs s.args.limit (limited (counted-at w).before) (counted (counted-at w)))
 
 -- the settings are accepted
-accepted : (c : tie.After-enum-told) → check_of (zs c.before.before.before.before) ≡ good tt
-accepted c = sym c.before.before.before.before.want.ensures.0 ∙ ap checked_as c.enum_told.given.1
+accepted : (c : tie.In-Good) → check_of (zs c.before.before.before.before) ≡ good tt
+accepted c = sym c.before.before.before.before.want.ensures.0 ∙ ap checked_as c.enum_told-1.given.1
 
 -- ---- the answers
 
-returns : tie.Need-returns
+returns : tie.Need-returns-then-not-limit_right
 returns c =
     let s = start c.before in
     let zs = s.args.numbers.now in
-    let l : limit_right s.args.limit ≡ false = sym c.before.limit-right.ensures ∙ not-true _ c.if1.true in (
+    let l : limit_right s.args.limit ≡ false = sym c.before.limit_right.ensures ∙ not-true _ c.if-not-limit_right.true in (
       λ address room. sym (check_limit (board s) zs address s.args.limit room l),
-      sym (ap (λ (b : Bool). cond (b && eqb (length zs) number_count) (wanted_by s.args.wanted.now zs) s.args.wanted.now) l),
+      sym (ap (λ (b : Bool). cond (b && eqb (length zs) number_count) (wanted_by s.args.wanted-1.now zs) s.args.wanted-1.now) l),
     )
 
-returns-2 : tie.Need-returns-2
+returns-2 : tie.Need-returns-then-numbers-ne-NUMBERS
 returns-2 c =
     let e = c.before in
     let s = start e.before in
     let zs = s.args.numbers.now in (
-      λ address room. sym (check_count (board s) zs address s.args.limit room (limited e) c.if2.true),
+      λ address room. sym (check_count (board s) zs address s.args.limit room (limited e) c.if-numbers-ne-NUMBERS.true),
       sym
-          (ap (λ (b : Bool). cond (b && eqb (length zs) number_count) (wanted_by s.args.wanted.now zs) s.args.wanted.now) (limited e)
-          ∙ ap (λ (b : Bool). cond b (wanted_by s.args.wanted.now zs) s.args.wanted.now) (ne_eqb (length zs) number_count c.if2.true)),
+          (ap (λ (b : Bool). cond (b && eqb (length zs) number_count) (wanted_by s.args.wanted-1.now zs) s.args.wanted-1.now) (limited e)
+          ∙ ap (λ (b : Bool). cond b (wanted_by s.args.wanted-1.now zs) s.args.wanted-1.now) (ne_eqb (length zs) number_count c.if-numbers-ne-NUMBERS.true)),
     )
 
-returns-3 : tie.Need-returns-3
+returns-3 : tie.Need-returns-in-Refused
 returns-3 c =
     let r = c.before in
     let w = r.before.before.before.before in
-    let e = sym w.want.ensures.0 ∙ ap checked_as r.refusal.given.1 in
-    (λ address room. sym (decided w (refused_at (number_of r.refusal.given.0.0) r.refusal.given.0.1.0) e address room), left w)
+    let e = sym w.want.ensures.0 ∙ ap checked_as r.refusal-1.given.1 in
+    (λ address room. sym (decided w (refused_at (number_of r.refusal-1.given.0.0) r.refusal-1.given.0.1.0) e address room), left w)
 
-returns-4 : tie.Need-returns-4
+returns-4 : tie.Need-returns-in-Good
 returns-4 c =
     let k = c.before in
     let w = k.before.before.before.before in
     let a = (s w).args in
-    (λ address room. c.check-known.ensures a.wanted.now address a.limit room ∙ sym (decided w (good tt) (accepted k) address room), left w)
+    (λ address room. c.check_known.ensures a.wanted-1.now address a.limit room ∙ sym (decided w (good tt) (accepted k) address room), left w)
 
 pub check_spec : {M : Type 1} → statement M
 check_spec =

@@ -12,14 +12,14 @@ use Rattle.adv7194_planning.proofs.registers.changed_registers.Tie as tie
 returns : tie.Need-returns
 returns c =
     let low = c.before.before.before.before.before in
-    let table = low.before.before.before.before.before.field-masks in
+    let table = low.before.before.before.before.before.field_masks-masks in
     let start = low.before.before.before.before.before.before.before.before in
     let image = start.args.image.now in
     let wanted = start.args.wanted.now in
-    both_halves image wanted start.requires low.differing.result c.differing2.result (search rules)
-    (λ j. low.differing.ensures j ∙ ap (λ (m : List ℕ). differs_in (take 0x1b m) (take 0x1b image) (take 0x1b wanted) j) table.ensures)
+    both_halves image wanted start.requires low.differing-low.result c.differing-high.result (search rules)
+    (λ j. low.differing-low.ensures j ∙ ap (λ (m : List ℕ). differs_in (take 0x1b m) (take 0x1b image) (take 0x1b wanted) j) table.ensures)
     (λ j.
-    c.differing2.ensures j
+    c.differing-high.ensures j
     ∙ ap (λ (m : List ℕ). differs_in (take 0x1b (drop 0x1b m)) (take 0x1b (drop 0x1b image)) (take 0x1b (drop 0x1b wanted)) j) table.ensures)
 
 pub changed_registers_spec : {M : Type 1} → statement M

@@ -11,8 +11,8 @@ returns c =
     let d = n.before.before in
     let a = d.before.before.before.before.args in
     λ limit.
-    maps_are a.board a.wanted.now a.fixed limit _ _ _ _ _ d.changed-registers.ensures n.before.must-registers.ensures
-    n.needed-registers.ensures w.allowed-registers.ensures c.held-registers.ensures
+    maps_are a.board a.wanted.now a.fixed limit _ _ _ _ _ d.changed_registers.ensures n.before.must_registers-must.ensures
+    n.needed_registers-needed.ensures w.allowed_registers.ensures c.held_registers.ensures
 
 pub register_maps_spec : {M : Type 1} → statement M
 register_maps_spec =

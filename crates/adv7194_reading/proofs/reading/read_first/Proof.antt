@@ -13,9 +13,9 @@ returns c =
     let t = s.before.before.before in
     let b = t.before.before.before in
     let image = b.args.image.now in (
-      first_verdict image b.requires t.read-timing.ensures.1 p.read-row.ensures.1 t.read-timing.ensures.0 s.square-with-oversampling.ensures
-          p.read-row.ensures.0 q.pedestal-with-pal.ensures o.read-output.ensures.0,
-      first_read image b.requires t.read-timing.ensures.1 p.read-row.ensures.1 o.read-output.ensures.1,
+      first_verdict image b.requires t.read_timing-timing.ensures.1 p.read_row-pedestal.ensures.1 t.read_timing-timing.ensures.0 s.square_with_oversampling-square.ensures
+          p.read_row-pedestal.ensures.0 q.pedestal_with_pal-pal.ensures o.read_output.ensures.0,
+      first_read image b.requires t.read_timing-timing.ensures.1 p.read_row-pedestal.ensures.1 o.read_output.ensures.1,
     )
 
 pub read_first_spec : {M : Type 1} → statement M

@@ -14,11 +14,11 @@ returns c =
     let s = p.before.before.before in
     let b = s.before.before.before in
     let image = b.args.image.now in
-    let e1 = s.read-signalling.ensures in
-    let e2 = p.read-picture.ensures in
-    let e3 = d.read-dnr.ensures in
-    let e4 = b1.read-curve.ensures in
-    let e5 = b2.read-curve2.ensures in (
+    let e1 = s.read_signalling-signalling.ensures in
+    let e2 = p.read_picture-picture.ensures in
+    let e3 = d.read_dnr-dnr.ensures in
+    let e4 = b1.read_curve-curve_a.ensures in
+    let e5 = b2.read_curve-curve_b.ensures in (
       last_verdict_lem image b.requires.1 e1.1 e2.1 e3.1 e4.1 e5.1 (checked_as b.args.before)
           e1.0 e2.0 e3.0 e4.0 e5.0 c.read_word.ensures,
       last_read image b.requires.1 e1.1 e2.1 e3.1 e4.1 e5.1,

@@ -10,19 +10,19 @@ use Rattle.adv7194_reading_blocks.proofs.curves.keep_bytes.Statement.{statement}
 use Rattle.adv7194_reading_blocks.proofs.curves.keep_bytes.Tie as tie
 
 -- where the function begins, from its last byte
-abbrev start4 : tie.After-keep-arg4 → tie.Start
+abbrev start4 : tie.After-keep-arg-4-1 → tie.Start
 start4 c = c.before.before.before.before.before.before.before.before.before.before.before.before.before
 
-abbrev start7 : tie.After-keep-arg7 → tie.Start
+abbrev start7 : tie.After-keep-arg-7-1 → tie.Start
 start7 c = start4 c.before.before.before.before.before.before.before.before.before.before.before.before
 
-add-keep-6 : tie.Need-overflow-add-keep-6
+add-keep-6 : tie.Need-overflow_add-index-6
 add-keep-6 c =
     let h = (start7 c).requires in
     record { fits = omega (arith, h) }
 
 -- the bytes are small
-small : (c : tie.After-struct-known)
+small : (c : tie.After-struct_known-1)
     → let p = c.before.before.args.points in
     (p.b0 < 2 ^ 31) × (p.b1 < 2 ^ 31) × (p.b2 < 2 ^ 31) × (p.b3 < 2 ^ 31) × (p.b4 < 2 ^ 31) × (p.b5 < 2 ^ 31) × (p.b6 < 2 ^ 31)
 small c = (omega arith, omega arith, omega arith, omega arith, omega arith, omega arith, omega arith)
@@ -39,7 +39,7 @@ kept c =
     let a = k1.before.before.before.args in
     let p = a.points in
     let w = small k1.before in
-    kept_seven a.numbers.now a.index p.b0 p.b1 p.b2 p.b3 p.b4 p.b5 p.b6
+    kept_seven a.numbers-1.now a.index p.b0 p.b1 p.b2 p.b3 p.b4 p.b5 p.b6
     (as_signed p.b0 w.0)
     (as_signed p.b1 w.1)
     (as_signed p.b2 w.2)
@@ -47,9 +47,9 @@ kept c =
     (as_signed p.b4 w.4)
     (as_signed p.b5 w.5)
     (as_signed p.b6 w.6)
-    k1.keep.ensures k2.keep2.ensures k3.keep3.ensures d.keep4.ensures e.keep5.ensures f.keep6.ensures g.keep7.ensures
+    k1.keep.ensures k2.keep-2.ensures k3.keep-3.ensures d.keep-4.ensures e.keep-5.ensures f.keep-6.ensures g.keep-7.ensures
 
-same_length : tie.Need-same-length
+same_length : tie.Need-shape_of-numbers
 same_length c = ap length (kept c) ∙ stored-length _ _ _
 
 pub keep_bytes_spec : {M : Type 1} → statement M

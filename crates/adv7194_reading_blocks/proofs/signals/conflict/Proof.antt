@@ -14,20 +14,20 @@ use Rattle.adv7194_reading_blocks.proofs.signals.conflict.Statement.{statement}
 use Rattle.adv7194_reading_blocks.proofs.signals.conflict.Tie as tie
 
 -- the test is that of the standard read
-judged : (c : tie.After-held-conflict) →
-    c.held_conflict_lem.result ≡ held_conflict (given c.before.before.before.args.numbers.now standard.row) (c.before.before.before.args.r19 ∷ [])
+judged : (c : tie.After-held_conflict) →
+    c.held_conflict.result ≡ held_conflict (given c.before.before.before.args.numbers.now standard.row) (c.before.before.before.args.r19 ∷ [])
 judged c =
     let g = c.before.given in
-    c.held_conflict_lem.ensures
+    c.held_conflict.ensures
     ∙ ap (λ (z : ℤ). held_conflict z (c.before.before.before.args.r19 ∷ []))
     (to_z-of_z w32 g.result (record { sfits = g.type-inv }) ∙ g.ensures
     ∙ ap (given c.before.before.before.args.numbers.now) c.before.before.row_of.ensures)
 
 returns : tie.Need-returns
-returns c = ap (λ (b : Bool). fault_where b 7 11) (sym c.if1.true ∙ judged c.before)
+returns c = ap (λ (b : Bool). fault_where b 7 11) (sym c.if-held_conflict.true ∙ judged c.before)
 
-returns-2 : tie.Need-returns-2
-returns-2 c = ap (λ (b : Bool). fault_where b 7 11) (sym c.if1.false ∙ judged c.before)
+returns-2 : tie.Need-returns
+returns-2 c = ap (λ (b : Bool). fault_where b 7 11) (sym c.if-held_conflict.false ∙ judged c.before)
 
 pub conflict_spec : {M : Type 1} → statement M
 conflict_spec =

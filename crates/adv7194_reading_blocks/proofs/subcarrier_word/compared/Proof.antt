@@ -12,8 +12,8 @@ use Rattle.adv7194_reading_blocks.proofs.subcarrier_word.compared.Tie as tie
 use Rattle.field_table.specs.Blocks.{slice}
 
 -- the bytes of the registers
-bytes : (c : tie.After-byte4)
-    → (c.before.before.before.byte.result ∷ c.before.before.byte2.result ∷ c.before.byte3.result ∷ c.byte4.result ∷ [])
+bytes : (c : tie.After-byte-4)
+    → (c.before.before.before.byte.result ∷ c.before.before.byte-2.result ∷ c.before.byte-3.result ∷ c.byte-4.result ∷ [])
     ≡ bytes_in c.before.before.before.before.before.args.image.now word
 unfolding slice
 bytes c = cc
@@ -21,7 +21,7 @@ bytes c = cc
 returns : tie.Need-returns
 returns c =
     let s = c.before.before.before.before.before.before in
-    c.word-setting.ensures
+    c.word_setting.ensures
     ∙ same_reading (bytes c.before) (to_z-of_z w32 s.args.standard s.ranges.standard) (to_z-of_z w32 s.args.square s.ranges.square)
 
 pub compared_spec : {M : Type 1} → statement M

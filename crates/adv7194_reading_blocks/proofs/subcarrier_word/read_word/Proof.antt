@@ -15,32 +15,32 @@ use Rattle.adv7194_reading_blocks.proofs.WordLaws.{same_reading, agrees}
 use Rattle.adv7194_reading_blocks.proofs.subcarrier_word.read_word.Statement.{statement}
 use Rattle.adv7194_reading_blocks.proofs.subcarrier_word.read_word.Tie as tie
 
-abbrev start : tie.After-compared → tie.Start
+abbrev start : tie.After-compared-read → tie.Start
 start c = c.before.before.before.before.before.before
 
 -- what was compared are the settings read
-reading : (c : tie.After-compared)
-    → word_read_as c.compared.result
+reading : (c : tie.After-compared-read)
+    → word_read_as c.compared-read.result
     ≡ word_reading (bytes_in (start c).args.image.now word) (given (start c).args.numbers.now standard.row)
     (given (start c).args.numbers.now square_pixel.row)
 reading c =
     let b = c.before in
     let a = b.before.before in
     let zs = (start c).args.numbers.now in
-    c.compared.ensures
+    c.compared-read.ensures
     ∙ same_reading refl
-    (to_z-of_z w32 a.given.result (record { sfits = a.given.type-inv }) ∙ a.given.ensures ∙ ap (given zs) a.before.row_of.ensures)
-    (to_z-of_z w32 b.given2.result (record { sfits = b.given2.type-inv }) ∙ b.given2.ensures ∙ ap (given zs) b.before.row-of2.ensures)
+    (to_z-of_z w32 a.given-standard.result (record { sfits = a.given-standard.type-inv }) ∙ a.given-standard.ensures ∙ ap (given zs) a.before.row_of.ensures)
+    (to_z-of_z w32 b.given-square.result (record { sfits = b.given-square.type-inv }) ∙ b.given-square.ensures ∙ ap (given zs) b.before.row_of-2.ensures)
 
 returns : tie.Need-returns
 returns c =
     let k = c.before.before.before.before in
     c.then.ensures ∙ ap (after (checked_as (start k).args.before)) (c.before.fault.ensures ∙ ap (fault_of 28) (reading k))
 
-returns-2 : tie.Need-returns-2
+returns-2 : tie.Need-returns
 returns-2 c =
     let k = c.before.before in
-    agrees (checked_as (start k).args.before) (reading k) (ap word_read_as c.enum_told.given.1)
+    agrees (checked_as (start k).args.before) (reading k) (ap word_read_as c.enum_told-1.given-standard.1)
 
 pub read_word_spec : {M : Type 1} → statement M
 read_word_spec =

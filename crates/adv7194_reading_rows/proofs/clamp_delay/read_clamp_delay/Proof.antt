@@ -12,8 +12,8 @@ returns c =
     let w = c.before in
     let k = w.before.before in
     let a = k.before.before.before.before.args in
-    read_by clamp_delay a.image.now (checked_as a.before) a.numbers.now k.clamp-delay-setting.ensures k.before.held.ensures
-    k.before.before.row_of.ensures w.read-decoded.ensures
+    read_by clamp_delay a.image.now (checked_as a.before) a.numbers-1.now k.clamp_delay_setting-decoded.ensures k.before.held.ensures
+    k.before.before.row_of.ensures w.read_decoded.ensures
 
 pub read_clamp_delay_spec : {M : Type 1} → statement M
 read_clamp_delay_spec =

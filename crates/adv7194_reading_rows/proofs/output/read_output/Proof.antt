@@ -21,14 +21,14 @@ returns c =
     let c2 = c3.before.before.before in
     let c1 = c2.before.before.before in
     let s = c1.before.before.before in
-    let s0 = held_none {image = s.args.image.now} {v = checked_as s.args.before} {zs = s.args.numbers.now} in
-    let s1 = read_next (plain_of (row_of 0x05_04_05_01_000_001_04)) c1.read-row.ensures s0 in
-    let s2 = read_next (plain_of (row_of 0x06_05_05_12_000_002_04)) c2.read-row2.ensures s1 in
-    let s3 = read_next (plain_of (row_of 0x07_06_05_31_000_001_04)) c3.read-row3.ensures s2 in
-    let s4 = read_next clamp_delay c4.read-clamp-delay.ensures s3 in
-    let s5 = read_next (plain_of (row_of 0x09_08_05_71_000_001_04)) c5.read-row4.ensures s4 in
-    let s6 = read_next (plain_of (row_of 0x0A_09_10_08_000_0FF_04)) c6.read-row5.ensures s5 in
-    (s6.verdict, s6.numbers)
+    let s0 = held_none {image = s.args.image.now} {v = checked_as s.args.before} {zs = s.args.numbers-1.now} in
+    let s1 = read_next (plain_of (row_of 0x05_04_05_01_000_001_04)) c1.read_row-y_level.ensures s0 in
+    let s2 = read_next (plain_of (row_of 0x06_05_05_12_000_002_04)) c2.read_row-uv_level.ensures s1 in
+    let s3 = read_next (plain_of (row_of 0x07_06_05_31_000_001_04)) c3.read_row-rgb_sync.ensures s2 in
+    let s4 = read_next clamp_delay c4.read_clamp_delay-clamp_delay.ensures s3 in
+    let s5 = read_next (plain_of (row_of 0x09_08_05_71_000_001_04)) c5.read_row-back_porch.ensures s4 in
+    let s6 = read_next (plain_of (row_of 0x0A_09_10_08_000_0FF_04)) c6.read_row.ensures s5 in
+    (s6.verdict, s6.numbers-1)
 
 pub read_output_spec : {M : Type 1} → statement M
 read_output_spec =

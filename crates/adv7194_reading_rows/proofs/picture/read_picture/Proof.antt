@@ -36,16 +36,16 @@ returns c =
     let c2 = c3.before.before.before in
     let c1 = c2.before.before.before in
     let s = c1.before.before.before in
-    let s0 = held_none {image = s.args.image.now} {v = checked_as s.args.before} {zs = s.args.numbers.now} in
-    let s1 = read_next contrast c1.read-thousandths.ensures s0 in
-    let s2 = read_next u_scale c2.read-thousandths2.ensures s1 in
-    let s3 = read_next v_scale c3.read-thousandths3.ensures s2 in
-    let s4 = read_next hue c4.read-hue.ensures s3 in
-    let s5 = read_next brightness c5.read-brightness.ensures s4 in
-    let s6 = read_next (plain_of (row_of 0x10_FF_21_71_000_000_04)) c6.read-zero.ensures s5 in
-    let s7 = read_next sharpness c7.read-sharpness.ensures s6 in
-    let s8 = read_next (plain_of (row_of 0x11_FF_22_44_000_000_04)) c8.read-zero2.ensures s7 in
-    (s8.verdict, s8.numbers)
+    let s0 = held_none {image = s.args.image.now} {v = checked_as s.args.before} {zs = s.args.numbers-1.now} in
+    let s1 = read_next contrast c1.read_thousandths-contrast.ensures s0 in
+    let s2 = read_next u_scale c2.read_thousandths-u_scale.ensures s1 in
+    let s3 = read_next v_scale c3.read_thousandths-v_scale.ensures s2 in
+    let s4 = read_next hue c4.read_hue-hue.ensures s3 in
+    let s5 = read_next brightness c5.read_brightness-brightness.ensures s4 in
+    let s6 = read_next (plain_of (row_of 0x10_FF_21_71_000_000_04)) c6.read_zero-brightness_zero.ensures s5 in
+    let s7 = read_next sharpness c7.read_sharpness-sharpness.ensures s6 in
+    let s8 = read_next (plain_of (row_of 0x11_FF_22_44_000_000_04)) c8.read_zero.ensures s7 in
+    (s8.verdict, s8.numbers-1)
 
 pub read_picture_spec : {M : Type 1} → statement M
 read_picture_spec =

@@ -14,9 +14,9 @@ returns c =
     let w = c.before in
     let k = w.before.before in
     let a = k.before.before.before.before.args in
-    read_by (in_thousandths (row_of a.packed)) a.image.now (checked_as a.before) a.numbers.now
-    k.thousandths-setting.ensures k.before.held.ensures
-    k.before.before.row_of.ensures w.read-decoded.ensures
+    read_by (in_thousandths (row_of a.packed)) a.image.now (checked_as a.before) a.numbers-1.now
+    k.thousandths_setting-decoded.ensures k.before.held.ensures
+    k.before.before.row_of.ensures w.read_decoded.ensures
 
 pub read_thousandths_spec : {M : Type 1} → statement M
 read_thousandths_spec =

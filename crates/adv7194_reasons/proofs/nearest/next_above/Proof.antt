@@ -14,30 +14,30 @@ record Inv (map register here : ℕ) : Type 0 where
   inside : here ≤ register_count
   next : next_up (has map) here ≡ next_above (has map) register
 
-abbrev invariant-loop : tie.invariant-loop
+abbrev invariant-loop : tie.invariant-loop-at
 invariant-loop map register at₀ here = Inv map register here
 
-abbrev decreases-loop : tie.decreases-loop
+abbrev decreases-loop : tie.decreases-loop-at
 decreases-loop map register at₀ here = register_count - here
 
-loop-holds : tie.Need-loop-init invariant-loop decreases-loop
+loop-holds : tie.Need-loop-at-init invariant-loop decreases-loop
 loop-holds c = record { inside = omega arith; next = up_first (has c.args.map) c.args.register }
 
 returns : tie.Need-returns invariant-loop decreases-loop
 returns c =
     let l = c.before.before.before in
-    up_here (has l.before.args.map) l.loop.at c.before.before.loop-test.true (sym c.before.has.ensures ∙ c.if1.true)
-    ∙ l.loop.invariant.next
+    up_here (has l.before.args.map) l.loop-at.at c.before.before.loop-at-test.true (sym c.before.has.ensures ∙ c.if-has.true)
+    ∙ l.loop-at.invariant.next
 
-loop-again : tie.Need-loop-preserved invariant-loop decreases-loop
+loop-again : tie.Need-loop-at-preserved invariant-loop decreases-loop
 loop-again c =
     let l = c.before.before.before in
-    let h = c.before.before.loop-test.true in
-    let none = sym c.before.has.ensures ∙ c.if1.false in
-    record { inside = omega arith; next = up_next (has l.before.args.map) l.loop.at h none ∙ l.loop.invariant.next }
+    let h = c.before.before.loop-at-test.true in
+    let none = sym c.before.has.ensures ∙ c.if-has.false in
+    record { inside = omega arith; next = up_next (has l.before.args.map) l.loop-at.at h none ∙ l.loop-at.invariant.next }
 
-returns-2 : tie.Need-returns-2 invariant-loop decreases-loop
-returns-2 c = let l = c.before in up_none (has l.before.args.map) l.loop.at c.loop-test.false ∙ l.loop.invariant.next
+returns-2 : tie.Need-returns invariant-loop decreases-loop
+returns-2 c = let l = c.before in up_none (has l.before.args.map) l.loop-at.at c.loop-at-test.false ∙ l.loop-at.invariant.next
 
 pub next_above_spec : {M : Type 1} → statement M
 next_above_spec =

@@ -35,19 +35,19 @@ module _ (s : tie.Start) where
   other = with_other (has s.args.must) s.args.register
 
 -- where the function was entered
-abbrev start : tie.After-changed-field → tie.Start
+abbrev start : tie.After-changed_field-field → tie.Start
 start c = c.before.before.before
 
 -- no field's bits change
-unchanged : (c : tie.Else1) → eqb (field (start c.before)) 0 ≡ true
-unchanged c = eq-eqb _ 0 (sym c.before.changed-field.ensures ∙ c.if1.false)
+unchanged : (c : tie.Else-field-ne-NO_FIELD) → eqb (field (start c.before)) 0 ≡ true
+unchanged c = eq-eqb _ 0 (sym c.before.changed_field-field.ensures ∙ c.if-field-ne-NO_FIELD.false)
 
 -- no must-be-zero bit was set
-clear : (c : tie.Else2) → zero (start c.before.before.before) ≡ false
-clear c = ap not (eq-eqb _ 0 (sym c.before.zero_bits_lem.ensures ∙ c.if2.false))
+clear : (c : tie.Else-zero_bits-ne0) → zero (start c.before.before.before) ≡ false
+clear c = ap not (eq-eqb _ 0 (sym c.before.zero_bits.ensures ∙ c.if-zero_bits-ne0.false))
 
 -- the tests up to the second
-first_two : (c : tie.Else2) (o : Bool) → (let s = start c.before.before.before in
+first_two : (c : tie.Else-zero_bits-ne0) (o : Bool) → (let s = start c.before.before.before in
     tests (field s) (last s) (eqb (field s) 0) (zero s) o ≡ tests (field s) (last s) true false o)
 first_two c o =
     let s = start c.before.before.before in
@@ -57,28 +57,28 @@ returns : tie.Need-returns
 returns c =
     let f = c.before in
     let s = start f in
-    let e = f.changed-field.ensures in
+    let e = f.changed_field-field.ensures in
     ap good
-    (ap changed e ∙ sym (ap (λ (b : Bool). tests (field s) (last s) b (zero s) (other s)) (ne_eqb (field s) 0 (λ z. c.if1.true (e ∙ z)))))
+    (ap changed e ∙ sym (ap (λ (b : Bool). tests (field s) (last s) b (zero s) (other s)) (ne_eqb (field s) 0 (λ z. c.if-field-ne-NO_FIELD.true (e ∙ z)))))
 
-returns-2 : tie.Need-returns-2
+returns-2 : tie.Need-returns-then-zero_bits-ne0
 returns-2 c =
     let z = c.before in
     let s = start z.before.before in
-    let set : zero s ≡ true = ap not (ne_eqb _ 0 (λ q. c.if2.true (z.zero_bits_lem.ensures ∙ q))) in
+    let set : zero s ≡ true = ap not (ne_eqb _ 0 (λ q. c.if-zero_bits-ne0.true (z.zero_bits.ensures ∙ q))) in
     ap good
     (sym
     (ap (λ (b : Bool). tests (field s) (last s) b (zero s) (other s)) (unchanged z.before)
     ∙ ap (λ (b : Bool). tests (field s) (last s) true b (other s)) set))
 
-returns-3 : tie.Need-returns-3
+returns-3 : tie.Need-returns-then-with_other
 returns-3 c =
     let w = c.before in
     let e = w.before in
     let s = start e.before.before.before in
-    ap good (sym (first_two e (other s) ∙ ap (λ (b : Bool). tests (field s) (last s) true false b) (sym w.with-other.ensures ∙ c.if3.true)))
+    ap good (sym (first_two e (other s) ∙ ap (λ (b : Bool). tests (field s) (last s) true false b) (sym w.with_other.ensures ∙ c.if-with_other.true)))
 
-returns-4 : tie.Need-returns-4
+returns-4 : tie.Need-returns
 returns-4 c =
     let n = c.before in
     let d = n.before in
@@ -86,8 +86,8 @@ returns-4 c =
     let e = w.before in
     let s = start e.before.before.before in
     ap good
-    (ap₂ (λ (x y : ℕ). bridge x y) n.next-below.ensures c.next-above.ensures
-    ∙ sym (first_two e (other s) ∙ ap (λ (b : Bool). tests (field s) (last s) true false b) (sym w.with-other.ensures ∙ d.if3.false)))
+    (ap₂ (λ (x y : ℕ). bridge x y) n.next_below.ensures c.next_above.ensures
+    ∙ sym (first_two e (other s) ∙ ap (λ (b : Bool). tests (field s) (last s) true false b) (sym w.with_other.ensures ∙ d.if-with_other.false)))
 
 pub known_reason_spec : {M : Type 1} → statement M
 known_reason_spec =

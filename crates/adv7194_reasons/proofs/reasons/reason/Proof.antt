@@ -21,46 +21,46 @@ use Rattle.adv7194_reasons.proofs.reasons.reason.Statement.{statement}
 use Rattle.adv7194_reasons.proofs.reasons.reason.Tie as tie
 
 -- where the function was entered
-abbrev start : tie.After-register-maps → tie.Start
+abbrev start : tie.After-register_maps-maps → tie.Start
 start m = m.before.before.before
 
 -- what is aimed at
 abbrev aim : tie.Start → Aim
 aim s = aim_by s.args.board s.args.wanted.now s.args.fixed s.args.limit
 
-register-maps-requires : tie.Need-register-maps-requires
+register-maps-requires : tie.Need-register_maps-maps-requires
 register-maps-requires c κs =
     let s = c.before.before in
     comparable s.args.board s.args.wanted.now s.args.fixed s.args.limit s.requires.change
 
-plan-spans-requires : tie.Need-plan-spans-requires
+plan-spans-requires : tie.Need-plan_spans-sent-requires
 plan-spans-requires m κs =
     let s = start m in
-    bounded s.args.board s.args.wanted.now s.args.fixed s.args.limit s.pre.change m.register-maps.result
-    (m.register-maps.ensures s.args.limit)
+    bounded s.args.board s.args.wanted.now s.args.fixed s.args.limit s.pre.change m.register_maps-maps.result
+    (m.register_maps-maps.ensures s.args.limit)
 
 -- ---- what is known on the way
 
 -- the map has the registers that the plan touches
-taken_is : (p : tie.After-plan-spans) (x : ℕ) → has p.plan-spans.result.taken x ≡ touched (plan_of (aim (start p.before))) x
+taken_is : (p : tie.After-plan_spans-sent) (x : ℕ) → has p.plan_spans-sent.result.taken x ≡ touched (plan_of (aim (start p.before))) x
 taken_is p x =
     let m = p.before in
     let s = start m in
     let w = s.args.wanted.now in
-    let maps = m.register-maps.ensures s.args.limit in
-    (p.plan-spans.ensures w (plannable s.args.board w s.args.fixed s.args.limit s.pre.change m.register-maps.result maps)).0 x
+    let maps = m.register_maps-maps.ensures s.args.limit in
+    (p.plan_spans-sent.ensures w (plannable s.args.board w s.args.fixed s.args.limit s.pre.change m.register_maps-maps.result maps)).0 x
     ∙ ap (λ (ts : List Transaction). touched ts x)
-    (plan-is s.args.board w s.args.fixed s.args.limit s.pre.change m.register-maps.result maps)
+    (plan-is s.args.board w s.args.fixed s.args.limit s.pre.change m.register_maps-maps.result maps)
 
 -- the register is sent
-sent : (c : tie.Else1) → (let s = start c.before.before.before in touched (plan_of (aim s)) s.args.register ≡ true)
+sent : (c : tie.Else-not-has) → (let s = start c.before.before.before in touched (plan_of (aim s)) s.args.register ≡ true)
 sent c =
     let h = c.before in
-    sym (taken_is h.before (start h.before.before).args.register) ∙ sym h.has.ensures ∙ not-false _ c.if1.false
+    sym (taken_is h.before (start h.before.before).args.register) ∙ sym h.has.ensures ∙ not-false _ c.if-not-has.false
 
 -- it is known
-known : (c : tie.Else2) → (let s = start c.before.before.before.before.before in knows s.args.board s.args.register ≡ true)
-known c = sym c.before.has2.ensures ∙ not-false _ c.if2.false
+known : (c : tie.Else-not-has-2) → (let s = start c.before.before.before.before.before in knows s.args.board s.args.register ≡ true)
+known c = sym c.before.has-2.ensures ∙ not-false _ c.if-not-has-2.false
 
 -- ---- the answers
 
@@ -71,30 +71,30 @@ returns c =
     ap good
     (sym
     (not_touched (aim s) (plan_of (aim s)) s.args.register
-    (sym (taken_is h.before s.args.register) ∙ sym h.has.ensures ∙ not-true _ c.if1.true)))
+    (sym (taken_is h.before s.args.register) ∙ sym h.has.ensures ∙ not-true _ c.if-not-has.true)))
 
-returns-2 : tie.Need-returns-2
+returns-2 : tie.Need-returns-then-not-has-2
 returns-2 c =
     let h = c.before in
     let s = start h.before.before.before.before in
     ap good
-    (sym (not_known_lem (aim s) (plan_of (aim s)) s.args.register (sent h.before) (sym h.has2.ensures ∙ not-true _ c.if2.true)))
+    (sym (not_known_lem (aim s) (plan_of (aim s)) s.args.register (sent h.before) (sym h.has-2.ensures ∙ not-true _ c.if-not-has-2.true)))
 
-known-reason-requires : tie.Need-known-reason-requires
+known-reason-requires : tie.Need-known_reason-requires
 known-reason-requires c κs =
     let e = c.before.before.before in
     let s = start e.before.before.before in
     plan-inside (aim s) s.pre.change s.args.register (sent e)
 
-returns-3 : tie.Need-returns-3
+returns-3 : tie.Need-returns
 returns-3 c =
     let d = c.before.before in
     let e = d.before.before in
     let m = e.before.before.before in
     let s = start m in
-    c.known-reason.ensures
-    ∙ ap (λ (P : ℕ → Bool). good (known_reason s.args.board.registers s.args.wanted.now P s.args.register))
-    (fun_ext (m.register-maps.ensures s.args.limit).musts)
+    c.known_reason.ensures
+    ∙ ap (λ (P : ℕ → Bool). good (known_reason s.args.board.registers-1 s.args.wanted.now P s.args.register))
+    (fun_ext (m.register_maps-maps.ensures s.args.limit).musts)
     ∙ ap good (sym (is_known (aim s) (plan_of (aim s)) s.args.register (sent e) (known d) s.pre.answer))
 
 pub reason_spec : {M : Type 1} → statement M

@@ -4,10 +4,10 @@ use borrow.Author.Rules.{rules}
 use Rattle.adv7194_run.proofs.calls.settings.Statement.{statement}
 use Rattle.adv7194_run.proofs.calls.settings.Tie as tie
 
-abbrev invariant-loop : tie.invariant-loop
+abbrev invariant-loop : tie.invariant-loop-i
 invariant-loop held settings₀ i₀ settings i = i ≤ 64
 
-abbrev decreases-loop : tie.decreases-loop
+abbrev decreases-loop : tie.decreases-loop-i
 decreases-loop held settings₀ i₀ settings i = 64 - i
 
 pub settings_spec : {M : Type 1} → statement M

@@ -4,10 +4,10 @@ use borrow.Author.Rules.{rules}
 use Rattle.adv7194_run.proofs.chip.all.Statement.{statement}
 use Rattle.adv7194_run.proofs.chip.all.Tie as tie
 
-abbrev invariant-loop : tie.invariant-loop
+abbrev invariant-loop : tie.invariant-loop-i
 invariant-loop own known registers₀ held count state₀ map₀ i₀ registers state map i = Unit {0}
 
-abbrev decreases-loop : tie.decreases-loop
+abbrev decreases-loop : tie.decreases-loop-i
 decreases-loop own known registers₀ held count state₀ map₀ i₀ registers state map i = count - i
 
 pub all_spec : {M : Type 1} → statement M

@@ -5,10 +5,10 @@ use borrow.Author.Rules.{rules}
 use Rattle.adv7194_run.proofs.context.map_of.Statement.{statement}
 use Rattle.adv7194_run.proofs.context.map_of.Tie as tie
 
-abbrev invariant-loop : tie.invariant-loop
+abbrev invariant-loop : tie.invariant-loop-i
 invariant-loop bytes map₀ i₀ map i = i ≤ length bytes
 
-abbrev decreases-loop : tie.decreases-loop
+abbrev decreases-loop : tie.decreases-loop-i
 decreases-loop bytes map₀ i₀ map i = length bytes - i
 
 pub map_of_spec : {M : Type 1} → statement M

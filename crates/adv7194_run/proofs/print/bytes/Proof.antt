@@ -5,10 +5,10 @@ use borrow.Author.Rules.{rules}
 use Rattle.adv7194_run.proofs.print.bytes.Statement.{statement}
 use Rattle.adv7194_run.proofs.print.bytes.Tie as tie
 
-abbrev invariant-loop : tie.invariant-loop
+abbrev invariant-loop : tie.invariant-loop-i
 invariant-loop list i₀ i = i ≤ length list
 
-abbrev decreases-loop : tie.decreases-loop
+abbrev decreases-loop : tie.decreases-loop-i
 decreases-loop list i₀ i = length list - i
 
 pub bytes_spec : {M : Type 1} → statement M

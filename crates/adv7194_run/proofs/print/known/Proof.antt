@@ -4,10 +4,10 @@ use borrow.Author.Rules.{rules}
 use Rattle.adv7194_run.proofs.print.known.Statement.{statement}
 use Rattle.adv7194_run.proofs.print.known.Tie as tie
 
-abbrev invariant-loop : tie.invariant-loop
+abbrev invariant-loop : tie.invariant-loop-i
 invariant-loop given map i₀ i = i ≤ 8
 
-abbrev decreases-loop : tie.decreases-loop
+abbrev decreases-loop : tie.decreases-loop-i
 decreases-loop given map i₀ i = 8 - i
 
 pub known_spec : {M : Type 1} → statement M

@@ -10,8 +10,8 @@ use Rattle.adv7194_setting_rows.proofs.WantLaws.{want_by}
 use Rattle.adv7194_setting_rows.proofs.clamp_delay.want_clamp_delay.Statement.{statement}
 use Rattle.adv7194_setting_rows.proofs.clamp_delay.want_clamp_delay.Tie as tie
 
-want-coded-requires : tie.Need-want-coded-requires
-want-coded-requires c κs = (tt, subst (λ (j : Judged ℕ). value_or 0 j < 2 ^ 3) (sym c.before.clamp-delay-code.ensures) (clamp_delay-fits _))
+want-coded-requires : tie.Need-want_coded-requires
+want-coded-requires c κs = (tt, subst (λ (j : Judged ℕ). value_or 0 j < 2 ^ 3) (sym c.before.clamp_delay_code-coded.ensures) (clamp_delay-fits _))
 
 returns : tie.Need-returns
 returns c =
@@ -19,8 +19,8 @@ returns c =
     let k = w.before.before in
     let g = k.before.given in
     let a = k.before.before.before.before.args in
-    want_by clamp_delay a.numbers.now (checked_as a.before) a.image.now k.clamp-delay-code.ensures g.type-inv g.ensures
-    k.before.before.row_of.ensures w.want-coded.ensures
+    want_by clamp_delay a.numbers.now (checked_as a.before) a.image-1.now k.clamp_delay_code-coded.ensures g.type-inv g.ensures
+    k.before.before.row_of.ensures w.want_coded.ensures
 
 pub want_clamp_delay_spec : {M : Type 1} → statement M
 want_clamp_delay_spec =

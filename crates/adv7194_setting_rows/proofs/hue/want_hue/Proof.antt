@@ -10,8 +10,8 @@ use Rattle.adv7194_setting_rows.proofs.WantLaws.{want_by}
 use Rattle.adv7194_setting_rows.proofs.hue.want_hue.Statement.{statement}
 use Rattle.adv7194_setting_rows.proofs.hue.want_hue.Tie as tie
 
-want-coded-requires : tie.Need-want-coded-requires
-want-coded-requires c κs = (tt, subst (λ (j : Judged ℕ). value_or 0 j < 2 ^ 8) (sym c.before.hue-code.ensures) (hue-fits _))
+want-coded-requires : tie.Need-want_coded-requires
+want-coded-requires c κs = (tt, subst (λ (j : Judged ℕ). value_or 0 j < 2 ^ 8) (sym c.before.hue_code-coded.ensures) (hue-fits _))
 
 returns : tie.Need-returns
 returns c =
@@ -19,8 +19,8 @@ returns c =
     let k = w.before.before in
     let g = k.before.given in
     let a = k.before.before.before.before.args in
-    want_by hue a.numbers.now (checked_as a.before) a.image.now k.hue-code.ensures g.type-inv g.ensures
-    k.before.before.row_of.ensures w.want-coded.ensures
+    want_by hue a.numbers.now (checked_as a.before) a.image-1.now k.hue_code-coded.ensures g.type-inv g.ensures
+    k.before.before.row_of.ensures w.want_coded.ensures
 
 pub want_hue_spec : {M : Type 1} → statement M
 want_hue_spec =

@@ -21,13 +21,13 @@ returns c =
     let c2 = c3.before.before.before.before in
     let c1 = c2.before.before.before.before in
     let s = c1.before.before.before in
-    let s0 = want_none {zs = s.args.numbers.now} {v = checked_as s.args.before} {image = s.args.image.now} in
-    let s1 = want_next (plain_of (row_of 0x05_04_05_01_000_001_04)) c1.want-row.ensures s0 in
-    let s2 = want_next (plain_of (row_of 0x06_05_05_12_000_002_04)) c2.want-row2.ensures s1 in
-    let s3 = want_next (plain_of (row_of 0x07_06_05_31_000_001_04)) c3.want-row3.ensures s2 in
-    let s4 = want_next clamp_delay c4.want-clamp-delay.ensures s3 in
-    let s5 = want_next (plain_of (row_of 0x09_08_05_71_000_001_04)) c5.want-row4.ensures s4 in
-    let s6 = want_next (plain_of (row_of 0x0A_09_10_08_000_0FF_04)) c6.want-row5.ensures s5 in
+    let s0 = want_none {zs = s.args.numbers.now} {v = checked_as s.args.before} {image = s.args.image-1.now} in
+    let s1 = want_next (plain_of (row_of 0x05_04_05_01_000_001_04)) c1.want_row-y_level.ensures s0 in
+    let s2 = want_next (plain_of (row_of 0x06_05_05_12_000_002_04)) c2.want_row-uv_level.ensures s1 in
+    let s3 = want_next (plain_of (row_of 0x07_06_05_31_000_001_04)) c3.want_row-rgb_sync.ensures s2 in
+    let s4 = want_next clamp_delay c4.want_clamp_delay-clamp_delay.ensures s3 in
+    let s5 = want_next (plain_of (row_of 0x09_08_05_71_000_001_04)) c5.want_row-back_porch.ensures s4 in
+    let s6 = want_next (plain_of (row_of 0x0A_09_10_08_000_0FF_04)) c6.want_row.ensures s5 in
     (s6.verdict, s6.registers)
 
 pub want_output_spec : {M : Type 1} → statement M

@@ -23,20 +23,20 @@ returns c =
     let c2 = c3.before.before.before.before in
     let c1 = c2.before.before.before.before in
     let s = c1.before.before.before in
-    let s0 = want_none {zs = s.args.numbers.now} {v = checked_as s.args.before} {image = s.args.image.now} in
-    let s1 = want_next contrast c1.want-thousandths.ensures s0 in
-    let s2 = want_next u_scale c2.want-thousandths2.ensures s1 in
-    let s3 = want_next v_scale c3.want-thousandths3.ensures s2 in
-    let s4 = want_next hue c4.want-hue.ensures s3 in
-    let s5 = want_next brightness c5.want-brightness.ensures s4 in
+    let s0 = want_none {zs = s.args.numbers.now} {v = checked_as s.args.before} {image = s.args.image-1.now} in
+    let s1 = want_next contrast c1.want_thousandths-contrast.ensures s0 in
+    let s2 = want_next u_scale c2.want_thousandths-u_scale.ensures s1 in
+    let s3 = want_next v_scale c3.want_thousandths-v_scale.ensures s2 in
+    let s4 = want_next hue c4.want_hue-hue.ensures s3 in
+    let s5 = want_next brightness c5.want_brightness-brightness.ensures s4 in
     let z6 =
-    brightness-step s.args.numbers.now (checked_as c5.want-brightness.result) c5.want-brightness.new.1.1.0 s.requires
-    c6.clear-zero-bits.ensures.1 c6.clear-zero-bits.ensures.0 in
+    brightness-step s.args.numbers.now (checked_as c5.want_brightness-brightness.result) c5.want_brightness-brightness.new.1.1.0 s.requires
+    c6.clear_zero_bits.ensures.1 c6.clear_zero_bits.ensures.0 in
     let s6 = want_next brightness_zero z6 s5 in
-    let s7 = want_next sharpness c7.want-sharpness.ensures s6 in
+    let s7 = want_next sharpness c7.want_sharpness-sharpness.ensures s6 in
     let z8 =
-    sharpness-step s.args.numbers.now (checked_as c7.want-sharpness.result) c7.want-sharpness.new.1.1.0 s.requires
-    c8.clear-zero-bits2.ensures.1 c8.clear-zero-bits2.ensures.0 in
+    sharpness-step s.args.numbers.now (checked_as c7.want_sharpness-sharpness.result) c7.want_sharpness-sharpness.new.1.1.0 s.requires
+    c8.clear_zero_bits-2.ensures.1 c8.clear_zero_bits-2.ensures.0 in
     let s8 = want_next sharpness_zero z8 s7 in
     (s8.verdict, s8.registers)
 

@@ -10,8 +10,8 @@ use Rattle.adv7194_setting_rows.proofs.WantLaws.{want_by}
 use Rattle.adv7194_setting_rows.proofs.sharpness.want_sharpness.Statement.{statement}
 use Rattle.adv7194_setting_rows.proofs.sharpness.want_sharpness.Tie as tie
 
-want-coded-requires : tie.Need-want-coded-requires
-want-coded-requires c κs = (tt, subst (λ (j : Judged ℕ). value_or 0 j < 2 ^ 4) (sym c.before.sharpness-code.ensures) (sharpness-fits _))
+want-coded-requires : tie.Need-want_coded-requires
+want-coded-requires c κs = (tt, subst (λ (j : Judged ℕ). value_or 0 j < 2 ^ 4) (sym c.before.sharpness_code-coded.ensures) (sharpness-fits _))
 
 returns : tie.Need-returns
 returns c =
@@ -19,8 +19,8 @@ returns c =
     let k = w.before.before in
     let g = k.before.given in
     let a = k.before.before.before.before.args in
-    want_by sharpness a.numbers.now (checked_as a.before) a.image.now k.sharpness-code.ensures g.type-inv g.ensures
-    k.before.before.row_of.ensures w.want-coded.ensures
+    want_by sharpness a.numbers.now (checked_as a.before) a.image-1.now k.sharpness_code-coded.ensures g.type-inv g.ensures
+    k.before.before.row_of.ensures w.want_coded.ensures
 
 pub want_sharpness_spec : {M : Type 1} → statement M
 want_sharpness_spec =

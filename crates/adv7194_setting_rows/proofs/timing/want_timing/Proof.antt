@@ -18,10 +18,10 @@ returns c =
     let c2 = c3.before.before.before.before in
     let c1 = c2.before.before.before.before in
     let s = c1.before.before.before in
-    let s0 = want_none {zs = s.args.numbers.now} {v = checked_as s.args.before} {image = s.args.image.now} in
-    let s1 = want_next (plain_of (row_of 0x01_00_00_02_000_001_04)) c1.want-row.ensures s0 in
-    let s2 = want_next (plain_of (row_of 0x02_01_02_41_000_001_04)) c2.want-row2.ensures s1 in
-    let s3 = want_next (plain_of (row_of 0x03_02_01_61_000_001_04)) c3.want-row3.ensures s2 in
+    let s0 = want_none {zs = s.args.numbers.now} {v = checked_as s.args.before} {image = s.args.image-1.now} in
+    let s1 = want_next (plain_of (row_of 0x01_00_00_02_000_001_04)) c1.want_row-standard.ensures s0 in
+    let s2 = want_next (plain_of (row_of 0x02_01_02_41_000_001_04)) c2.want_row-square_pixel.ensures s1 in
+    let s3 = want_next (plain_of (row_of 0x03_02_01_61_000_001_04)) c3.want_row.ensures s2 in
     (s3.verdict, s3.registers)
 
 pub want_timing_spec : {M : Type 1} → statement M

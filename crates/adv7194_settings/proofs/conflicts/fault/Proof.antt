@@ -4,7 +4,7 @@ use Rattle.adv7194_settings.proofs.conflicts.fault.Statement.{statement}
 use Rattle.adv7194_settings.proofs.conflicts.fault.Tie as tie
 
 returns : tie.Need-returns
-returns c = rw c.if1.true
+returns c = rw c.if-conflict.true
 
 pub fault_spec : {M : Type 1} → statement M
 fault_spec = tie.close (tie.spec returns (λ c. search rules))

@@ -16,7 +16,7 @@ returns c =
     c.then.ensures
     ∙ ap (after (checked_as b.before.before.args.before))
     (c.before.fault.ensures
-    ∙ ap₂ (λ (t : Bool) (f : ℕ). fault_where t 6 f) (ap₂ ◌&&◌ b.before.is_one.ensures b.is-one2.ensures)
+    ∙ ap₂ (λ (t : Bool) (f : ℕ). fault_where t 6 f) (ap₂ ◌&&◌ b.before.is_one-pedestal.ensures b.is_one-pal.ensures)
     (ap (λ (x : Row). x.field) r.row_of.ensures))
 
 pub pedestal_with_pal_spec : {M : Type 1} → statement M

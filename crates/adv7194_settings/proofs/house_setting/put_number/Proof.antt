@@ -11,7 +11,7 @@ returns : tie.Need-returns
 returns c =
     let k = c.before.before in
     let s = k.before.before.args in
-    c.before.store.ensures ∙ store-row s.numbers.now k.row_of.ensures (to_z-of_z w32 s.number k.before.before.ranges.number)
+    c.before.store.ensures ∙ store-row s.numbers-1.now k.row_of.ensures (to_z-of_z w32 s.number k.before.before.ranges.number)
 
 pub put_number_spec : {M : Type 1} → statement M
 put_number_spec = tie.close (tie.spec (λ c κs. search rules) (λ c κs. search rules) (λ c. search rules) returns)

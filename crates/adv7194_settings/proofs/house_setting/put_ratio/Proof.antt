@@ -11,14 +11,14 @@ use Rattle.adv7194_settings.proofs.house_setting.put_ratio.Statement.{statement}
 use Rattle.adv7194_settings.proofs.house_setting.put_ratio.Tie as tie
 
 -- the block's index, which is one byte
-at : (c : tie.After-block-of) → c.Block-of.result.index ≡ (block_of c.before.args.packed).index
+at : (c : tie.After-block_of-index) → c.Block-of.result.index ≡ (block_of c.before.args.packed).index
 at c = ap (λ (b : Block). b.index) c.Block-of.ensures
 
-small : (c : tie.After-block-of) → c.Block-of.result.index < 256
+small : (c : tie.After-block_of-index) → c.Block-of.result.index < 256
 small c = let e = at c in omega arith
 
 -- the numbers reach past it
-room : (c : tie.After-block-of) → c.Block-of.result.index + 2 < length c.before.args.numbers.now
+room : (c : tie.After-block_of-index) → c.Block-of.result.index + 2 < length c.before.args.numbers.now
 room c = let e = at c in let h = c.before.requires in omega arith
 
 pub put_ratio_spec : {M : Type 1} → statement M

@@ -15,38 +15,38 @@ use Rattle.adv7194_signalling.proofs.cgms.cgms_code.Statement.{statement}
 use Rattle.adv7194_signalling.proofs.cgms.cgms_code.Tie as tie
 
 -- the four tests, as they stand in the flag
-tested : (c : tie.After-within4) → (f : Bool)
-    → (c.before.before.before.within.result && c.before.before.within2.result && c.before.within3.result && c.within4.result) ≡ f
+tested : (c : tie.After-within-4) → (f : Bool)
+    → (c.before.before.before.within.result && c.before.before.within-2.result && c.before.within-3.result && c.within-4.result) ≡ f
     → (let a = c.before.before.before.before.args in
     inside (back w32 a.payload) (back w32 a.odd) (back w32 a.even) (back w32 a.chip-check)) ≡ f
-tested c f h = rw (c.before.before.before.within.ensures, c.before.before.within2.ensures, c.before.within3.ensures, c.within4.ensures) at h
+tested c f h = rw (c.before.before.before.within.ensures, c.before.before.within-2.ensures, c.before.within-3.ensures, c.within-4.ensures) at h
 
-within_all : (c : tie.Then1)
+within_all : (c : tie.Then-inside)
     → (let a = c.before.before.before.before.before.args in
     Inside (back w32 a.payload) (back w32 a.odd) (back w32 a.even) (back w32 a.chip-check))
 within_all c =
     let a = c.before.before.before.before.before.args in
-    is-inside (back w32 a.payload) (back w32 a.odd) (back w32 a.even) (back w32 a.chip-check) (tested c.before true c.if1.true)
+    is-inside (back w32 a.payload) (back w32 a.odd) (back w32 a.even) (back w32 a.chip-check) (tested c.before true c.if-inside.true)
 
-cast-cgms-word : tie.Need-overflow-cast-cgms-word
+cast-cgms-word : tie.Need-overflow_cast-payload
 cast-cgms-word c = within_castable (within_all c).payload_in (lit< tt)
 
-cast-cgms-word-2 : tie.Need-overflow-cast-cgms-word-2
+cast-cgms-word-2 : tie.Need-overflow_cast-odd
 cast-cgms-word-2 c = within_castable (within_all c).odd_in_lem (lit< tt)
 
-cast-cgms-word-3 : tie.Need-overflow-cast-cgms-word-3
+cast-cgms-word-3 : tie.Need-overflow_cast-even
 cast-cgms-word-3 c = within_castable (within_all c).even_in (lit< tt)
 
-cast-cgms-word-4 : tie.Need-overflow-cast-cgms-word-4
+cast-cgms-word-4 : tie.Need-overflow_cast-chip_check
 cast-cgms-word-4 c = within_castable (within_all c).chip_in (lit< tt)
 
-cgms-word-requires : tie.Need-cgms-word-requires
+cgms-word-requires : tie.Need-cgms_word-word-requires
 cgms-word-requires c κs =
     let i = within_all c in
     (omega (arith, i.payload_in.most), omega (arith, i.odd_in_lem.most), omega (arith, i.even_in.most), omega (arith, i.chip_in.most))
 
 split-requires : tie.Need-split-requires
-split-requires c κs = rw c.cgms-word.ensures (cgms-lt _ _ _ _)
+split-requires c κs = rw c.cgms_word-word.ensures (cgms-lt _ _ _ _)
 
 returns : tie.Need-returns
 returns c =
@@ -59,10 +59,10 @@ returns c =
       to_z-of_z w32 a.even s.ranges.even,
       to_z-of_z w32 a.chip-check s.ranges.chip-check,
     ) at
-    (ap accepted (c.split.ensures ∙ ap word_bytes (c.before.cgms-word.ensures ∙ by_magnitudes (within_all t)))
-    ∙ sym (cgms_coded (back w32 a.payload) (back w32 a.odd) (back w32 a.even) (back w32 a.chip-check) (tested t.before true t.if1.true)))
+    (ap accepted (c.split.ensures ∙ ap word_bytes (c.before.cgms_word-word.ensures ∙ by_magnitudes (within_all t)))
+    ∙ sym (cgms_coded (back w32 a.payload) (back w32 a.odd) (back w32 a.even) (back w32 a.chip-check) (tested t.before true t.if-inside.true)))
 
-returns-2 : tie.Need-returns-2
+returns-2 : tie.Need-returns
 returns-2 c =
     let s = c.before.before.before.before.before in
     let a = s.args in
@@ -72,7 +72,7 @@ returns-2 c =
       to_z-of_z w32 a.even s.ranges.even,
       to_z-of_z w32 a.chip-check s.ranges.chip-check,
     ) at
-    (sym (cgms-outside (back w32 a.payload) (back w32 a.odd) (back w32 a.even) (back w32 a.chip-check) (tested c.before false c.if1.false)))
+    (sym (cgms-outside (back w32 a.payload) (back w32 a.odd) (back w32 a.even) (back w32 a.chip-check) (tested c.before false c.if-inside.false)))
 
 pub cgms_code_spec : {M : Type 1} → statement M
 cgms_code_spec =

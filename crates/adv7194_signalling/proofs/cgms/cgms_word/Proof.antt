@@ -8,22 +8,22 @@ use Rattle.adv7194_signalling.proofs.CgmsLaws.{check_part_lt, cgms-value}
 use Rattle.adv7194_signalling.proofs.cgms.cgms_word.Statement.{statement}
 use Rattle.adv7194_signalling.proofs.cgms.cgms_word.Tie as tie
 
-small : (c : tie.After-check-bits) → c.check-bits.result < 64
-small c = rw c.check-bits.ensures (check_part_lt c.before.args.payload)
+small : (c : tie.After-check_bits) → c.check_bits.result < 64
+small c = rw c.check_bits.ensures (check_part_lt c.before.args.payload)
 
-mul-result : tie.Need-overflow-mul-result
+mul-result : tie.Need-overflow_mul-result
 mul-result c = record { fits = omega (arith, small c) }
 
-add-result : tie.Need-overflow-add-result
+add-result : tie.Need-overflow_add-result
 add-result c = record { fits = omega (arith, small c) }
 
-add-result-2 : tie.Need-overflow-add-result-2
+add-result-2 : tie.Need-overflow_add-result-2
 add-result-2 c = record { fits = omega (arith, small c) }
 
-add-result-3 : tie.Need-overflow-add-result-3
+add-result-3 : tie.Need-overflow_add-result-3
 add-result-3 c = record { fits = omega (arith, small c) }
 
-add-result-4 : tie.Need-overflow-add-result-4
+add-result-4 : tie.Need-overflow_add-result-4
 add-result-4 c = record { fits = omega (arith, small c) }
 
 returns : tie.Need-returns
@@ -32,7 +32,7 @@ returns c =
     let a = s.args in
     omega (
       arith,
-      c.check-bits.ensures,
+      c.check_bits.ensures,
       cgms-value a.payload (eqb a.odd 1) (eqb a.even 1) (eqb a.chip 1) s.requires.0,
       bit-value a.odd s.requires.1,
       bit-value a.even s.requires.2,

@@ -3,11 +3,11 @@ use borrow.Author.Rules.{rules}
 use Rattle.adv7194_signalling.proofs.field.coded.Statement.{statement}
 use Rattle.adv7194_signalling.proofs.field.coded.Tie as tie
 
-returns : tie.Need-returns
-returns c = rw c.before.code.given.1
+returns : tie.Need-returns-in-Registers
+returns c = rw c.before.code-1.given.1
 
-returns-2 : tie.Need-returns-2
-returns-2 c = rw c.before.code2.given.1
+returns-2 : tie.Need-returns-in-Refused
+returns-2 c = rw c.before.code-in-Refused-1.given.1
 
 pub coded_spec : {M : Type 1} → statement M
 coded_spec = tie.close (tie.spec (λ c. search rules) (λ c. search rules) returns returns-2)

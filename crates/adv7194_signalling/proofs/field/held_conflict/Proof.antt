@@ -14,31 +14,31 @@ use Rattle.adv7194_signalling.proofs.field.held_conflict.Statement.{statement}
 use Rattle.adv7194_signalling.proofs.field.held_conflict.Tie as tie
 
 -- the row by the kind that was found
-found : (c : tie.After-kind) {held : SignallingKind} → c.kind.result ≡ held
+found : (c : tie.After-kind-held) {held : SignallingKind} → c.kind-held.result ≡ held
     → (let a = c.before.args in
     by_answer (λ n. eqb n 7) (is 0 a.standard) (is 1 a.standard) false (kind_as held) ≡ held_conflict a.standard (a.r19 ∷ []))
 found c e =
     let a = c.before.args in
-    ap (by_answer (λ n. eqb n 7) (is 0 a.standard) (is 1 a.standard) false) (sym (ap kind_as e) ∙ c.kind.ensures)
+    ap (by_answer (λ n. eqb n 7) (is 0 a.standard) (is 1 a.standard) false) (sym (ap kind_as e) ∙ c.kind-held.ensures)
     ∙ by_answer_lem (λ n. eqb n 7) (is 0 a.standard) (is 1 a.standard) false a.r19
 
-returns : tie.Need-returns
-returns c = found c.before.before c.enum_told.given.1
+returns : tie.Need-returns-in-Off
+returns c = found c.before.before c.enum_told-1.given.1
 
-returns-2 : tie.Need-returns-2
+returns-2 : tie.Need-returns-in-Cgms
 returns-2 c =
     let s = c.before.before.before in
-    is-bits 1 s.args.standard (lit< tt) s.ranges.standard.sfits ∙ found c.before.before c.enum-told2.given.1
+    is-bits 1 s.args.standard (lit< tt) s.ranges.standard.sfits ∙ found c.before.before c.enum_told-in-Cgms-1.given.1
 
-returns-3 : tie.Need-returns-3
+returns-3 : tie.Need-returns-in-Wss
 returns-3 c =
     let s = c.before.before.before in
-    is-bits 0 s.args.standard (lit< tt) s.ranges.standard.sfits ∙ found c.before.before c.enum-told3.given.1
+    is-bits 0 s.args.standard (lit< tt) s.ranges.standard.sfits ∙ found c.before.before c.enum_told-in-Wss-1.given.1
 
-returns-4 : tie.Need-returns-4
+returns-4 : tie.Need-returns-in-Refused
 returns-4 c =
     let k = c.before.before.before in
-    ap₂ eqb c.before.number.ensures c.number2.ensures ∙ found k.before.before k.held.given.1
+    ap₂ eqb c.before.number.ensures c.number-in-Refused.ensures ∙ found k.before.before k.held-1.given.1
 
 pub held_conflict_spec : {M : Type 1} → statement M
 held_conflict_spec =

@@ -15,59 +15,59 @@ use Rattle.adv7194_signalling.proofs.field.signalling_code.Statement.{statement}
 use Rattle.adv7194_signalling.proofs.field.signalling_code.Tie as tie
 
 -- the setting, where each test stands
-abbrev at1 : tie.After-struct-told → Signalling
+abbrev at1 : tie.After-struct_told-1 → Signalling
 at1 c = c.before.before.args.setting
 
-abbrev at2 : tie.After-struct-told2 → Signalling
+abbrev at2 : tie.After-struct_told-2-1 → Signalling
 at2 c = at1 c.before.before.before
 
-abbrev at3 : tie.After-struct-told7 → Signalling
+abbrev at3 : tie.After-struct_told-3-1 → Signalling
 at3 c = at2 c.before.before.before
 
 -- what the three tests of the kind find
-off : (c : tie.Then1) → is 0 (at1 c.before).kind ≡ true
-off c = is_same 0 (at1 c.before).kind (lit< tt) c.before.struct_told.given.0.1 c.if1.true
+off : (c : tie.Then-setting-eq-OFF) → is 0 (at1 c.before).kind ≡ true
+off c = is_same 0 (at1 c.before).kind (lit< tt) c.before.struct_told-1.given.0.1 c.if-setting-eq-OFF.true
 
-not-off : (c : tie.Else1) → is 0 (at1 c.before).kind ≡ false
-not-off c = is_other 0 (at1 c.before).kind (lit< tt) c.before.struct_told.given.0.1 c.if1.false
+not-off : (c : tie.Else-setting-eq-OFF) → is 0 (at1 c.before).kind ≡ false
+not-off c = is_other 0 (at1 c.before).kind (lit< tt) c.before.struct_told-1.given.0.1 c.if-setting-eq-OFF.false
 
-cgms : (c : tie.Then2) → is 1 (at2 c.before).kind ≡ true
-cgms c = is_same 1 (at2 c.before).kind (lit< tt) c.before.struct-told2.given.0.1 c.if2.true
+cgms : (c : tie.Then-setting-eq-CGMS) → is 1 (at2 c.before).kind ≡ true
+cgms c = is_same 1 (at2 c.before).kind (lit< tt) c.before.struct_told-2-1.given.0.1 c.if-setting-eq-CGMS.true
 
-not-cgms : (c : tie.Else2) → is 1 (at2 c.before).kind ≡ false
-not-cgms c = is_other 1 (at2 c.before).kind (lit< tt) c.before.struct-told2.given.0.1 c.if2.false
+not-cgms : (c : tie.Else-setting-eq-CGMS) → is 1 (at2 c.before).kind ≡ false
+not-cgms c = is_other 1 (at2 c.before).kind (lit< tt) c.before.struct_told-2-1.given.0.1 c.if-setting-eq-CGMS.false
 
-wss : (c : tie.Then3) → is 2 (at3 c.before).kind ≡ true
-wss c = is_same 2 (at3 c.before).kind (lit< tt) c.before.struct-told7.given.0.1 c.if3.true
+wss : (c : tie.Then-setting-eq-WSS) → is 2 (at3 c.before).kind ≡ true
+wss c = is_same 2 (at3 c.before).kind (lit< tt) c.before.struct_told-3-1.given.0.1 c.if-setting-eq-WSS.true
 
-not-wss : (c : tie.Else3) → is 2 (at3 c.before).kind ≡ false
-not-wss c = is_other 2 (at3 c.before).kind (lit< tt) c.before.struct-told7.given.0.1 c.if3.false
+not-wss : (c : tie.Else-setting-eq-WSS) → is 2 (at3 c.before).kind ≡ false
+not-wss c = is_other 2 (at3 c.before).kind (lit< tt) c.before.struct_told-3-1.given.0.1 c.if-setting-eq-WSS.false
 
 returns : tie.Need-returns
 returns c = sym (off_codes (numbers_of c.before.before.before.args.setting) (off c))
 
-returns-2 : tie.Need-returns-2
+returns-2 : tie.Need-returns-then-setting-eq-CGMS
 returns-2 c =
     let t = c.before.before.before.before.before.before in
     let e = t.before.before.before in
     let g = e.before.before.before.args.setting in
-    let fits = c.before.before.struct-told6.given in
+    let fits = c.before.before.struct_told-then-setting-eq-CGMS-4-1.given in
     c.coded.ensures
-    ∙ passed4 cgms_of g.number g.odd g.even g.chip_check c.before.cgms-code.ensures
+    ∙ passed4 cgms_of g.number g.odd g.even g.chip_check c.before.cgms_code.ensures
     fits.1.0.1 fits.1.1.0.1 fits.1.1.1.0.1 fits.1.1.1.1.0.1
     ∙ sym (cgms-codes (numbers_of g) (not-off e) (cgms t))
 
-returns-3 : tie.Need-returns-3
+returns-3 : tie.Need-returns-then-setting-eq-WSS
 returns-3 c =
     let t = c.before.before.before in
     let u = t.before.before.before in
     let e = u.before.before.before in
     let g = e.before.before.before.args.setting in
-    c.coded2.ensures
-    ∙ passed wss_of g.number c.before.wss-code.ensures c.before.before.struct-told8.given.1.0.1
+    c.coded-then-setting-eq-WSS.ensures
+    ∙ passed wss_of g.number c.before.wss_code.ensures c.before.before.struct_told-then-setting-eq-WSS-1.given.1.0.1
     ∙ sym (wss_codes (numbers_of g) (not-off e) (not-cgms u) (wss t))
 
-returns-4 : tie.Need-returns-4
+returns-4 : tie.Need-returns
 returns-4 c =
     let u = c.before.before.before in
     let e = u.before.before.before in

@@ -11,7 +11,7 @@ returns c =
     let s = c.before.before.before.before.before.before.before.before in
     let a = s.args in
     let g = a.setting in
-    let fits = c.struct-told4.given in
+    let fits = c.struct_told-4-1.given in
     let standard = s.ranges.standard.sfits in
     ap₂ ◌||◌
     (ap₂ ◌&&◌ (is-bits 1 g.kind (lit< tt) fits.0.1)

@@ -11,31 +11,31 @@ use Rattle.adv7194_signalling.proofs.field.signalling_setting.Statement.{stateme
 use Rattle.adv7194_signalling.proofs.field.signalling_setting.Tie as tie
 
 -- the reading by the kind that was found
-found : (c : tie.After-kind) {held : SignallingKind} → c.kind.result ≡ held
+found : (c : tie.After-kind-held) {held : SignallingKind} → c.kind-held.result ≡ held
     → (let bs = three_bytes c.before.args.registers in
     by_answer refused (wss_held bs) (cgms_held bs) (accepted no_signalling) (kind_as held) ≡ signalling_held bs)
 unfolding signalling_held
 found c e =
     let r = c.before.args.registers in
     let bs = three_bytes r in
-    ap (by_answer refused (wss_held bs) (cgms_held bs) (accepted no_signalling)) (sym (ap kind_as e) ∙ c.kind.ensures)
+    ap (by_answer refused (wss_held bs) (cgms_held bs) (accepted no_signalling)) (sym (ap kind_as e) ∙ c.kind-held.ensures)
     ∙ by_answer_lem refused (wss_held bs) (cgms_held bs) (accepted no_signalling) r.r19
 
-returns : tie.Need-returns
-returns c = c.plain.ensures ∙ found c.before.before.before c.before.enum_told.given.1
+returns : tie.Need-returns-in-Off
+returns c = c.plain.ensures ∙ found c.before.before.before c.before.enum_told-1.given.1
 
-returns-2 : tie.Need-returns-2
+returns-2 : tie.Need-returns-in-Cgms
 returns-2 c =
     let t = c.before.before in
-    c.of-cgms.ensures ∙ c.before.cgms-setting.ensures.0 ∙ found t.before.before t.enum-told2.given.1
+    c.of_cgms.ensures ∙ c.before.cgms_setting.ensures.0 ∙ found t.before.before t.enum_told-in-Cgms-1.given.1
 
-returns-3 : tie.Need-returns-3
+returns-3 : tie.Need-returns-in-Wss
 returns-3 c =
     let t = c.before.before in
-    c.of-wss.ensures ∙ c.before.wss-setting.ensures.0 ∙ found t.before.before t.enum-told3.given.1
+    c.of_wss.ensures ∙ c.before.wss_setting.ensures.0 ∙ found t.before.before t.enum_told-in-Wss-1.given.1
 
-returns-4 : tie.Need-returns-4
-returns-4 c = found c.before.before.before c.before.held.given.1
+returns-4 : tie.Need-returns-in-Refused
+returns-4 c = found c.before.before.before c.before.held-1.given.1
 
 pub signalling_setting_spec : {M : Type 1} → statement M
 signalling_setting_spec =

@@ -18,13 +18,13 @@ use Rattle.adv7194_signalling.proofs.wss.wss_code.Tie as tie
 same : (c : tie.Start) → back w32 c.args.number ≡ c.args.number
 same c = to_z-of_z w32 c.args.number c.ranges.number
 
-inside : (c : tie.Then1) → between 0 16383 (back w32 c.before.before.args.number) ≡ true
-inside c = sym c.before.within.ensures ∙ c.if1.true
+inside : (c : tie.Then-within) → between 0 16383 (back w32 c.before.before.args.number) ≡ true
+inside c = sym c.before.within.ensures ∙ c.if-within.true
 
-number : (c : tie.Then1) → Within 16383 (back w32 c.before.before.args.number)
+number : (c : tie.Then-within) → Within 16383 (back w32 c.before.before.args.number)
 number c = is_within 16383 (back w32 c.before.before.args.number) (inside c)
 
-add-split : tie.Need-overflow-add-split
+add-split : tie.Need-overflow_add-w
 add-split c = record { fits = omega (arith, (number c.before.before).most) }
 
 split-requires : tie.Need-split-requires
@@ -35,19 +35,19 @@ returns c =
     let s = c.before.before.before.before.before in
     rw (same s) at
     (ap accepted c.split.ensures
-    ∙ sym (wss_coded (back w32 s.args.number) (inside c.before.before.before) (sym c.before.before.odd_ones_lem.ensures ∙ c.before.if2.true)))
+    ∙ sym (wss_coded (back w32 s.args.number) (inside c.before.before.before) (sym c.before.before.odd_ones.ensures ∙ c.before.if-odd_ones.true)))
 
-returns-2 : tie.Need-returns-2
+returns-2 : tie.Need-returns-then-within
 unfolding wss_of
 returns-2 c =
     let s = c.before.before.before.before in
-    simp (rw (same s) at (inside c.before.before), rw (same s) at (sym c.before.odd_ones_lem.ensures ∙ c.if2.false))
+    simp (rw (same s) at (inside c.before.before), rw (same s) at (sym c.before.odd_ones.ensures ∙ c.if-odd_ones.false))
 
-returns-3 : tie.Need-returns-3
+returns-3 : tie.Need-returns
 unfolding wss_of
 returns-3 c =
     let s = c.before.before in
-    simp (rw (same s) at (sym c.before.within.ensures ∙ c.if1.false))
+    simp (rw (same s) at (sym c.before.within.ensures ∙ c.if-within.false))
 
 pub wss_code_spec : {M : Type 1} → statement M
 wss_code_spec =

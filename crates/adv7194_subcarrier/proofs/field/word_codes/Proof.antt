@@ -14,7 +14,7 @@ unfolding word_codes
 returns c =
     let s = c.before in
     ap word_bytes
-    (c.word_set.ensures
+    (c.word_set-w.ensures
     ∙ ap₂ (λ (x y : ℤ). word_of (is 1 x) (is 1 y)) (to_z-of_z w32 s.args.standard s.ranges.standard)
     (to_z-of_z w32 s.args.square s.ranges.square))
 

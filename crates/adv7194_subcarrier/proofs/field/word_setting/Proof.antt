@@ -16,7 +16,7 @@ use Rattle.adv7194_subcarrier.proofs.field.word_setting.Statement.{statement}
 use Rattle.adv7194_subcarrier.proofs.field.word_setting.Tie as tie
 
 -- the code's test is the definition's
-tested : (c : tie.After-word-set)
+tested : (c : tie.After-word_set)
     → (let a = c.before.args in
     eqb (joined_of a.b0 a.b1 a.b2 a.b3) c.word_set.result ≡ same_bytes (a.b0 ∷ a.b1 ∷ a.b2 ∷ a.b3 ∷ []) (word_codes a.standard a.square))
 unfolding word_codes
@@ -29,10 +29,10 @@ tested c =
     ∙ ap₂ (λ (x y : ℤ). word_of (is 1 x) (is 1 y)) (to_z-of_z w32 a.standard s.ranges.standard) (to_z-of_z w32 a.square s.ranges.square))
 
 returns : tie.Need-returns
-returns c = rw (sym (tested c.before) ∙ eq-eqb _ _ c.if1.true)
+returns c = rw (sym (tested c.before) ∙ eq-eqb _ _ c.if-held-word_set.true)
 
-returns-2 : tie.Need-returns-2
-returns-2 c = rw (sym (tested c.before) ∙ ne_eqb _ _ c.if1.false)
+returns-2 : tie.Need-returns
+returns-2 c = rw (sym (tested c.before) ∙ ne_eqb _ _ c.if-held-word_set.false)
 
 pub word_setting_spec : {M : Type 1} → statement M
 word_setting_spec =

@@ -10,10 +10,10 @@ use Rattle.adv7194_table.proofs.masks.must_be_zero.Tie as tie
 
 returns : tie.Need-returns
 unfolding zero_masks
-returns c = sym (get_or-eq_default zero_masks 0 c.if1.true)
+returns c = sym (get_or-eq_default zero_masks 0 c.if-register.true)
 
-returns-2 : tie.Need-returns-2
-returns-2 c = ap (λ (l : List ℕ). get_or l c.before.before.args.register 0) c.zero-masks.ensures
+returns-2 : tie.Need-returns
+returns-2 c = ap (λ (l : List ℕ). get_or l c.before.before.args.register 0) c.zero_masks-masks.ensures
 
 pub must_be_zero_spec : {M : Type 1} → statement M
 must_be_zero_spec = tie.close (tie.spec (λ c. search rules) returns (λ c κs. search rules) (λ c. search rules) returns-2)

@@ -20,10 +20,10 @@ small w b h k =
 same : (w b : ℕ) → w < 16 → b < 16 → ((1 * 2 ^ w) % 2 ^ 64 - 1) * ((1 * 2 ^ b) % 2 ^ 64) ≡ (2 ^ w - 1) * 2 ^ b
 same w b h k = rw (one_shl w 64 (omega arith), one_shl b 64 (omega arith))
 
-sub-result : tie.Need-overflow-sub-result
+sub-result : tie.Need-overflow_sub-result
 sub-result c = rw (one_shl c.args.width 64 (omega arith)) (pow_pos c.args.width)
 
-mul-result : tie.Need-overflow-mul-result
+mul-result : tie.Need-overflow_mul-result
 mul-result c =
     let e = same c.args.width c.args.bit c.requires.1 c.requires.0 in
     let s = small c.args.width c.args.bit c.requires.1 c.requires.0 in

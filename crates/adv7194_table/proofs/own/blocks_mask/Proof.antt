@@ -17,38 +17,38 @@ record Inv (n r : ℕ) (ps : List ℕ) (mask i : ℕ) : Type 0 where
   small : mask ≤ i * 2 ^ 32
   sum : mask + blocks_mask n r (blocks_of (drop i ps)) ≡ blocks_mask n r (blocks_of ps)
 
-abbrev invariant-loop : tie.invariant-loop
+abbrev invariant-loop : tie.invariant-loop-i
 invariant-loop field register blocks mask₀ i₀ mask i = Inv field register blocks mask i
 
-abbrev decreases-loop : tie.decreases-loop
+abbrev decreases-loop : tie.decreases-loop-i
 decreases-loop field register blocks mask₀ i₀ mask i = 4 - i
 
-loop-holds : tie.Need-loop-init invariant-loop decreases-loop
-loop-holds c = record { size = block-count c.blocks2.result c.blocks2.ensures; inside = omega arith; small = omega arith; sum = omega arith }
+loop-holds : tie.Need-loop-i-init invariant-loop decreases-loop
+loop-holds c = record { size = block-count c.blocks-blocks.result c.blocks-blocks.ensures; inside = omega arith; small = omega arith; sum = omega arith }
 
-add-mask : tie.Need-overflow-add-mask invariant-loop decreases-loop
-add-mask c = omega (arith, c.block-bits.ensures.1)
+add-mask : tie.Need-overflow_add-mask invariant-loop decreases-loop
+add-mask c = omega (arith, c.block_bits-mask.ensures.1)
 
-loop-again : tie.Need-loop-preserved invariant-loop decreases-loop
+loop-again : tie.Need-loop-i-preserved invariant-loop decreases-loop
 loop-again c =
-    let l = c.before.before.loop in
+    let l = c.before.before.loop-i in
     let n = c.before.before.before.before.args.field in
     let r = c.before.before.before.before.args.register in
-    let ps = c.before.before.before.blocks2.result in
+    let ps = c.before.before.before.blocks-blocks.result in
     record {
       size = l.invariant.size;
       inside = omega arith;
-      small = omega (arith, c.block-bits.ensures.1);
-      sum = omega (arith, c.block-bits.ensures.0, blocks-next n r ps l.i (omega arith));
+      small = omega (arith, c.block_bits-mask.ensures.1);
+      sum = omega (arith, c.block_bits-mask.ensures.0, blocks-next n r ps l.i (omega arith));
     }
 
 returns : tie.Need-returns invariant-loop decreases-loop
 returns c =
-    let l = c.before.loop in
+    let l = c.before.loop-i in
     let n = c.before.before.before.args.field in
     let r = c.before.before.before.args.register in
-    let ps = c.before.before.blocks2.result in
-    let e = ap (blocks_mask n r) c.before.before.blocks2.ensures in
+    let ps = c.before.before.blocks-blocks.result in
+    let e = ap (blocks_mask n r) c.before.before.blocks-blocks.ensures in
     (omega (arith, blocks_end n r ps l.i (omega arith) (omega arith)), omega arith)
 
 pub blocks_mask_spec : {M : Type 1} → statement M

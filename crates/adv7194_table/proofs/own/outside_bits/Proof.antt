@@ -12,10 +12,10 @@ returns : tie.Need-returns
 returns c =
     let s = c.before.before.before.before in ap (bit_and (get_or s.args.image.now s.args.register 0)) c.outside.ensures
 
-returns-2 : tie.Need-returns-2
+returns-2 : tie.Need-returns
 returns-2 c =
     let s = c.before.before in
-    sym (ap (λ (b : ℕ). bit_and b (outside_mask s.args.register)) (get_or-eq_default s.args.image.now 0 c.if1.false))
+    sym (ap (λ (b : ℕ). bit_and b (outside_mask s.args.register)) (get_or-eq_default s.args.image.now 0 c.if-register-image.false))
 
 pub outside_bits_spec : {M : Type 1} → statement M
 outside_bits_spec = tie.close (tie.spec (λ c. search rules) (λ c κs. search rules) returns returns-2)

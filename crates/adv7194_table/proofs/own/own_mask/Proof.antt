@@ -8,16 +8,16 @@ use Rattle.adv7194_table.proofs.MaskLaws.{own_split, own_small}
 use Rattle.adv7194_table.proofs.own.own_mask.Statement.{statement}
 use Rattle.adv7194_table.proofs.own.own_mask.Tie as tie
 
-abbrev start : tie.After-blocks-mask → tie.Start
+abbrev start : tie.After-blocks_mask → tie.Start
 start c = c.before.before
 
 -- the sum is the field's mask
-whole : (c : tie.After-blocks-mask) → c.before.rows-mask.result + c.blocks-mask.result ≡ own_mask (start c).args.field (start c).args.register
+whole : (c : tie.After-blocks_mask) → c.before.rows_mask.result + c.blocks_mask.result ≡ own_mask (start c).args.field (start c).args.register
 whole c =
-    ap₂ (λ (x y : ℕ). x + y) c.before.rows-mask.ensures.0 c.blocks-mask.ensures.0
+    ap₂ (λ (x y : ℕ). x + y) c.before.rows_mask.ensures.0 c.blocks_mask.ensures.0
     ∙ sym (own_split (start c).args.field (start c).args.register)
 
-cast-result : tie.Need-overflow-cast-result
+cast-result : tie.Need-overflow_cast-result
 cast-result c = omega (arith, whole c, own_small (start c).args.field (start c).args.register (start c).requires)
 
 returns : tie.Need-returns

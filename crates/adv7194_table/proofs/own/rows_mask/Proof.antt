@@ -17,38 +17,38 @@ record Inv (n r : ℕ) (ps : List ℕ) (mask i : ℕ) : Type 0 where
   small : mask ≤ i * 2 ^ 32
   sum : mask + rows_mask n r (rows_of (drop i ps)) ≡ rows_mask n r (rows_of ps)
 
-abbrev invariant-loop : tie.invariant-loop
+abbrev invariant-loop : tie.invariant-loop-i
 invariant-loop field register rows mask₀ i₀ mask i = Inv field register rows mask i
 
-abbrev decreases-loop : tie.decreases-loop
+abbrev decreases-loop : tie.decreases-loop-i
 decreases-loop field register rows mask₀ i₀ mask i = 26 - i
 
-loop-holds : tie.Need-loop-init invariant-loop decreases-loop
-loop-holds c = record { size = row_count c.rows.result c.rows.ensures; inside = omega arith; small = omega arith; sum = omega arith }
+loop-holds : tie.Need-loop-i-init invariant-loop decreases-loop
+loop-holds c = record { size = row_count c.rows-rows.result c.rows-rows.ensures; inside = omega arith; small = omega arith; sum = omega arith }
 
-add-mask : tie.Need-overflow-add-mask invariant-loop decreases-loop
-add-mask c = omega (arith, c.row-bits.ensures.1)
+add-mask : tie.Need-overflow_add-mask invariant-loop decreases-loop
+add-mask c = omega (arith, c.row_bits-mask.ensures.1)
 
-loop-again : tie.Need-loop-preserved invariant-loop decreases-loop
+loop-again : tie.Need-loop-i-preserved invariant-loop decreases-loop
 loop-again c =
-    let l = c.before.before.loop in
+    let l = c.before.before.loop-i in
     let n = c.before.before.before.before.args.field in
     let r = c.before.before.before.before.args.register in
-    let ps = c.before.before.before.rows.result in
+    let ps = c.before.before.before.rows-rows.result in
     record {
       size = l.invariant.size;
       inside = omega arith;
-      small = omega (arith, c.row-bits.ensures.1);
-      sum = omega (arith, c.row-bits.ensures.0, rows_next n r ps l.i (omega arith));
+      small = omega (arith, c.row_bits-mask.ensures.1);
+      sum = omega (arith, c.row_bits-mask.ensures.0, rows_next n r ps l.i (omega arith));
     }
 
 returns : tie.Need-returns invariant-loop decreases-loop
 returns c =
-    let l = c.before.loop in
+    let l = c.before.loop-i in
     let n = c.before.before.before.args.field in
     let r = c.before.before.before.args.register in
-    let ps = c.before.before.rows.result in
-    let e = ap (rows_mask n r) c.before.before.rows.ensures in
+    let ps = c.before.before.rows-rows.result in
+    let e = ap (rows_mask n r) c.before.before.rows-rows.ensures in
     (omega (arith, rows_end n r ps l.i (omega arith) (omega arith)), omega arith)
 
 pub rows_mask_spec : {M : Type 1} → statement M

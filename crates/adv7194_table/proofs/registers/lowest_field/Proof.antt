@@ -15,43 +15,43 @@ record Inv (map : ℕ) (fields : List ℕ) (f : ℕ) : Type 0 where
   table : fields ≡ field_registers
   lowest : lowest_from (has map) f (field_count - f) ≡ lowest_field (has map)
 
-abbrev invariant-loop : tie.invariant-loop
+abbrev invariant-loop : tie.invariant-loop-field
 invariant-loop map fields field₀ field = Inv map fields field
 
-abbrev decreases-loop : tie.decreases-loop
+abbrev decreases-loop : tie.decreases-loop-field
 decreases-loop map fields field₀ field = field_count - field
 
 returns : tie.Need-returns invariant-loop decreases-loop
-returns c = sym (none_of_map c.before.args.map c.if1.true)
+returns c = sym (none_of_map c.before.args.map c.if-map-eq0.true)
 
-loop-holds : tie.Need-loop-init invariant-loop decreases-loop
-loop-holds c = record { inside = omega arith; table = c.field-registers.ensures; lowest = sym (lowest_fields (has c.before.before.args.map)) }
+loop-holds : tie.Need-loop-field-init invariant-loop decreases-loop
+loop-holds c = record { inside = omega arith; table = c.field_registers-fields.ensures; lowest = sym (lowest_fields (has c.before.before.args.map)) }
 
-returns-2 : tie.Need-returns-2 invariant-loop decreases-loop
+returns-2 : tie.Need-returns-then-fields-field-ne0 invariant-loop decreases-loop
 returns-2 c =
     let t = c.before in
-    let l = t.before.loop in
+    let l = t.before.loop-field in
     let map = t.before.before.before.before.args.map in
-    let inside = t.loop-test.true in
-    sym (turn_here (has map) l.field inside (is_among map l.field l.invariant.table inside c.if2.true)) ∙ l.invariant.lowest
+    let inside = t.loop-field-test.true in
+    sym (turn_here (has map) l.field inside (is_among map l.field l.invariant.table inside c.if-fields-field-ne0.true)) ∙ l.invariant.lowest
 
-loop-again : tie.Need-loop-preserved invariant-loop decreases-loop
+loop-again : tie.Need-loop-field-preserved invariant-loop decreases-loop
 loop-again c =
     let t = c.before in
-    let l = t.before.loop in
+    let l = t.before.loop-field in
     let map = t.before.before.before.before.args.map in
-    let inside = t.loop-test.true in
+    let inside = t.loop-field-test.true in
     record {
       inside = omega arith;
       table = l.invariant.table;
-      lowest = turn_next (has map) l.field inside (not_among map l.field l.invariant.table inside c.if2.false) ∙ l.invariant.lowest;
+      lowest = turn_next (has map) l.field inside (not_among map l.field l.invariant.table inside c.if-fields-field-ne0.false) ∙ l.invariant.lowest;
     }
 
-returns-3 : tie.Need-returns-3 invariant-loop decreases-loop
+returns-3 : tie.Need-returns invariant-loop decreases-loop
 returns-3 c =
-    let l = c.before.loop in
+    let l = c.before.loop-field in
     let map = c.before.before.before.before.args.map in
-    sym (turn_end (has map) l.field c.loop-test.false) ∙ l.invariant.lowest
+    sym (turn_end (has map) l.field c.loop-field-test.false) ∙ l.invariant.lowest
 
 pub lowest_field_spec : {M : Type 1} → statement M
 lowest_field_spec =

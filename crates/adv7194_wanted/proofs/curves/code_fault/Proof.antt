@@ -8,9 +8,9 @@ use Rattle.adv7194_wanted.proofs.RowLaws.{fault_is}
 use Rattle.adv7194_wanted.proofs.curves.code_fault.Statement.{statement}
 use Rattle.adv7194_wanted.proofs.curves.code_fault.Tie as tie
 
-returns-2 : tie.Need-returns-2
+returns-2 : tie.Need-returns-in-Refused
 returns-2 c =
-    fault_is (block_of c.before.before.before.before.args.packed).field (ap judged c.before.before.code.given.1)
+    fault_is (block_of c.before.before.before.before.args.packed).field (ap judged c.before.before.code-1.given.1)
     (ap (λ (b : Block). b.field) c.Block-of.ensures)
 
 pub code_fault_spec : {M : Type 1} → statement M

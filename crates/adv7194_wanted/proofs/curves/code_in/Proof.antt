@@ -12,16 +12,16 @@ use Rattle.field_table.specs.Blocks.{slice}
 use lib.IntN.{pos}
 
 -- where the numbers begin
-at : (c : tie.After-block-of) → c.Block-of.result.index ≡ (block_of c.before.args.packed).index
+at : (c : tie.After-block_of-first) → c.Block-of.result.index ≡ (block_of c.before.args.packed).index
 at c = ap (λ (b : Block). b.index) c.Block-of.ensures
 
-add-end : tie.Need-overflow-add-end
+add-end : tie.Need-overflow_add-end
 add-end c = let e = at c in record { fits = omega arith }
 
-mul-curve-code : tie.Need-overflow-mul-curve-code
+mul-curve-code : tie.Need-offset_bounds-numbers-first
 mul-curve-code c = let e = at c in record { fits = omega arith }
 
-part-curve-code-end : tie.Need-slice-bounds-curve-code-end
+part-curve-code-end : tie.Need-slice_bounds-curve_code-end
 part-curve-code-end c = let e = at c in let h = c.before.requires.1 in omega arith
 
 returns : tie.Need-returns
@@ -29,7 +29,7 @@ returns c =
     let k = c.before.before in
     let b = block_of k.before.args.packed in
     let zs = k.before.args.numbers.now in
-    c.curve-code.ensures
+    c.curve_code.ensures
     ∙ ap curve_codes (part_numbers zs b.index 10 (at k) k.before.requires.1 ∙ ap (slice (pos 0) zs b.index) (sym k.before.requires.0))
 
 pub code_in_spec : {M : Type 1} → statement M

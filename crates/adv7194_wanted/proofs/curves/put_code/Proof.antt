@@ -5,12 +5,12 @@ use Rattle.field_table.specs.Blocks.{byte_writes}
 use Rattle.adv7194_wanted.proofs.curves.put_code.Statement.{statement}
 use Rattle.adv7194_wanted.proofs.curves.put_code.Tie as tie
 
-returns : tie.Need-returns
-returns c = rw c.before.before.before.before.before.before.code.given.1 c.before.before.put-bytes.ensures
+returns : tie.Need-returns-in-Curve
+returns c = rw c.before.before.before.before.before.before.code-1.given.1 c.before.before.put_bytes.ensures
 
-returns-2 : tie.Need-returns-2
+returns-2 : tie.Need-returns-in-Refused
 unfolding puts byte_writes
-returns-2 c = rw c.enum_told.given.1
+returns-2 c = rw c.enum_told-1.given.1
 
 pub put_code_spec : {M : Type 1} → statement M
 put_code_spec =

@@ -7,8 +7,8 @@ use Rattle.adv7194_wanted.proofs.RowLaws.{fault_is}
 use Rattle.adv7194_wanted.proofs.signals.code_fault.Statement.{statement}
 use Rattle.adv7194_wanted.proofs.signals.code_fault.Tie as tie
 
-returns-3 : tie.Need-returns-3
-returns-3 c = fault_is 11 (ap code_as c.before.before.code.given.1) (ap (λ (b : Block). b.field) c.Block-of.ensures)
+returns-3 : tie.Need-returns-in-Refused
+returns-3 c = fault_is 11 (ap code_as c.before.before.code-1.given.1) (ap (λ (b : Block). b.field) c.Block-of.ensures)
 
 pub code_fault_spec : {M : Type 1} → statement M
 code_fault_spec =

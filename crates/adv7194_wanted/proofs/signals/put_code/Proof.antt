@@ -3,14 +3,14 @@ use borrow.Author.Rules.{rules}
 use Rattle.adv7194_wanted.proofs.signals.put_code.Statement.{statement}
 use Rattle.adv7194_wanted.proofs.signals.put_code.Tie as tie
 
-returns : tie.Need-returns
-returns c = rw c.before.before.before.before.enum_told.given.1 c.before.before.clear-kind.ensures
+returns : tie.Need-returns-in-Off
+returns c = rw c.before.before.before.before.enum_told-1.given.1 c.before.before.clear_kind.ensures
 
-returns-2 : tie.Need-returns-2
-returns-2 c = rw c.before.before.before.before.before.before.code.given.1 c.before.before.put-bytes.ensures
+returns-2 : tie.Need-returns-in-Registers
+returns-2 c = rw c.before.before.before.before.before.before.code-1.given.1 c.before.before.put_bytes.ensures
 
-returns-3 : tie.Need-returns-3
-returns-3 c = rw c.before.before.before.before.enum-told2.given.1 c.before.before.clear-kind2.ensures
+returns-3 : tie.Need-returns-in-Refused
+returns-3 c = rw c.before.before.before.before.enum_told-in-Refused-1.given.1 c.before.before.clear_kind-in-Refused.ensures
 
 pub put_code_spec : {M : Type 1} → statement M
 put_code_spec =

@@ -9,23 +9,23 @@ use Rattle.adv7194_wanted.proofs.signals.signalling_in.Statement.{statement}
 use Rattle.adv7194_wanted.proofs.signals.signalling_in.Tie as tie
 
 -- where the numbers begin
-at : (c : tie.After-block-of) → c.Block-of.result.index ≡ (block_of 0x0B_0A_05_19_03).index
+at : (c : tie.After-block_of-first) → c.Block-of.result.index ≡ (block_of 0x0B_0A_05_19_03).index
 at c = ap (λ (b : Block). b.index) c.Block-of.ensures
 
-add-end : tie.Need-overflow-add-end
+add-end : tie.Need-overflow_add-end
 add-end c = let e = at c in record { fits = omega arith }
 
-mul-of-five : tie.Need-overflow-mul-of-five
+mul-of-five : tie.Need-offset_bounds-numbers-first
 mul-of-five c = let e = at c in record { fits = omega arith }
 
-part-of-five-end : tie.Need-slice-bounds-of-five-end
+part-of-five-end : tie.Need-slice_bounds-of_five-end
 part-of-five-end c = let e = at c in let h = c.before.requires in omega arith
 
 returns : tie.Need-returns
 returns c =
     let k = c.before.before in
     let size = k.before.requires in
-    c.of-five.ensures ∙ part_numbers k.before.args.numbers.now 10 5 (at k) (omega arith)
+    c.of_five.ensures ∙ part_numbers k.before.args.numbers.now 10 5 (at k) (omega arith)
 
 pub signalling_in_spec : {M : Type 1} → statement M
 signalling_in_spec =

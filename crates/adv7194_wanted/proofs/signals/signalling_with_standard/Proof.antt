@@ -25,7 +25,7 @@ returns c =
     ∙ ap (after (checked_as s.before))
     (c.before.fault.ensures
     ∙ ap₂ (λ (t : Bool) (f : ℕ). fault_where t 7 f)
-    (b.before.signalling-conflict.ensures ∙ ap (λ (z : ℤ). signalling_conflict z (numbers_of s.setting)) number)
+    (b.before.signalling_conflict-conflict.ensures ∙ ap (λ (z : ℤ). signalling_conflict z (numbers_of s.setting)) number)
     (ap (λ (x : Block). x.field) b.Block-of.ensures))
 
 pub signalling_with_standard_spec : {M : Type 1} → statement M

@@ -16,32 +16,32 @@ use Rattle.adv7194_wanted.proofs.PartLaws.{wanted_parts}
 use Rattle.adv7194_wanted.proofs.wanting.want.Statement.{statement}
 use Rattle.adv7194_wanted.proofs.wanting.want.Tie as tie
 
-abbrev start : tie.After-want-second → tie.Start
+abbrev start : tie.After-want_second → tie.Start
 start c = c.before.before.before.before.before.before.before
 
-abbrev first_of : tie.After-want-second → tie.After-want-first
+abbrev first_of : tie.After-want_second → tie.After-want_first-first
 first_of c = c.before.before.before.before
 
 -- the verdict
-verdict : (c : tie.After-want-second) → checked_as c.want-second.result ≡ check_of (start c).args.numbers.now
+verdict : (c : tie.After-want_second) → checked_as c.want_second.result ≡ check_of (start c).args.numbers.now
 verdict c =
     let zs = (start c).args.numbers.now in
-    c.want-second.ensures.0
-    ∙ ap (λ (v : Found). after v (fault_in zs second_part)) (first_of c).want-first.ensures.0
+    c.want_second.ensures.0
+    ∙ ap (λ (v : Found). after v (fault_in zs second_part)) (first_of c).want_first-first.ensures.0
     ∙ check_parts zs
 
 -- the image
-image : (c : tie.After-want-second) → c.want-second.new.1.1.0 ≡ wanted_by (start c).args.image.now (start c).args.numbers.now
+image : (c : tie.After-want_second) → c.want_second.new.1.1.0 ≡ wanted_by (start c).args.image-1.now (start c).args.numbers.now
 image c =
-    wanted_parts (start c).args.numbers.now (start c).args.image.now (first_of c).want-first.new.1.1.0
-    c.want-second.ensures.1 (first_of c).want-first.ensures.1
+    wanted_parts (start c).args.numbers.now (start c).args.image-1.now (first_of c).want_first-first.new.1.1.0
+    c.want_second.ensures.1 (first_of c).want_first-first.ensures.1
 
 returns : tie.Need-returns
 unfolding check_of
 returns c =
     let o = c.before.before in
     let zs = (start o).args.numbers.now in
-    let i = (start o).args.image.now in (
+    let i = (start o).args.image-1.now in (
       verdict o,
       (
         image o,

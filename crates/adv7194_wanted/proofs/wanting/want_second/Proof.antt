@@ -16,70 +16,70 @@ use Rattle.adv7194_wanted.proofs.StepLaws.{Step, none, step, writes, and_then}
 use Rattle.adv7194_wanted.proofs.wanting.want_second.Statement.{statement}
 use Rattle.adv7194_wanted.proofs.wanting.want_second.Tie as tie
 
-abbrev start : tie.After-want-signalling → tie.Start
+abbrev start : tie.After-want_signalling-signalling → tie.Start
 start c = c.before.before.before
 
-abbrev numbers : tie.After-want-signalling → List ℤ
+abbrev numbers : tie.After-want_signalling-signalling → List ℤ
 numbers c = (start c).args.numbers.now
 
-abbrev signal_of : tie.After-want-picture → tie.After-want-signalling
+abbrev signal_of : tie.After-want_picture-picture → tie.After-want_signalling-signalling
 signal_of c = c.before.before.before.before
 
-abbrev picture_of : tie.After-want-dnr → tie.After-want-picture
+abbrev picture_of : tie.After-want_dnr-dnr → tie.After-want_picture-picture
 picture_of c = c.before.before.before.before
 
-abbrev dnr_of : tie.After-want-curve → tie.After-want-dnr
+abbrev dnr_of : tie.After-want_curve-curve_a → tie.After-want_dnr-dnr
 dnr_of c = c.before.before.before.before
 
-abbrev curve_of : tie.After-want-curve2 → tie.After-want-curve
+abbrev curve_of : tie.After-want_curve-curve_b → tie.After-want_curve-curve_a
 curve_of c = c.before.before.before.before
 
-abbrev curve2_of : tie.After-want-word → tie.After-want-curve2
+abbrev curve2_of : tie.After-want_word → tie.After-want_curve-curve_b
 curve2_of c = c.before.before.before.before
 
-step1 : (c : tie.After-want-signalling)
-    → Step (checked_as (start c).args.before) (start c).args.image.now (signal_fault (numbers c)) (entry_writes (numbers c) (whole signals signalling))
-    (checked_as c.want-signalling.result) c.want-signalling.new.1.1.0
-step1 c = step c.want-signalling.ensures
+step1 : (c : tie.After-want_signalling-signalling)
+    → Step (checked_as (start c).args.before) (start c).args.image-1.now (signal_fault (numbers c)) (entry_writes (numbers c) (whole signals signalling))
+    (checked_as c.want_signalling-signalling.result) c.want_signalling-signalling.new.1.1.0
+step1 c = step c.want_signalling-signalling.ensures
 
-step2 : (c : tie.After-want-picture)
+step2 : (c : tie.After-want_picture-picture)
     → let p = signal_of c in
-    Step (checked_as p.want-signalling.result) p.want-signalling.last.1.1.0 (check_of (numbers p) picture) (writes_of (numbers p) picture)
-    (checked_as c.want-picture.result) c.want-picture.new.1.1.0
-step2 c = step c.want-picture.ensures
+    Step (checked_as p.want_signalling-signalling.result) p.want_signalling-signalling.last.1.1.0 (check_of (numbers p) picture) (writes_of (numbers p) picture)
+    (checked_as c.want_picture-picture.result) c.want_picture-picture.new.1.1.0
+step2 c = step c.want_picture-picture.ensures
 
-step3 : (c : tie.After-want-dnr)
+step3 : (c : tie.After-want_dnr-dnr)
     → let p = picture_of c in
     let zs = numbers (signal_of p) in
-    Step (checked_as p.want-picture.result) p.want-picture.last.1.1.0 (check_of zs dnr) (writes_of zs dnr)
-    (checked_as c.want-dnr.result) c.want-dnr.new.1.1.0
-step3 c = step c.want-dnr.ensures
+    Step (checked_as p.want_picture-picture.result) p.want_picture-picture.last.1.1.0 (check_of zs dnr) (writes_of zs dnr)
+    (checked_as c.want_dnr-dnr.result) c.want_dnr-dnr.new.1.1.0
+step3 c = step c.want_dnr-dnr.ensures
 
-step4 : (c : tie.After-want-curve)
+step4 : (c : tie.After-want_curve-curve_a)
     → let p = dnr_of c in
     let zs = numbers (signal_of (picture_of p)) in
-    Step (checked_as p.want-dnr.result) p.want-dnr.last.1.1.0 (curve_fault zs curve_a) (entry_writes zs (whole curve curve_a))
-    (checked_as c.want-curve.result) c.want-curve.new.1.1.1.0
-step4 c = step c.want-curve.ensures
+    Step (checked_as p.want_dnr-dnr.result) p.want_dnr-dnr.last.1.1.0 (curve_fault zs curve_a) (entry_writes zs (whole curve curve_a))
+    (checked_as c.want_curve-curve_a.result) c.want_curve-curve_a.new.1.1.1.0
+step4 c = step c.want_curve-curve_a.ensures
 
-step5 : (c : tie.After-want-curve2)
+step5 : (c : tie.After-want_curve-curve_b)
     → let p = curve_of c in
     let zs = numbers (signal_of (picture_of (dnr_of p))) in
-    Step (checked_as p.want-curve.result) p.want-curve.last.1.1.1.0 (curve_fault zs curve_b) (entry_writes zs (whole curve curve_b))
-    (checked_as c.want-curve2.result) c.want-curve2.new.1.1.1.0
-step5 c = step c.want-curve2.ensures
+    Step (checked_as p.want_curve-curve_a.result) p.want_curve-curve_a.last.1.1.1.0 (curve_fault zs curve_b) (entry_writes zs (whole curve curve_b))
+    (checked_as c.want_curve-curve_b.result) c.want_curve-curve_b.new.1.1.1.0
+step5 c = step c.want_curve-curve_b.ensures
 
-step6 : (c : tie.After-want-word)
+step6 : (c : tie.After-want_word)
     → let p = curve2_of c in
     let zs = numbers (signal_of (picture_of (dnr_of (curve_of p)))) in
-    Step (checked_as p.want-curve2.result) p.want-curve2.last.1.1.1.0 (good tt) (entry_writes zs (whole subcarrier word))
-    (checked_as p.want-curve2.result) c.want-word.new.1.0
-step6 c = writes c.want-word.ensures
+    Step (checked_as p.want_curve-curve_b.result) p.want_curve-curve_b.last.1.1.1.0 (good tt) (entry_writes zs (whole subcarrier word))
+    (checked_as p.want_curve-curve_b.result) c.want_word.new.1.0
+step6 c = writes c.want_word.ensures
 
-all : (c : tie.After-want-word)
+all : (c : tie.After-want_word)
     → let s = start (signal_of (picture_of (dnr_of (curve_of (curve2_of c))))) in
-    Step (checked_as s.args.before) s.args.image.now (second_faults s.args.numbers.now) (entries_writes s.args.numbers.now second_part)
-    (checked_as (curve2_of c).want-curve2.result) c.want-word.new.1.0
+    Step (checked_as s.args.before) s.args.image-1.now (second_faults s.args.numbers.now) (entries_writes s.args.numbers.now second_part)
+    (checked_as (curve2_of c).want_curve-curve_b.result) c.want_word.new.1.0
 unfolding entries_writes second_part picture dnr writes_of flat_map
 all c =
     let b = curve2_of c in

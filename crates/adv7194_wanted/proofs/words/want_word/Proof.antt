@@ -19,12 +19,12 @@ returns c =
     let two = w.before in
     let one = two.before.before in
     let s = one.before.before.before.args in
-    let standardIs = to_z-of_z w32 one.given.result (record { sfits = one.given.type-inv })
-    ∙ one.given.ensures ∙ ap (given s.numbers.now) one.before.row_of.ensures in
-    let squareIs = to_z-of_z w32 two.given2.result (record { sfits = two.given2.type-inv })
-    ∙ two.given2.ensures ∙ ap (given s.numbers.now) two.before.row-of2.ensures in
-    c.before.before.put-bytes.ensures
-    ∙ ap (λ (l : List ℕ). puts s.image.now (byte_writes word.register l)) (w.word-codes.ensures ∙ ap₂ word_codes standardIs squareIs)
+    let standardIs = to_z-of_z w32 one.given-standard.result (record { sfits = one.given-standard.type-inv })
+    ∙ one.given-standard.ensures ∙ ap (given s.numbers.now) one.before.row_of.ensures in
+    let squareIs = to_z-of_z w32 two.given-square.result (record { sfits = two.given-square.type-inv })
+    ∙ two.given-square.ensures ∙ ap (given s.numbers.now) two.before.row_of-2.ensures in
+    c.before.before.put_bytes.ensures
+    ∙ ap (λ (l : List ℕ). puts s.image-1.now (byte_writes word.register l)) (w.word_codes-codes.ensures ∙ ap₂ word_codes standardIs squareIs)
 
 pub want_word_spec : {M : Type 1} → statement M
 want_word_spec =

@@ -16,11 +16,11 @@ returns c image wanted told =
     let a = b.before in
     omega (
       arith,
-      c.bus-bytes.ensures,
-      n.count2.ensures,
+      c.bus_bytes.ensures,
+      n.count-transactions.ensures,
       d.count.ensures,
-      flip_weight_lem image wanted told.change a.args.a b.beside.result a.requires (b.beside.ensures image wanted told) t.covered.result
-          s.starts.result (search rules) (search rules) t.covered.ensures s.starts.ensures,
+      flip_weight_lem image wanted told.change a.args.a b.beside.result a.requires (b.beside.ensures image wanted told) t.covered-taken.result
+          s.starts-begun.result (search rules) (search rules) t.covered-taken.ensures s.starts-begun.ensures,
     )
 
 pub flip_weight_spec : {M : Type 1} → statement M
@@ -32,9 +32,9 @@ flip_weight_spec =
     (λ c κs. tt)
     (λ c κs. tt)
     (λ c. search rules)
-    (λ c. omega (arith, c.count.ensures, ones-le 64 c.before.before.covered.result (search rules)))
+    (λ c. omega (arith, c.count.ensures, ones-le 64 c.before.before.covered-taken.result (search rules)))
     (λ c κs. tt)
-    (λ c. omega (arith, c.count2.ensures, ones-le 64 c.before.before.starts.result (search rules)))
+    (λ c. omega (arith, c.count-transactions.ensures, ones-le 64 c.before.before.starts-begun.result (search rules)))
     (λ c κs. tt)
     (λ c. search rules)
     (λ c. search rules)

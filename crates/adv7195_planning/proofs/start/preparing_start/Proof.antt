@@ -25,10 +25,10 @@ record Inv (changed : ℕ) (restored : Bool) (best least a : ℕ) : Type 0 where
   best-is : (image wanted : List ℕ) → Told image wanted changed restored → best ≡ first_least (weight_at image wanted) (0x09 - a) a
   least-is : (image wanted : List ℕ) → Told image wanted changed restored → least ≡ weight_at image wanted best
 
-abbrev invariant-loop : tie.invariant-loop
+abbrev invariant-loop : tie.invariant-loop-a
 invariant-loop changed restored best₀ least₀ a₀ best least a = Inv changed restored best least a
 
-abbrev decreases-loop : tie.decreases-loop
+abbrev decreases-loop : tie.decreases-loop-a
 decreases-loop changed restored best₀ least₀ a₀ best least a = a
 
 module _ (f : ℕ → ℕ) (a best : ℕ) (h : 0x04 < a) (g : a ≤ 0x09) (e : best ≡ first_least f (0x09 - a) a) where
@@ -49,7 +49,7 @@ module _ (f : ℕ → ℕ) (a best : ℕ) (h : 0x04 < a) (g : a ≤ 0x09) (e : b
   unfolding first_least
   least-there l = rw (further, back, ← e) (rw (lt-leb (f (a - 1)) (f best) l))
 
-loop-holds : tie.Need-loop-init invariant-loop decreases-loop
+loop-holds : tie.Need-loop-a-init invariant-loop decreases-loop
 unfolding first_least
 loop-holds c = record {
   from = omega arith;
@@ -57,14 +57,14 @@ loop-holds c = record {
   above = omega arith;
   below = omega arith;
   best-is = λ image wanted told. refl;
-  least-is = c.flip_weight_lem.ensures;
+  least-is = c.flip_weight-least.ensures;
 }
 
-loop-again : tie.Need-loop-preserved invariant-loop decreases-loop
+loop-again : tie.Need-loop-a-preserved-then-weight-least invariant-loop decreases-loop
 loop-again c =
     let k = c.before in
-    let t = k.before.loop-test.true in
-    let l = k.before.before.loop in
+    let t = k.before.loop-a-test.true in
+    let l = k.before.before.loop-a in
     let v = l.invariant in
     let b = v.to in
     record {
@@ -74,15 +74,15 @@ loop-again c =
       below = omega arith;
       best-is = λ image wanted told.
           least-here (weight_at image wanted) l.a l.best t b (v.best-is image wanted told)
-          (omega (arith, c.if1.true, v.least-is image wanted told, k.flip-weight2.ensures image wanted told));
-      least-is = k.flip-weight2.ensures;
+          (omega (arith, c.if-weight-least.true, v.least-is image wanted told, k.flip_weight-weight.ensures image wanted told));
+      least-is = k.flip_weight-weight.ensures;
     }
 
-loop-again-2 : tie.Need-loop-preserved-2 invariant-loop decreases-loop
+loop-again-2 : tie.Need-loop-a-preserved invariant-loop decreases-loop
 loop-again-2 c =
     let k = c.before in
-    let t = k.before.loop-test.true in
-    let l = k.before.before.loop in
+    let t = k.before.loop-a-test.true in
+    let l = k.before.before.loop-a in
     let v = l.invariant in
     let b = v.to in
     let d = v.above in
@@ -93,17 +93,17 @@ loop-again-2 c =
       below = v.below;
       best-is = λ image wanted told.
           least-there (weight_at image wanted) l.a l.best t b (v.best-is image wanted told)
-          (omega (arith, c.if1.false, v.least-is image wanted told, k.flip-weight2.ensures image wanted told));
+          (omega (arith, c.if-weight-least.false, v.least-is image wanted told, k.flip_weight-weight.ensures image wanted told));
       least-is = v.least-is;
     }
 
 returns : tie.Need-returns invariant-loop decreases-loop
 unfolding preparing_start
 returns c =
-    let v = c.before.loop.invariant in
+    let v = c.before.loop-a.invariant in
     let f = v.from in
     let d = v.above in
-    let z : c.before.loop.a ≡ 0x04 = omega (arith, c.loop-test.false) in
+    let z : c.before.loop-a.a ≡ 0x04 = omega (arith, c.loop-a-test.false) in
     ((omega arith, v.below), λ image wanted told. v.best-is image wanted told ∙ ap (λ (a : ℕ). first_least (weight_at image wanted) (0x09 - a) a) z)
 
 pub preparing_start_spec : {M : Type 1} → statement M
@@ -114,10 +114,10 @@ preparing_start_spec =
     decreases-loop
     (λ c κs. omega arith)
     loop-holds
-    (λ c. omega (arith, c.loop-test.true))
-    (λ c κs. omega (arith, c.before.loop.invariant.to))
-    (λ c. omega (arith, c.before.before.loop-test.true))
+    (λ c. omega (arith, c.loop-a-test.true))
+    (λ c κs. omega (arith, c.before.loop-a.invariant.to))
+    (λ c. omega (arith, c.before.before.loop-a-test.true))
     loop-again
-    (λ c. omega (arith, c.before.before.loop-test.true))
+    (λ c. omega (arith, c.before.before.loop-a-test.true))
     loop-again-2
     returns)

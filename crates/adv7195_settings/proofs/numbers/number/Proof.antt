@@ -19,16 +19,16 @@ bytes s = three s.args.parts.now s.requires.1.1
 returns : tie.Need-returns
 returns c =
     let a = c.before.before.args in
-    to_z-of_z w32 (get_or a.parts.now a.i (pos 0)) (record { sfits = c.result.given })
-    ∙ number-before a.parts.now c.before.before.requires.0 a.i c.before.if1.true
+    to_z-of_z w32 (get_or a.parts.now a.i (pos 0)) (record { sfits = c.result-1.given })
+    ∙ number-before a.parts.now c.before.before.requires.0 a.i c.before.if-i-lt-CGMS.true
 
-cast-joined : tie.Need-overflow-cast-joined
+cast-joined : tie.Need-overflow_cast-parts
 cast-joined c = let s = c.before.before.before in byte_cast (cgms_part s.args.parts.now 0) (bytes s).low
 
-cast-joined-2 : tie.Need-overflow-cast-joined-2
+cast-joined-2 : tie.Need-overflow_cast-parts-then-i-eq-CGMS
 cast-joined-2 c = let s = c.before.before.before.before in byte_cast (cgms_part s.args.parts.now 1) (bytes s).middle
 
-cast-joined-3 : tie.Need-overflow-cast-joined-3
+cast-joined-3 : tie.Need-overflow_cast-parts-then-i-eq-CGMS-2
 cast-joined-3 c = let s = c.before.before.before.before.before in byte_cast (cgms_part s.args.parts.now 2) (bytes s).high
 
 joined-requires : tie.Need-joined-requires
@@ -38,7 +38,7 @@ joined-requires c κs =
     let b = bytes s in
     (byte-lt (cgms_part ps 0) b.low, (byte-lt (cgms_part ps 1) b.middle, byte-lt (cgms_part ps 2) b.high))
 
-returns-2 : tie.Need-returns-2
+returns-2 : tie.Need-returns-then-i-eq-CGMS
 returns-2 c =
     let s = c.before.before.before.before.before.before in
     let ps = s.args.parts.now in
@@ -46,14 +46,14 @@ returns-2 c =
     let low = byte-back (cgms_part ps 0) b.low in
     let middle = byte-back (cgms_part ps 1) b.middle in
     let high = byte-back (cgms_part ps 2) b.high in
-    to_z-of_z w32 c.joined.result (record { sfits = c.joined.type-inv })
+    to_z-of_z w32 c.joined.result-1 (record { sfits = c.joined.type-inv })
     ∙ (rw (low, middle, high) at c.joined.ensures)
-    ∙ number-joined ps s.requires.0 ∙ sym (ap (λ (n : ℕ). get_or (numbers_of ps) n (pos 0)) c.before.before.before.before.if2.true)
+    ∙ number-joined ps s.requires.0 ∙ sym (ap (λ (n : ℕ). get_or (numbers_of ps) n (pos 0)) c.before.before.before.before.if-i-eq-CGMS.true)
 
-returns-3 : tie.Need-returns-3
+returns-3 : tie.Need-returns
 returns-3 c =
     let s = c.before.before.before in
-    to_z-of_z w32 (get_or s.args.parts.now _ (pos 0)) (record { sfits = c.result2.given })
+    to_z-of_z w32 (get_or s.args.parts.now _ (pos 0)) (record { sfits = c.result-2-1.given })
     ∙ number_past s.args.parts.now s.requires.0 s.args.i (search rules)
 
 pub number_spec : {M : Type 1} → statement M

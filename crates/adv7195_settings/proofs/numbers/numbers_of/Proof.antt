@@ -12,26 +12,26 @@ use Rattle.adv7195_settings.proofs.NumberLaws.{numbers-length}
 use Rattle.adv7195_settings.proofs.numbers.numbers_of.Statement.{statement}
 use Rattle.adv7195_settings.proofs.numbers.numbers_of.Tie as tie
 
-abbrev invariant-loop : tie.invariant-loop
+abbrev invariant-loop : tie.invariant-loop-i
 invariant-loop parts numbers₀ i₀ numbers i = (length (numbers_of parts) ≡ number_count) × ((length numbers₀ ≡ number_count) × Filled (numbers_of parts) numbers i)
 
-abbrev decreases-loop : tie.decreases-loop
+abbrev decreases-loop : tie.decreases-loop-i
 decreases-loop parts numbers₀ i₀ numbers i = number_count - i
 
-loop-holds : tie.Need-loop-init invariant-loop decreases-loop
+loop-holds : tie.Need-loop-i-init invariant-loop decreases-loop
 loop-holds c = let e = numbers-length c.args.parts.now c.requires.0 in (e, (c.requires.1.0, fill_none (c.requires.1.0 ∙ sym e)))
 
-loop-again : tie.Need-loop-preserved invariant-loop decreases-loop
+loop-again : tie.Need-loop-i-preserved invariant-loop decreases-loop
 loop-again c =
-    let l = c.before.before.loop in
+    let l = c.before.before.loop-i in
     let e = to_z-of_z w32 c.number.result (record { sfits = c.number.type-inv }) ∙ c.number.ensures in
     (l.invariant.0, (l.invariant.1.0, fill_next (omega arith) e l.invariant.1.1))
 
-same_length : tie.Need-same-length invariant-loop decreases-loop
-same_length c = let l = c.before.loop in l.invariant.1.1.long ∙ l.invariant.0 ∙ sym l.invariant.1.0
+same_length : tie.Need-shape_of-numbers invariant-loop decreases-loop
+same_length c = let l = c.before.loop-i in l.invariant.1.1.long ∙ l.invariant.0 ∙ sym l.invariant.1.0
 
 returns : tie.Need-returns invariant-loop decreases-loop
-returns c = let l = c.before.loop in fill_all (omega arith) l.invariant.1.1
+returns c = let l = c.before.loop-i in fill_all (omega arith) l.invariant.1.1
 
 pub numbers_of_spec : {M : Type 1} → statement M
 numbers_of_spec =

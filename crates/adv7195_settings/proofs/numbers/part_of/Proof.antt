@@ -14,27 +14,27 @@ same : (c : tie.Start) → back w32 c.args.cgms ≡ c.args.cgms
 same c = to_z-of_z w32 c.args.cgms c.ranges.cgms
 
 returns : tie.Need-returns
-returns c = let s = c.before in part_negative s.args.lowest s.args.width s.args.cgms (rw (same s) at c.if1.true)
+returns c = let s = c.before in part_negative s.args.lowest s.args.width s.args.cgms (rw (same s) at c.if-cgms-lt0.true)
 
-returns-2 : tie.Need-returns-2
-returns-2 c = let s = c.before.before in part_beyond s.args.lowest s.args.width s.args.cgms (rw (same s) at c.if2.true)
+returns-2 : tie.Need-returns-then-cgms-ge-CGMS_END
+returns-2 c = let s = c.before.before in part_beyond s.args.lowest s.args.width s.args.cgms (rw (same s) at c.if-cgms-ge-CGMS_END.true)
 
-cast-result : tie.Need-overflow-cast-result
+cast-result : tie.Need-overflow_cast-result
 cast-result c =
     let s = c.before.before in
-    rw (same s) (cast_positive s.args.cgms (rw (same s) at c.before.if1.false) s.ranges.cgms)
+    rw (same s) (cast_positive s.args.cgms (rw (same s) at c.before.if-cgms-lt0.false) s.ranges.cgms)
 
-rem-result : tie.Need-nonzero-rem-result
+rem-result : tie.Need-nonzero_rem-result
 rem-result c = let a = c.before.before.args in divides a.lowest a.width (search rules)
 
-cast-result-2 : tie.Need-overflow-cast-result-2
+cast-result-2 : tie.Need-overflow_cast-result-2
 cast-result-2 c = let a = c.before.before.args in part_fits a.lowest a.width (search rules) _
 
-returns-3 : tie.Need-returns-3
+returns-3 : tie.Need-returns
 returns-3 c =
     let s = c.before.before in
     let a = s.args in
-    rw (same s) (part_is a.lowest a.width (search rules) a.cgms (rw (same s) at c.before.if1.false) (rw (same s) at c.if2.false))
+    rw (same s) (part_is a.lowest a.width (search rules) a.cgms (rw (same s) at c.before.if-cgms-lt0.false) (rw (same s) at c.if-cgms-ge-CGMS_END.false))
 
 pub part_of_spec : {M : Type 1} → statement M
 part_of_spec =

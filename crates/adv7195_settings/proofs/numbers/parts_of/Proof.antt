@@ -12,22 +12,22 @@ use Rattle.adv7195_settings.proofs.NumberLaws.{parts_length}
 use Rattle.adv7195_settings.proofs.numbers.parts_of.Statement.{statement}
 use Rattle.adv7195_settings.proofs.numbers.parts_of.Tie as tie
 
-abbrev invariant-loop : tie.invariant-loop
+abbrev invariant-loop : tie.invariant-loop-i
 invariant-loop numbers parts₀ i₀ parts i = (length (parts_of numbers) ≡ part_count) × Filled (parts_of numbers) parts i
 
-abbrev decreases-loop : tie.decreases-loop
+abbrev decreases-loop : tie.decreases-loop-i
 decreases-loop numbers parts₀ i₀ parts i = part_count - i
 
-loop-holds : tie.Need-loop-init invariant-loop decreases-loop
+loop-holds : tie.Need-loop-i-init invariant-loop decreases-loop
 loop-holds c = let e = parts_length c.args.numbers.now c.requires in (e, fill_none (sym e))
 
-loop-again : tie.Need-loop-preserved invariant-loop decreases-loop
+loop-again : tie.Need-loop-i-preserved invariant-loop decreases-loop
 loop-again c =
-    let l = c.before.before.loop in
+    let l = c.before.before.loop-i in
     (l.invariant.0, fill_next (omega arith) (to_z-of_z w32 c.part.result (record { sfits = c.part.type-inv }) ∙ c.part.ensures) l.invariant.1)
 
 returns : tie.Need-returns invariant-loop decreases-loop
-returns c = let l = c.before.loop in fill_all (omega arith) l.invariant.1
+returns c = let l = c.before.loop-i in fill_all (omega arith) l.invariant.1
 
 pub parts_of_spec : {M : Type 1} → statement M
 parts_of_spec =

@@ -6,11 +6,11 @@ use Rattle.answers.specs.Answers.{plan_answer}
 use Rattle.answers.proofs.plan_numbers.plan_answer.Statement.{statement}
 use Rattle.answers.proofs.plan_numbers.plan_answer.Tie as tie
 
-returns : tie.Need-returns
-returns c = c.plan-refused.ensures ∙ sym (ap (λ p. plan_answer (answer_of p)) c.before.before.planned.given.1)
+returns : tie.Need-returns-in-Refused
+returns c = c.plan_refused.ensures ∙ sym (ap (λ p. plan_answer (answer_of p)) c.before.before.planned-1.given.1)
 
-returns-2 : tie.Need-returns-2
-returns-2 c = c.plan-done.ensures ∙ sym (ap (λ p. plan_answer (answer_of p)) c.before.before.planned2.given.1)
+returns-2 : tie.Need-returns-in-Done
+returns-2 c = c.plan_done.ensures ∙ sym (ap (λ p. plan_answer (answer_of p)) c.before.before.planned-in-Done-1.given.1)
 
 pub plan_answer_spec : {M : Type 1} → statement M
 plan_answer_spec = tie.close (tie.spec (λ c. search rules) (λ c κs. tt) (λ c. search rules) (λ c κs. tt) returns returns-2)

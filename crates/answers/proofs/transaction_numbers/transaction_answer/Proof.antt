@@ -6,11 +6,11 @@ use Rattle.answers.specs.Answers.{transaction_answer}
 use Rattle.answers.proofs.transaction_numbers.transaction_answer.Statement.{statement}
 use Rattle.answers.proofs.transaction_numbers.transaction_answer.Tie as tie
 
-returns : tie.Need-returns
-returns c = rw c.number.ensures (sym (ap (λ p. transaction_answer (answer_of p)) c.before.before.taken.given.1))
+returns : tie.Need-returns-in-Refused
+returns c = rw c.number.ensures (sym (ap (λ p. transaction_answer (answer_of p)) c.before.before.taken-1.given.1))
 
-returns-2 : tie.Need-returns-2
-returns-2 c = sym (ap (λ p. transaction_answer (answer_of p)) c.before.taken2.given.1)
+returns-2 : tie.Need-returns-in-Transaction
+returns-2 c = sym (ap (λ p. transaction_answer (answer_of p)) c.before.taken-in-Transaction-1.given.1)
 
 pub transaction_answer_spec : {M : Type 1} → statement M
 transaction_answer_spec =

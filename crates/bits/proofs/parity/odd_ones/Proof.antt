@@ -12,7 +12,7 @@ use Rattle.bits.proofs.parity.odd_ones.Tie as tie
 size : (c : tie.Start) → (1 * 2 ^ c.args.width) % 2 ^ 32 ≡ 2 ^ c.args.width
 size c = one_shl c.args.width 32 c.requires
 
-rem-result : tie.Need-nonzero-rem-result
+rem-result : tie.Need-nonzero_rem-result
 rem-result c = rw (size c) (pow_pos c.args.width)
 
 returns : tie.Need-returns

@@ -15,22 +15,22 @@ size : (c : tie.Start) → (1 * 2 ^ c.args.width) % 2 ^ 8 ≡ 2 ^ c.args.width
 size c = one_shl c.args.width 8 (omega arith)
 
 -- the definition where the count is even
-even : (c : tie.Else1) → with_parity c.before.before.args.width c.before.before.args.value
+even : (c : tie.Else-odd_ones) → with_parity c.before.before.args.width c.before.before.args.value
     ≡ c.before.before.args.value + 2 ^ c.before.before.args.width
-even c = parity_set c.before.before.args.width c.before.before.args.value (sym c.before.odd_ones_lem.ensures ∙ c.if1.false)
+even c = parity_set c.before.before.args.width c.before.before.args.value (sym c.before.odd_ones.ensures ∙ c.if-odd_ones.false)
 
 returns : tie.Need-returns
 returns c =
     let a = c.before.before.args in
-    sym (parity_clear a.width a.value (sym c.before.odd_ones_lem.ensures ∙ c.if1.true))
+    sym (parity_clear a.width a.value (sym c.before.odd_ones.ensures ∙ c.if-odd_ones.true))
 
-add-result : tie.Need-overflow-add-result
+add-result : tie.Need-overflow_add-result
 add-result c =
     let s = c.before.before in
     let a = s.args in
     rw (size s) (record { fits = omega (arith, even c, parity_fits a.width a.value s.requires.0, pow_mono {i = suc a.width} {j = 8} (omega arith)) })
 
-returns-2 : tie.Need-returns-2
+returns-2 : tie.Need-returns
 returns-2 c = rw (size c.before.before) (sym (even c))
 
 pub with_parity_spec : {M : Type 1} → statement M

@@ -12,31 +12,31 @@ use Rattle.bus.proofs.known.known_by.Tie as tie
 mark-requires : tie.Need-mark-requires
 mark-requires c κs =
     let a = c.before.before.before.before.args in
-    omega (arith, stored-below _ a.state.phase _ 0 (sym (c.before.stored.ensures 0 [] 0) ∙ c.if1.true))
+    omega (arith, stored-below _ a.state.phase _ 0 (sym (c.before.stored.ensures 0 [] 0) ∙ c.if-stored.true))
 
-returns : tie.Need-returns
+returns : tie.Need-returns-in-Start
 unfolding known_by step
-returns c own bytes = rw c.enum_told.given.1
+returns c own bytes = rw c.enum_told-1.given.1
 
-returns-2 : tie.Need-returns-2
+returns-2 : tie.Need-returns-in-Stop
 unfolding known_by step
-returns-2 c own bytes = rw c.enum-told2.given.1
+returns-2 c own bytes = rw c.enum_told-in-Stop-1.given.1
 
-returns-3 : tie.Need-returns-3
+returns-3 : tie.Need-returns-then-stored
 unfolding known_by step
 returns-3 c own bytes =
     let s = c.before.before in
-    rw (s.before.enum-told3.given.1, sym (s.stored.ensures own bytes s.before.enum-told3.given.0.0) ∙ c.before.if1.true) c.mark.ensures
+    rw (s.before.enum_told-in-FromMaster-1.given.1, sym (s.stored.ensures own bytes s.before.enum_told-in-FromMaster-1.given.0.0) ∙ c.before.if-stored.true) c.mark.ensures
 
-returns-4 : tie.Need-returns-4
+returns-4 : tie.Need-returns-else-stored
 unfolding known_by step
 returns-4 c own bytes =
     let s = c.before in
-    rw (s.before.enum-told3.given.1, sym (s.stored.ensures own bytes s.before.enum-told3.given.0.0) ∙ c.if1.false)
+    rw (s.before.enum_told-in-FromMaster-1.given.1, sym (s.stored.ensures own bytes s.before.enum_told-in-FromMaster-1.given.0.0) ∙ c.if-stored.false)
 
-returns-5 : tie.Need-returns-5
+returns-5 : tie.Need-returns-in-ToMaster
 unfolding known_by step
-returns-5 c own bytes = rw (c.enum-told4.given.1, sent_not_stored)
+returns-5 c own bytes = rw (c.enum_told-in-ToMaster-1.given.1, sent_not_stored)
 
 pub known_by_spec : {M : Type 1} → statement M
 known_by_spec =

@@ -25,18 +25,18 @@ not-waiting AwaitSubaddress h κ c b = subaddress_not_stored κ c b
 not-waiting AwaitData h κ c b = absurd (miss (0 ∷ 1 ∷ 2 ∷ 4 ∷ []) 3 tt h)
 not-waiting Sending h κ c b = refl
 
-returns : tie.Need-returns
+returns : tie.Need-returns-then-pointer-registers
 unfolding from_master
 returns c own bytes byte =
     let b = c.before in
-    rw (b.before.enum_told.given.1, lt-ltb _ _ b.if1.true) (ap not c.has.ensures)
+    rw (b.before.enum_told-1.given.1, lt-ltb _ _ b.if-pointer-registers.true) (ap not c.has.ensures)
 
-returns-2 : tie.Need-returns-2
+returns-2 : tie.Need-returns-else-pointer-registers
 unfolding from_master
-returns-2 c own bytes byte = rw (c.before.enum_told.given.1, le-ltb _ _ c.if1.false)
+returns-2 c own bytes byte = rw (c.before.enum_told-1.given.1, le-ltb _ _ c.if-pointer-registers.false)
 
-returns-3 : tie.Need-returns-3
-returns-3 c own bytes byte = sym (not-waiting c.before.args.phase c.match.keys2 _ _ _)
+returns-3 : tie.Need-returns-in-Idle
+returns-3 c own bytes byte = sym (not-waiting c.before.args.phase c.in-AwaitData.keys2 _ _ _)
 
 pub stored_spec : {M : Type 1} → statement M
 stored_spec = tie.close (tie.spec (λ c. search rules) (λ c κs. search rules) returns returns-2 returns-3)

@@ -10,16 +10,16 @@ returns : tie.Need-returns
 returns c =
     let start = c.before.before.before.before in
     let a = start.args in
-    same_text (own_none a.image.now a.field a.register c.before.own-mask.ensures c.if1.true)
-    (unwritten a.line.now a.at (omega (arith, start.requires.0)))
+    same_text (own_none a.image.now a.field a.register c.before.own_mask.ensures c.if-own_mask-eq0.true)
+    (unwritten a.line-1.now a.at (omega (arith, start.requires.0)))
 
-returns-2 : tie.Need-returns-2
+returns-2 : tie.Need-returns
 returns-2 c =
     let p = c.before.before in
     let o = p.before in
     let e = o.before.before in
     let a = e.before.before.before.before.args in
-    same_text (own_some a.image.now a.field a.register e.before.own-mask.ensures e.if1.false o.own_bits_lem.ensures) p.put_byte.ensures
+    same_text (own_some a.image.now a.field a.register e.before.own_mask.ensures e.if-own_mask-eq0.false o.own_bits.ensures) p.put_byte.ensures
 
 pub put_own_spec : {M : Type 1} → statement M
 put_own_spec =

@@ -19,47 +19,47 @@ record Inv (line₀ : List ℕ) (at : ℕ) (image : List ℕ) (n : ℕ) (line : 
   written : Put (3 * r) line₀ at text line place
   rest : text ++ raw_text image n r ≡ raw_text image n 0
 
-abbrev invariant-loop : tie.invariant-loop
+abbrev invariant-loop : tie.invariant-loop-register
 invariant-loop line₀ at image field place₀ register₀ line place register = Inv line₀ at image field line place register
 
-abbrev decreases-loop : tie.decreases-loop
+abbrev decreases-loop : tie.decreases-loop-register
 decreases-loop line₀ at image field place₀ register₀ line place register = register_count - register
 
-loop-holds : tie.Need-loop-init invariant-loop decreases-loop
+loop-holds : tie.Need-loop-register-init invariant-loop decreases-loop
 loop-holds c =
     let start = c.before.before in
-    record { inside = omega arith; text = []; written = unwritten start.args.line.now start.args.at (omega (arith, start.requires)); rest = refl }
+    record { inside = omega arith; text = []; written = unwritten start.args.line-1.now start.args.at (omega (arith, start.requires)); rest = refl }
 
-put-own-requires : tie.Need-put-own-requires invariant-loop decreases-loop
+put-own-requires : tie.Need-put_own-place-requires invariant-loop decreases-loop
 put-own-requires c κs =
     let t = c.before in
-    let l = t.before.loop in
-    (omega (arith, l.invariant.written.most, kept l.invariant.written, t.before.before.before.before.requires, t.loop-test.true), t.loop-test.true)
+    let l = t.before.loop-register in
+    (omega (arith, l.invariant.written.most, kept l.invariant.written, t.before.before.before.before.requires, t.loop-register-test.true), t.loop-register-test.true)
 
-loop-again : tie.Need-loop-preserved invariant-loop decreases-loop
+loop-again : tie.Need-loop-register-preserved invariant-loop decreases-loop
 loop-again c =
     let p = c.before.before in
     let t = p.before.before in
-    let l = t.before.loop in
+    let l = t.before.loop-register in
     let start = t.before.before.before.before in
     let a = start.args in
     let image = a.image.now in
     record {
-      inside = omega (arith, t.loop-test.true);
+      inside = omega (arith, t.loop-register-test.true);
       text = l.invariant.text ++ own_text image a.field l.register;
       written =
-          wider (3 * (l.register + 1)) (omega arith) (more l.invariant.written p.put-own.ensures (omega (arith, start.requires, t.loop-test.true)));
+          wider (3 * (l.register + 1)) (omega arith) (more l.invariant.written p.put_own-place.ensures (omega (arith, start.requires, t.loop-register-test.true)));
       rest =
           append_assoc l.invariant.text (own_text image a.field l.register) (raw_text image a.field (l.register + 1))
-          ∙ ap (λ (x : List ℕ). l.invariant.text ++ x) (sym (raw_turn image a.field l.register t.loop-test.true))
+          ∙ ap (λ (x : List ℕ). l.invariant.text ++ x) (sym (raw_turn image a.field l.register t.loop-register-test.true))
           ∙ l.invariant.rest;
     }
 
 returns : tie.Need-returns invariant-loop decreases-loop
 returns c =
-    let l = c.before.loop in
+    let l = c.before.loop-register in
     let a = c.before.before.before.before.args in
-    let e = raw_end a.image.now a.field l.register c.loop-test.false in
+    let e = raw_end a.image.now a.field l.register c.loop-register-test.false in
     same_text (sym (append-nil l.invariant.text) ∙ ap (λ (x : List ℕ). l.invariant.text ++ x) (sym e) ∙ l.invariant.rest)
     (wider raw_width (omega (arith, l.invariant.inside)) l.invariant.written)
 
@@ -75,5 +75,5 @@ put_raw_spec =
     (λ c. search rules)
     (λ c. search rules)
     loop-again
-    (λ c. kept c.before.loop.invariant.written)
+    (λ c. kept c.before.loop-register.invariant.written)
     returns)

@@ -16,15 +16,15 @@ returns c =
     let t = p.before.before.before in
     let start = t.before.before.before in
     let a = start.args in
-    same_text (sym (ap (λ (b : Bool). side_of b a.image.now a.numbers.now a.field) t.if1.true))
-    (wider side_width (omega arith) (more (put p.put.ensures.0 p.put.ensures.1) v.put-value.ensures (omega (arith, start.requires.0))))
+    same_text (sym (ap (λ (b : Bool). side_of b a.image.now a.numbers.now a.field) t.if-readable.true))
+    (wider side_width (omega arith) (more (put p.put-spaced.ensures.0 p.put-spaced.ensures.1) v.put_value.ensures (omega (arith, start.requires.0))))
 
-returns-2 : tie.Need-returns-2
+returns-2 : tie.Need-returns
 returns-2 c =
     let v = c.before.before in
     let e = v.before.before in
     let a = e.before.before.before.args in
-    same_text (sym (ap (λ (b : Bool). side_of b a.image.now a.numbers.now a.field) e.if1.false)) v.put-raw.ensures
+    same_text (sym (ap (λ (b : Bool). side_of b a.image.now a.numbers.now a.field) e.if-readable.false)) v.put_raw.ensures
 
 pub put_side_spec : {M : Type 1} → statement M
 put_side_spec =

@@ -13,14 +13,14 @@ use Rattle.compare_fields.proofs.PartLaws.{one_number, signalling-value, curve_a
 use Rattle.compare_fields.proofs.parts.put_value.Statement.{statement}
 use Rattle.compare_fields.proofs.parts.put_value.Tie as tie
 
-put-signalling-requires : tie.Need-put-signalling-requires
+put-signalling-requires : tie.Need-put_signalling-requires
 put-signalling-requires c κs = (omega arith, omega (arith, ap (λ (x : Block). x.index) c.Block-of.ensures))
 
-put-curve-requires : tie.Need-put-curve-requires
-put-curve-requires c κs = (omega arith, omega (arith, ap (λ (x : Block). x.index) c.block-of2.ensures))
+put-curve-requires : tie.Need-put_curve-requires
+put-curve-requires c κs = (omega arith, omega (arith, ap (λ (x : Block). x.index) c.block_of-then-field-eq-CURVE_A_FIELD.ensures))
 
-put-curve-requires-2 : tie.Need-put-curve-requires-2
-put-curve-requires-2 c κs = (omega arith, omega (arith, ap (λ (x : Block). x.index) c.block-of3.ensures))
+put-curve-requires-2 : tie.Need-put_curve-requires-then-field-eq-CURVE_B_FIELD
+put-curve-requires-2 c κs = (omega arith, omega (arith, ap (λ (x : Block). x.index) c.block_of-then-field-eq-CURVE_B_FIELD.ensures))
 
 returns : tie.Need-returns
 returns c =
@@ -30,41 +30,41 @@ returns c =
     let a = t.before.before.before.args in
     let zs = a.numbers.now in
     let e = ap (λ (x : Block). signalling_text zs x.index) b.ensures ∙ signalling-value a.image.now zs
-    ∙ ap (field_value a.image.now zs) (sym t.if1.true) in
-    same_text e (wider curve_width (omega arith) p.put-signalling.ensures)
+    ∙ ap (field_value a.image.now zs) (sym t.if-field-eq-SIGNALLING_FIELD.true) in
+    same_text e (wider curve_width (omega arith) p.put_signalling.ensures)
 
-returns-2 : tie.Need-returns-2
+returns-2 : tie.Need-returns-then-field-eq-CURVE_A_FIELD
 returns-2 c =
     let p = c.before.before in
-    let b = p.before.block-of2 in
+    let b = p.before.block_of-then-field-eq-CURVE_A_FIELD in
     let t = p.before.before.before in
     let a = t.before.before.before.before.args in
     let zs = a.numbers.now in
     let e = ap (λ (x : Block). curve_text zs x.index) b.ensures ∙ curve_a_value a.image.now zs
-    ∙ ap (field_value a.image.now zs) (sym t.if2.true) in
-    same_text e (wider curve_width (omega arith) p.put-curve.ensures)
+    ∙ ap (field_value a.image.now zs) (sym t.if-field-eq-CURVE_A_FIELD.true) in
+    same_text e (wider curve_width (omega arith) p.put_curve.ensures)
 
-returns-3 : tie.Need-returns-3
+returns-3 : tie.Need-returns-then-field-eq-CURVE_B_FIELD
 returns-3 c =
     let p = c.before.before in
-    let b = p.before.block-of3 in
+    let b = p.before.block_of-then-field-eq-CURVE_B_FIELD in
     let t = p.before.before.before in
     let a = t.before.before.before.before.before.args in
     let zs = a.numbers.now in
     let e = ap (λ (x : Block). curve_text zs x.index) b.ensures ∙ curve_b_value a.image.now zs
-    ∙ ap (field_value a.image.now zs) (sym t.if3.true) in
-    same_text e (wider curve_width (omega arith) p.put-curve2.ensures)
+    ∙ ap (field_value a.image.now zs) (sym t.if-field-eq-CURVE_B_FIELD.true) in
+    same_text e (wider curve_width (omega arith) p.put_curve-then-field-eq-CURVE_B_FIELD.ensures)
 
-returns-4 : tie.Need-returns-4
+returns-4 : tie.Need-returns-then-field-eq-WORD_FIELD
 returns-4 c =
     let p = c.before.before in
     let t = p.before.before in
     let a = t.before.before.before.before.before.before.args in
     let zs = a.numbers.now in
-    let e = word_value a.image.now zs ∙ ap (field_value a.image.now zs) (sym t.if4.true) in
+    let e = word_value a.image.now zs ∙ ap (field_value a.image.now zs) (sym t.if-field-eq-WORD_FIELD.true) in
     same_text e p.put_word.ensures
 
-returns-5 : tie.Need-returns-5
+returns-5 : tie.Need-returns
 returns-5 c =
     let p = c.before.before in
     let g = p.before in
@@ -74,9 +74,9 @@ returns-5 c =
     let a = start.args in
     let zs = a.numbers.now in
     let e =
-    one_number a.image.now zs a.field start.requires.1 start.requires.2 t.before.before.before.if1.false t.before.before.if2.false
-    t.before.if3.false t.if4.false f.field_row.ensures in
-    same_text e (wider curve_width (omega arith) (looked (number_text (named a.field)) g.given.type-inv g.given.ensures p.put-setting.ensures))
+    one_number a.image.now zs a.field start.requires.1 start.requires.2 t.before.before.before.if-field-eq-SIGNALLING_FIELD.false t.before.before.if-field-eq-CURVE_A_FIELD.false
+    t.before.if-field-eq-CURVE_B_FIELD.false t.if-field-eq-WORD_FIELD.false f.field_row.ensures in
+    same_text e (wider curve_width (omega arith) (looked (number_text (named a.field)) g.given.type-inv g.given.ensures p.put_setting.ensures))
 
 pub put_value_spec : {M : Type 1} → statement M
 put_value_spec =

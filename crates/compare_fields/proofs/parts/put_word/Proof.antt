@@ -12,16 +12,16 @@ use Rattle.compare_fields.proofs.parts.put_word.Statement.{statement}
 use Rattle.compare_fields.proofs.parts.put_word.Tie as tie
 
 -- the word's first register
-first : (c : tie.After-block-of) → c.Block-of.result.register ≡ word.register
+first : (c : tie.After-block_of-first) → c.Block-of.result.register ≡ word.register
 first c = ap (λ (b : Block). b.register) c.Block-of.ensures
 
-add-byte-at : tie.Need-overflow-add-byte-at
+add-byte-at : tie.Need-overflow_add-first
 add-byte-at c = omega (arith, first c)
 
-add-byte-at-2 : tie.Need-overflow-add-byte-at-2
+add-byte-at-2 : tie.Need-overflow_add-first-2
 add-byte-at-2 c = omega (arith, first c.before)
 
-add-byte-at-3 : tie.Need-overflow-add-byte-at-3
+add-byte-at-3 : tie.Need-overflow_add-first-3
 add-byte-at-3 c = omega (arith, first c.before.before)
 
 fill-requires : tie.Need-fill-requires
@@ -39,7 +39,7 @@ returns c =
     let b = z.before in
     let a = b.before.before.before.args in
     same_text
-    (word-filled a.image.now (first b) z.byte_at.ensures y.byte-at2.ensures x.byte-at3.ensures w.byte-at4.ensures (search rules)
+    (word-filled a.image.now (first b) z.byte_at.ensures y.byte_at-2.ensures x.byte_at-3.ensures w.byte_at-4.ensures (search rules)
     (search rules) (search rules) (search rules))
     (wider curve_width (omega arith) p.fill.ensures)
 

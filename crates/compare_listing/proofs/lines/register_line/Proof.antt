@@ -10,12 +10,12 @@ returns : tie.Need-returns
 returns c =
     let x = c.before.before in
     let t = x.before.before in
-    same_text (line_shown _ t.before.register-differs.ensures t.if1.true) x.register-text.ensures
+    same_text (line_shown _ t.before.register_differs.ensures t.if-register_differs.true) x.register_text.ensures
 
-returns-2 : tie.Need-returns-2
+returns-2 : tie.Need-returns
 returns-2 c =
     let start = c.before.before.before.before.before in
-    same_text (line_left_out _ c.before.register-differs.ensures c.if1.false) (unwritten start.args.line.now
+    same_text (line_left_out _ c.before.register_differs.ensures c.if-register_differs.false) (unwritten start.args.line-1.now
     start.args.at (omega (arith, start.requires.0)))
 
 pub register_line_spec : {M : Type 1} → statement M

@@ -22,38 +22,38 @@ record Inv (line₀ : List ℕ) (at : ℕ) (a b : List ℕ) (f : ℕ → List �
   written : Put (register_width * (n - 0)) line₀ at text line place
   rest : text ++ lines_from (register_differs a b) f n 54 ≡ lines_from (register_differs a b) f 0 54
 
-abbrev invariant-loop : tie.invariant-loop
+abbrev invariant-loop : tie.invariant-loop-register
 invariant-loop line₀ at a b place₀ register₀ line place register = Inv line₀ at a b (register_line a b) line place register
 
-abbrev decreases-loop : tie.decreases-loop
+abbrev decreases-loop : tie.decreases-loop-register
 decreases-loop line₀ at a b place₀ register₀ line place register = 54 - register
 
-abbrev start : tie.At-loop invariant-loop decreases-loop → tie.Start invariant-loop decreases-loop
+abbrev start : tie.At-loop-register invariant-loop decreases-loop → tie.Start invariant-loop decreases-loop
 start c = c.before.before.before.before
 
 -- what a number's line is
-abbrev line_of : tie.At-loop invariant-loop decreases-loop → ℕ → List ℕ
+abbrev line_of : tie.At-loop-register invariant-loop decreases-loop → ℕ → List ℕ
 line_of c = let s = (start c).args in register_line s.a.now s.b.now
 
-loop-holds : tie.Need-loop-init invariant-loop decreases-loop
+loop-holds : tie.Need-loop-register-init invariant-loop decreases-loop
 loop-holds c =
     let s = c.before.before.before in
-    record { from = omega arith; inside = omega arith; text = []; written = unwritten s.args.line.now s.args.at (omega (arith, s.requires)); rest = refl }
+    record { from = omega arith; inside = omega arith; text = []; written = unwritten s.args.line-1.now s.args.at (omega (arith, s.requires)); rest = refl }
 
-register-line-requires : tie.Need-register-line-requires invariant-loop decreases-loop
+register-line-requires : tie.Need-register_line-place-requires invariant-loop decreases-loop
 register-line-requires c κs =
     let t = c.before in
-    let l = t.before.loop in
+    let l = t.before.loop-register in
     let k = kept l.invariant.written in
     let m = l.invariant.written.most in
     let p = (start t.before).pre in
-    (omega (arith, t.loop-test.true), t.loop-test.true)
+    (omega (arith, t.loop-register-test.true), t.loop-register-test.true)
 
-loop-again : tie.Need-loop-preserved invariant-loop decreases-loop
+loop-again : tie.Need-loop-register-preserved invariant-loop decreases-loop
 loop-again c =
     let p = c.before.before in
     let t = p.before.before in
-    let l = t.before.loop in
+    let l = t.before.loop-register in
     let s = start t.before in
     let a = s.args.a.now in
     let b = s.args.b.now in
@@ -61,24 +61,24 @@ loop-again c =
     let n = l.register in
     record {
       from = omega (arith, l.invariant.from);
-      inside = omega (arith, t.loop-test.true);
+      inside = omega (arith, t.loop-register-test.true);
       text = l.invariant.text ++ cond (register_differs a b n) (f n) [];
       written =
           wider (register_width * (n + 1 - 0)) (omega (arith, l.invariant.from))
-          (more l.invariant.written p.register-line.ensures (omega (arith, s.pre, l.invariant.from, t.loop-test.true)));
+          (more l.invariant.written p.register_line-place.ensures (omega (arith, s.pre, l.invariant.from, t.loop-register-test.true)));
       rest =
           append_assoc l.invariant.text (cond (register_differs a b n) (f n) []) (lines_from (register_differs a b) f (n + 1) 54)
-          ∙ ap (λ (x : List ℕ). l.invariant.text ++ x) (sym (lines_turn (register_differs a b) f n 54 (omega (arith, t.loop-test.true)))) ∙ l.invariant.rest;
+          ∙ ap (λ (x : List ℕ). l.invariant.text ++ x) (sym (lines_turn (register_differs a b) f n 54 (omega (arith, t.loop-register-test.true)))) ∙ l.invariant.rest;
     }
 
 returns : tie.Need-returns invariant-loop decreases-loop
 returns c =
-    let l = c.before.loop in
+    let l = c.before.loop-register in
     let s = start c.before in
     let a = s.args.a.now in
     let b = s.args.b.now in
     let f = line_of c.before in
-    let e = lines_end (register_differs a b) f l.register 54 (omega (arith, c.loop-test.false)) in
+    let e = lines_end (register_differs a b) f l.register 54 (omega (arith, c.loop-register-test.false)) in
     same_text (sym (append-nil l.invariant.text) ∙ ap (λ (x : List ℕ). l.invariant.text ++ x) (sym e) ∙ l.invariant.rest ∙ register-lines-all a b f)
     (wider (register_width * 54) (omega (arith, l.invariant.inside)) l.invariant.written)
 
@@ -94,5 +94,5 @@ register_lines_spec =
     (λ c. search rules)
     (λ c. search rules)
     loop-again
-    (λ c. kept c.before.loop.invariant.written)
+    (λ c. kept c.before.loop-register.invariant.written)
     returns)

@@ -20,7 +20,7 @@ returns c =
     let start = x.before.before.before.before in
     let a = start.args in
     same_text
-    (register-filled a.a.now a.b.now a.register x.outside-bits.ensures y.outside-bits2.ensures (omega (arith, start.requires.1))
+    (register-filled a.a.now a.b.now a.register x.outside_bits.ensures y.outside_bits-2.ensures (omega (arith, start.requires.1))
     (search rules) (search rules)) p.fill.ensures
 
 pub register_text_spec : {M : Type 1} → statement M

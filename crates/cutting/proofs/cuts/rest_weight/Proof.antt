@@ -5,10 +5,10 @@ use Rattle.cutting.proofs.cuts.rest_weight.Statement.{statement}
 use Rattle.cutting.proofs.cuts.rest_weight.Tie as tie
 
 returns : tie.Need-returns
-returns c = let e = sym c.before.has.ensures ∙ c.if1.true in rw e
+returns c = let e = sym c.before.has.ensures ∙ c.if-has.true in rw e
 
-returns-2 : tie.Need-returns-2
-returns-2 c = let e = sym c.before.has.ensures ∙ c.if1.false in rw e
+returns-2 : tie.Need-returns
+returns-2 c = let e = sym c.before.has.ensures ∙ c.if-has.false in rw e
 
 pub rest_weight_spec : {M : Type 1} → statement M
 rest_weight_spec =

@@ -12,18 +12,18 @@ use Rattle.cutting.proofs.TableLaws.{Table, largest_weight, table-begin, table_b
 use Rattle.cutting.proofs.cuts.run_ends.Statement.{statement}
 use Rattle.cutting.proofs.cuts.run_ends.Tie as tie
 
-abbrev invariant-loop : tie.invariant-loop
+abbrev invariant-loop : tie.invariant-loop-at
 invariant-loop needed held first end limit ends₀ weights₀ rest₀ candidates₀ at₀ ends weights rest candidates at =
     Table needed held limit end first ends weights rest candidates at
 
-abbrev decreases-loop : tie.decreases-loop
+abbrev decreases-loop : tie.decreases-loop-at
 decreases-loop needed held first end limit ends₀ weights₀ rest₀ candidates₀ at₀ ends weights rest candidates at = at
 
 -- the loop, and where the function was entered
-abbrev loop : tie.After-best-end invariant-loop decreases-loop → tie.At-loop invariant-loop decreases-loop
+abbrev loop : tie.After-best_end-stop invariant-loop decreases-loop → tie.At-loop-at invariant-loop decreases-loop
 loop c = c.before.before
 
-abbrev start : tie.At-loop invariant-loop decreases-loop → tie.Start invariant-loop decreases-loop
+abbrev start : tie.At-loop-at invariant-loop decreases-loop → tie.Start invariant-loop decreases-loop
 start l = l.before.before
 
 -- the run is short
@@ -31,68 +31,68 @@ small : (s : tie.Start invariant-loop decreases-loop) → s.args.end < 64
 small s = s.requires.1.0
 
 -- the register of this round
-near : (l : tie.At-loop invariant-loop decreases-loop) → l.loop.at - 1 < 64
-near l = omega (arith, l.loop.invariant.to, small (start l))
+near : (l : tie.At-loop-at invariant-loop decreases-loop) → l.loop-at.at - 1 < 64
+near l = omega (arith, l.loop-at.invariant.to, small (start l))
 
 -- the stop found is in the run
-inside : (c : tie.After-best-end invariant-loop decreases-loop) → ((loop c).loop.at ≤ c.best-end.result) × (c.best-end.result ≤ (start (loop c)).args.end)
-inside c = (loop c).loop.invariant.best.inside c.best-end.result c.best-end.ensures.is
+inside : (c : tie.After-best_end-stop invariant-loop decreases-loop) → ((loop c).loop-at.at ≤ c.best_end-stop.result) × (c.best_end-stop.result ≤ (start (loop c)).args.end)
+inside c = (loop c).loop-at.invariant.best.inside c.best_end-stop.result c.best_end-stop.ensures.is
 
 -- what the table has there
-bound : (c : tie.After-best-end invariant-loop decreases-loop)
-    → (byte_weight * c.best-end.result ≤ get_or (loop c).loop.weights c.best-end.result 0)
-    × (get_or (loop c).loop.weights c.best-end.result 0 ≤ largest_weight)
+bound : (c : tie.After-best_end-stop invariant-loop decreases-loop)
+    → (byte_weight * c.best_end-stop.result ≤ get_or (loop c).loop-at.weights-1 c.best_end-stop.result 0)
+    × (get_or (loop c).loop-at.weights-1 c.best_end-stop.result 0 ≤ largest_weight)
 bound c =
     let s = start (loop c) in
     let a = s.args in
-    table_bound a.needed a.held a.limit a.end (small s) (loop c).loop.invariant c.best-end.result (inside c).0 (inside c).1
+    table_bound a.needed a.held a.limit a.end (small s) (loop c).loop-at.invariant c.best_end-stop.result (inside c).0 (inside c).1
 
 -- one of two numbers is no more than the most of both
 either : (b : Bool) (x y m : ℕ) → x ≤ m → y ≤ m → cond b x y ≤ m
 either true x y m h k = h
 either false x y m h k = k
 
-loop-holds : tie.Need-loop-init invariant-loop decreases-loop
+loop-holds : tie.Need-loop-at-init invariant-loop decreases-loop
 loop-holds c =
     let a = c.before.args in
-    table-begin a.needed a.held a.limit a.end a.first (replicate 64 0) (replicate 64 0) c.end-weight.result
-    (small c.before) (omega arith) refl refl c.end-weight.ensures
+    table-begin a.needed a.held a.limit a.end a.first (replicate 64 0) (replicate 64 0) c.end_weight.result
+    (small c.before) (omega arith) refl refl c.end_weight.ensures
 
-best-end-requires : tie.Need-best-end-requires invariant-loop decreases-loop
+best-end-requires : tie.Need-best_end-stop-requires invariant-loop decreases-loop
 best-end-requires c κs =
     let l = c.before in
-    let t = l.loop.invariant in
-    let e : suc (l.loop.at - 1) ≡ l.loop.at = omega arith in (
+    let t = l.loop-at.invariant in
+    let e : suc (l.loop-at.at - 1) ≡ l.loop-at.at = omega arith in (
       ((omega (arith, t.to), small (start l)), (omega arith, omega arith)),
-      rw e (candidates_first (λ i. get_or l.loop.weights i 0) l.loop.candidates l.loop.at (start l).args.end t.to t.best),
+      rw e (candidates_first (λ i. get_or l.loop-at.weights-1 i 0) l.loop-at.candidates l.loop-at.at (start l).args.end t.to t.best),
     )
 
-rest-weight-requires : tie.Need-rest-weight-requires invariant-loop decreases-loop
+rest-weight-requires : tie.Need-rest_weight-rest-requires invariant-loop decreases-loop
 rest-weight-requires c κs = (near (loop c), (omega (arith, (bound c).0, (inside c).0), omega (arith, (bound c).1)))
 
-end-weight-requires-2 : tie.Need-end-weight-requires-2 invariant-loop decreases-loop
+end-weight-requires-2 : tie.Need-end_weight-requires-in-loop-at invariant-loop decreases-loop
 end-weight-requires-2 c κs =
     let b = c.before in
     let l = loop b in
     let a = (start l).args in
-    let r = rest_bound a.needed a.held a.limit a.end (small (start l)) l.loop.inv in (
+    let r = rest_bound a.needed a.held a.limit a.end (small (start l)) l.loop-at.inv in (
       near l,
-      rw c.rest-weight.ensures (either (has a.needed (l.loop.at - 1)) _ l.loop.rest most_weight (omega (arith, (bound b).1)) (omega arith)),
+      rw c.rest_weight-rest.ensures (either (has a.needed (l.loop-at.at - 1)) _ l.loop-at.rest most_weight (omega (arith, (bound b).1)) (omega arith)),
     )
 
-loop-again : tie.Need-loop-preserved invariant-loop decreases-loop
+loop-again : tie.Need-loop-at-preserved invariant-loop decreases-loop
 loop-again c =
     let w = c.before.before in
     let b = w.before.before in
     let l = loop b in
     let a = (start l).args in
-    round a.needed a.held a.limit a.end a.first l.loop.ends l.loop.weights l.loop.rest l.loop.candidates l.loop.at
-    b.best-end.result w.before.rest-weight.result w.end-weight2.result c.with-candidate.result (small (start l)) (omega arith) (omega arith)
-    l.loop.inv b.best-end.ensures w.before.rest-weight.ensures w.end-weight2.ensures c.with-candidate.ensures
+    round a.needed a.held a.limit a.end a.first l.loop-at.ends l.loop-at.weights-1 l.loop-at.rest l.loop-at.candidates l.loop-at.at
+    b.best_end-stop.result w.before.rest_weight-rest.result w.end_weight-in-loop-at.result c.with_candidate-candidates.result (small (start l)) (omega arith) (omega arith)
+    l.loop-at.inv b.best_end-stop.ensures w.before.rest_weight-rest.ensures w.end_weight-in-loop-at.ensures c.with_candidate-candidates.ensures
 
 returns : tie.Need-returns invariant-loop decreases-loop
 returns c i a b n =
-    let t = c.before.loop.invariant in
+    let t = c.before.loop-at.invariant in
     t.ends i (omega (arith, t.from)) b n
 
 pub run_ends_spec : {M : Type 1} → statement M

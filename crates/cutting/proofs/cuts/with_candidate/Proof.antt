@@ -8,10 +8,10 @@ use Rattle.cutting.proofs.SpanLaws.{one_more}
 use Rattle.cutting.proofs.cuts.with_candidate.Statement.{statement}
 use Rattle.cutting.proofs.cuts.with_candidate.Tie as tie
 
-abbrev invariant-loop : tie.invariant-loop
+abbrev invariant-loop : tie.invariant-loop-kept
 invariant-loop candidates weights at kept₀ kept = Kept (λ i. get_or weights i 0) candidates at kept
 
-abbrev decreases-loop : tie.decreases-loop
+abbrev decreases-loop : tie.decreases-loop-kept
 decreases-loop candidates weights at kept₀ kept = kept
 
 -- the weights
@@ -19,36 +19,36 @@ abbrev numbers : tie.Start invariant-loop decreases-loop → ℕ → ℕ
 numbers s i = get_or s.args.weights.now i 0
 
 -- the lowest candidate that is left
-low : (c : tie.After-lowest invariant-loop decreases-loop) → First c.before.before.loop.auto c.lowest.result
+low : (c : tie.After-lowest-low invariant-loop decreases-loop) → First c.before.before.loop-kept.auto c.lowest-low.result
 low c =
     let l = c.before.before in
-    first-is l.loop.auto c.lowest.result (omega (arith, c.before.loop-test.true))
-    (omega (arith, l.loop.invariant.small, l.before.ranges.candidates.fits)) c.lowest.ensures
+    first-is l.loop-kept.auto c.lowest-low.result (omega (arith, c.before.loop-kept-test.true))
+    (omega (arith, l.loop-kept.invariant.small, l.before.ranges.candidates.fits)) c.lowest-low.ensures
 
 returns : tie.Need-returns invariant-loop decreases-loop
 returns c end h =
     let o = c.before.before.before in
     let l = o.before.before in
     let a = l.before.args in
-    kept_low (numbers l.before) a.candidates a.at l.loop.auto o.lowest.result _ end h (low o) c.if1.true l.loop.invariant
-    (λ i. one_more l.loop.auto a.at i (omega arith))
+    kept_low (numbers l.before) a.candidates a.at l.loop-kept.auto o.lowest-low.result _ end h (low o) c.if-weights-low.true l.loop-kept.invariant
+    (λ i. one_more l.loop-kept.auto a.at i (omega arith))
 
-loop-less : tie.Need-loop-smaller invariant-loop decreases-loop
-loop-less c = let o = c.before.before.before in fewer o.before.before.loop.auto o.lowest.result (low o).near (low o).first
+loop-less : tie.Need-loop-kept-smaller invariant-loop decreases-loop
+loop-less c = let o = c.before.before.before in fewer o.before.before.loop-kept.auto o.lowest-low.result (low o).near (low o).first
 
-loop-again : tie.Need-loop-preserved invariant-loop decreases-loop
+loop-again : tie.Need-loop-kept-preserved invariant-loop decreases-loop
 loop-again c =
     let o = c.before.before.before in
     let l = o.before.before in
     let a = l.before.args in
-    kept_less (numbers l.before) a.candidates a.at l.loop.auto o.lowest.result l.before.ranges.candidates.fits (low o).near
-    c.if1.false l.loop.invariant
+    kept_less (numbers l.before) a.candidates a.at l.loop-kept.auto o.lowest-low.result l.before.ranges.candidates.fits (low o).near
+    c.if-weights-low.false l.loop-kept.invariant
 
-returns-2 : tie.Need-returns-2 invariant-loop decreases-loop
+returns-2 : tie.Need-returns invariant-loop decreases-loop
 returns-2 c end h =
     let l = c.before in
     let a = l.before.args in
-    kept-none (numbers l.before) a.candidates a.at l.loop.auto end h (omega arith) (omega (arith, c.loop-test.false)) l.loop.invariant
+    kept-none (numbers l.before) a.candidates a.at l.loop-kept.auto end h (omega arith) (omega (arith, c.loop-kept-test.false)) l.loop-kept.invariant
 
 pub with_candidate_spec : {M : Type 1} → statement M
 with_candidate_spec =

@@ -6,7 +6,7 @@ use Rattle.cutting.proofs.SpanLaws.{some_power, span_taken, one_more}
 use Rattle.cutting.proofs.spans.with_span.Statement.{statement}
 use Rattle.cutting.proofs.spans.with_span.Tie as tie
 
-sub-registers : tie.Need-overflow-sub-registers
+sub-registers : tie.Need-overflow_sub-registers
 sub-registers c = some_power (c.args.end - c.args.start) (omega arith)
 
 returns : tie.Need-returns

@@ -12,10 +12,10 @@ use Rattle.field_table.proofs.places.held.Tie as tie
 none : (k j : ℕ) → field k j 0 ≡ 0
 none k j = ap (λ (x : ℕ). x % 2 ^ j) (zero-div (2 ^ k)) ∙ zero-mod (2 ^ j)
 
-returns-2 : tie.Need-returns-2
+returns-2 : tie.Need-returns
 returns-2 c =
     let a = c.before.before.args in
-    sym (ap (field a.row.bit a.row.width) (get_or-eq_default a.image.now 0 c.if1.false) ∙ none a.row.bit a.row.width)
+    sym (ap (field a.row.bit a.row.width) (get_or-eq_default a.image.now 0 c.if-register-image.false) ∙ none a.row.bit a.row.width)
 
 pub held_spec : {M : Type 1} → statement M
 held_spec = tie.close (tie.spec (λ c. search rules) (λ c κs. search rules) (λ c. search rules) returns-2)

@@ -27,8 +27,8 @@ start c = c.before.before.before
 -- the flag of the range test
 judged : (c : tie.After-outside) → c.outside.result ≡ outside (start c).args.row (start c).args.setting
 judged c =
-    let low = to_z-of_z w32 (start c).args.row.low (record { sfits = c.before.before.struct_told.given.1.1.1.1.1.0.1 }) in
-    let high = to_z-of_z w32 (start c).args.row.high (record { sfits = c.before.struct-told2.given.1.1.1.1.1.1.0.1 }) in
+    let low = to_z-of_z w32 (start c).args.row.low (record { sfits = c.before.before.struct_told-1.given.1.1.1.1.1.0.1 }) in
+    let high = to_z-of_z w32 (start c).args.row.high (record { sfits = c.before.struct_told-2-1.given.1.1.1.1.1.1.0.1 }) in
     rw (same (start c), low, high) at c.outside.ensures
 
 refusal-requires : tie.Need-refusal-requires
@@ -38,19 +38,19 @@ returns : tie.Need-returns
 returns c =
     let a = c.before.before in
     let s = start a in
-    code_out s.args.row s.args.setting _ (sym (judged a) ∙ c.before.if1.true) (rw (same s) at c.refusal.ensures)
+    code_out s.args.row s.args.setting _ (sym (judged a) ∙ c.before.if-outside.true) (rw (same s) at c.refusal.ensures)
 
 -- a setting in the range
-inside : (c : tie.Else1) → outside (start c.before).args.row (start c.before).args.setting ≡ false
-inside c = sym (judged c.before) ∙ c.if1.false
+inside : (c : tie.Else-outside) → outside (start c.before).args.row (start c.before).args.setting ≡ false
+inside c = sym (judged c.before) ∙ c.if-outside.false
 
-cast-t5 : tie.Need-overflow-cast-t5
+cast-t5 : tie.Need-overflow_cast-result
 cast-t5 c =
     let s = start c.before in
     let h = small s.args.row (fits s) s.args.setting (inside c) in
     rw (same s) (h.0, record { fits = omega (arith, h.1, byte s.args.row (fits s)) })
 
-returns-2 : tie.Need-returns-2
+returns-2 : tie.Need-returns
 returns-2 c =
     let s = start c.before in
     ap (λ (z : ℤ). accepted (nat_abs z)) (same s) ∙ code_in s.args.row s.args.setting (inside c)

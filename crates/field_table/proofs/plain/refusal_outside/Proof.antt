@@ -4,10 +4,10 @@ use Rattle.field_table.proofs.plain.refusal_outside.Statement.{statement}
 use Rattle.field_table.proofs.plain.refusal_outside.Tie as tie
 
 returns : tie.Need-returns
-returns c = rw (eq-eqb _ 3 c.if1.true)
+returns c = rw (eq-eqb _ 3 c.if-row-eq3.true)
 
-returns-2 : tie.Need-returns-2
-returns-2 c = rw (ne_eqb _ 3 c.if1.false)
+returns-2 : tie.Need-returns
+returns-2 c = rw (ne_eqb _ 3 c.if-row-eq3.false)
 
 pub refusal_outside_spec : {M : Type 1} → statement M
 refusal_outside_spec = tie.close (tie.spec returns returns-2)

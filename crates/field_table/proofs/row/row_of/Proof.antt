@@ -19,7 +19,7 @@ columns p l h =
 returns : tie.Need-returns
 returns c =
     let low = c.before.signed12 in
-    let high = c.signed122 in
+    let high = c.signed12-2 in
     ap₂ (columns c.before.before.args.packed) (to_z-of_z w32 _ (record { sfits = low.type-inv }) ∙ low.ensures)
     (to_z-of_z w32 _ (record { sfits = high.type-inv }) ∙ high.ensures)
 

@@ -14,25 +14,25 @@ use Rattle.field_table.proofs.rows.read_row.Tie as tie
 use lib.IntN.{pos}
 use Rattle.refusals.specs.Refusal.{value_or}
 
-abbrev start : tie.After-setting → tie.Start
+abbrev start : tie.After-setting-decoded → tie.Start
 start c = c.before.before.before.before
 
-abbrev row_in : tie.After-setting → Row
+abbrev row_in : tie.After-setting-decoded → Row
 row_in c = row_of (start c).args.packed
 
 -- what is read is the row's code
-reading : (c : tie.After-setting) → decoded_as c.setting.result ≡ reading_of (start c).args.image.now (plain_of (row_in c))
+reading : (c : tie.After-setting-decoded) → decoded_as c.setting-decoded.result ≡ reading_of (start c).args.image.now (plain_of (row_in c))
 reading c =
-    let r = c.before.before.row_of in
-    c.setting.ensures ∙ ap (decode (plain_of r.result)) c.before.held.ensures
+    let r = c.before.before.row_of-row in
+    c.setting-decoded.ensures ∙ ap (decode (plain_of r.result)) c.before.held.ensures
     ∙ ap (λ x. decode (plain_of x) (held (start c).args.image.now x)) r.ensures
 
 returns : tie.Need-returns
 returns c =
     let w = c.before in
     let k = w.before.before in (
-      w.read-decoded.ensures.0 ∙ ap (λ j. after (checked_as (start k).args.before) (fault_of (row_in k).field j)) (reading k),
-      w.read-decoded.ensures.1 ∙ ap (λ j. set (start k).args.numbers.now (row_in k).index (value_or (pos 0) j)) (reading k),
+      w.read_decoded.ensures.0 ∙ ap (λ j. after (checked_as (start k).args.before) (fault_of (row_in k).field j)) (reading k),
+      w.read_decoded.ensures.1 ∙ ap (λ j. set (start k).args.numbers-1.now (row_in k).index (value_or (pos 0) j)) (reading k),
     )
 
 pub read_row_spec : {M : Type 1} → statement M
@@ -40,8 +40,8 @@ read_row_spec =
     tie.close
     (tie.spec
     (λ c κs. search rules)
-    (λ c κs. held_fits c.row_of.ensures c.before.before.requires)
-    (λ c κs. same-fits c.before.row_of.ensures c.before.before.before.requires)
+    (λ c κs. held_fits c.row_of-row.ensures c.before.before.requires)
+    (λ c κs. same-fits c.before.row_of-row.ensures c.before.before.before.requires)
     (λ c κs. search rules)
     (λ c. search rules)
     returns)

@@ -3,8 +3,8 @@ use borrow.Author.Rules.{rules}
 use Rattle.field_table.proofs.rows.reading_fault.Statement.{statement}
 use Rattle.field_table.proofs.rows.reading_fault.Tie as tie
 
-returns-2 : tie.Need-returns-2
-returns-2 c = rw c.before.decoded.given.1
+returns-2 : tie.Need-returns-in-Unreadable
+returns-2 c = rw c.before.decoded-1.given.1
 
 pub reading_fault_spec : {M : Type 1} → statement M
 reading_fault_spec = tie.close (tie.spec (λ c. search rules) (λ c. search rules) (λ c. search rules) returns-2)

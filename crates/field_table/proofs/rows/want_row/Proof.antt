@@ -18,21 +18,21 @@ use Rattle.field_table.proofs.WalkLaws.{same-fits}
 use Rattle.field_table.proofs.rows.want_row.Statement.{statement}
 use Rattle.field_table.proofs.rows.want_row.Tie as tie
 
-abbrev start : tie.After-code → tie.Start
+abbrev start : tie.After-code-coded → tie.Start
 start c = c.before.before.before.before
 
-abbrev row_in : tie.After-code → Row
+abbrev row_in : tie.After-code-coded → Row
 row_in c = row_of (start c).args.packed
 
 -- what is coded is the row's setting
-coding : (c : tie.After-code) → coded_as c.code.result ≡ coding_of (start c).args.numbers.now (plain_of (row_in c))
+coding : (c : tie.After-code-coded) → coded_as c.code-coded.result ≡ coding_of (start c).args.numbers.now (plain_of (row_in c))
 coding c =
     let g = c.before.given in
-    let r = c.before.before.row_of in
-    c.code.ensures ∙ ap (encode (plain_of r.result)) (to_z-of_z w32 g.result (record { sfits = g.type-inv }) ∙ g.ensures)
+    let r = c.before.before.row_of-row in
+    c.code-coded.ensures ∙ ap (encode (plain_of r.result)) (to_z-of_z w32 g.result (record { sfits = g.type-inv }) ∙ g.ensures)
     ∙ ap (λ x. encode (plain_of x) (given (start c).args.numbers.now x)) r.ensures
 
-want-coded-requires : tie.Need-want-coded-requires
+want-coded-requires : tie.Need-want_coded-requires
 want-coded-requires c κs =
     let k = c.before in
     let r = row_in k in (
@@ -44,8 +44,8 @@ returns : tie.Need-returns
 returns c =
     let w = c.before.before in
     let k = w.before.before in (
-      w.want-coded.ensures.0 ∙ ap (λ j. after (checked_as (start k).args.before) (fault_of (row_in k).field j)) (coding k),
-      w.want-coded.ensures.1 ∙ ap (λ j. put (start k).args.image.now (row_write (row_in k) (value_or 0 j))) (coding k),
+      w.want_coded.ensures.0 ∙ ap (λ j. after (checked_as (start k).args.before) (fault_of (row_in k).field j)) (coding k),
+      w.want_coded.ensures.1 ∙ ap (λ j. put (start k).args.image-1.now (row_write (row_in k) (value_or 0 j))) (coding k),
     )
 
 pub want_row_spec : {M : Type 1} → statement M
@@ -54,7 +54,7 @@ want_row_spec =
     (tie.spec
     (λ c κs. search rules)
     (λ c κs. search rules)
-    (λ c κs. same-fits c.before.row_of.ensures c.before.before.before.requires)
+    (λ c κs. same-fits c.before.row_of-row.ensures c.before.before.before.requires)
     want-coded-requires
     (λ c. search rules)
     returns)

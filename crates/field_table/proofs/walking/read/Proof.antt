@@ -26,57 +26,57 @@ record Inv (ps image : List ℕ) (zs₀ zs : List ℤ) (v : Checked) (i : ℕ) :
   verdict : after (checked_as v) (judge_of image (plain_fields (drop i ps))) ≡ judge_of image (plain_fields ps)
   numbers : numbers_of image zs (plain_fields (drop i ps)) ≡ numbers_of image zs₀ (plain_fields ps)
 
-abbrev invariant-loop : tie.invariant-loop
+abbrev invariant-loop : tie.invariant-loop-i
 invariant-loop rows image numbers₀ verdict₀ i₀ numbers verdict i = Inv rows image numbers₀ numbers verdict i
 
-abbrev decreases-loop : tie.decreases-loop
+abbrev decreases-loop : tie.decreases-loop-i
 decreases-loop rows image numbers₀ verdict₀ i₀ numbers verdict i = length rows - i
 
-abbrev start : tie.At-loop invariant-loop decreases-loop → tie.Start invariant-loop decreases-loop
+abbrev start : tie.At-loop-i invariant-loop decreases-loop → tie.Start invariant-loop decreases-loop
 start c = c.before.before.before
 
-abbrev table : tie.At-loop invariant-loop decreases-loop → List ℕ
+abbrev table : tie.At-loop-i invariant-loop decreases-loop → List ℕ
 table c = (start c).args.rows.now
 
-abbrev registers : tie.At-loop invariant-loop decreases-loop → List ℕ
+abbrev registers : tie.At-loop-i invariant-loop decreases-loop → List ℕ
 registers c = (start c).args.image.now
 
 -- the field of a turn
-abbrev field_in : tie.At-loop invariant-loop decreases-loop → Field
-field_in c = plain_of (row_of (get_or (table c) c.loop.i 0))
+abbrev field_in : tie.At-loop-i invariant-loop decreases-loop → Field
+field_in c = plain_of (row_of (get_or (table c) c.loop-i.i 0))
 
 -- it and those after it fit
-fits-now : (c : tie.In-loop invariant-loop decreases-loop) → T (all_fit (field_in c.before ∷ plain_fields (drop (c.before.loop.i + 1) (table c.before))))
-fits-now c = fits_next (table c.before) _ c.loop-test.true c.before.loop.invariant.fits
+fits-now : (c : tie.In-loop-i invariant-loop decreases-loop) → T (all_fit (field_in c.before ∷ plain_fields (drop (c.before.loop-i.i + 1) (table c.before))))
+fits-now c = fits_next (table c.before) _ c.loop-i-test.true c.before.loop-i.invariant.fits
 
-loop-again : tie.Need-loop-preserved invariant-loop decreases-loop
+loop-again : tie.Need-loop-i-preserved invariant-loop decreases-loop
 loop-again c =
     let w = c.before in
     let i = w.before.before.before in
-    let l = i.before.loop in
+    let l = i.before.loop-i in
     let image = registers i.before in
     let rest = plain_fields (drop (l.i + 1) (table i.before)) in
     let v = checked_as l.verdict in
     record {
-      inside = omega (arith, i.loop-test.true);
-      size = ap length w.read-row.ensures.1 ∙ simp length-set l.invariant.size;
+      inside = omega (arith, i.loop-i-test.true);
+      size = ap length w.read_row-verdict.ensures.1 ∙ simp length-set l.invariant.size;
       fits = fits-rest _ _ (fits-now i);
       verdict =
-          ap (λ u. after u (judge_of image rest)) w.read-row.ensures.0
+          ap (λ u. after u (judge_of image rest)) w.read_row-verdict.ensures.0
           ∙ after_assoc v (reading_fault image (field_in i.before)) (judge_of image rest)
-          ∙ ap (after v) (sym (judge_next (table i.before) l.i i.loop-test.true image)) ∙ l.invariant.verdict;
+          ∙ ap (after v) (sym (judge_next (table i.before) l.i i.loop-i-test.true image)) ∙ l.invariant.verdict;
       numbers =
-          ap (λ x. numbers_of image x rest) w.read-row.ensures.1
-          ∙ sym (numbers-next (table i.before) l.i i.loop-test.true image l.numbers) ∙ l.invariant.numbers;
+          ap (λ x. numbers_of image x rest) w.read_row-verdict.ensures.1
+          ∙ sym (numbers-next (table i.before) l.i i.loop-i-test.true image l.numbers-1) ∙ l.invariant.numbers-1;
     }
 
 returns : tie.Need-returns invariant-loop decreases-loop
 returns c =
-    let l = c.before.loop in
+    let l = c.before.loop-i in
     let image = registers c.before in
     let v = checked_as l.verdict in (
-      sym (after-good v) ∙ ap (after v) (sym (judge_end (table c.before) l.i c.loop-test.false l.invariant.inside image)) ∙ l.invariant.verdict,
-      sym (numbers-end (table c.before) l.i c.loop-test.false l.invariant.inside image l.numbers) ∙ l.invariant.numbers,
+      sym (after-good v) ∙ ap (after v) (sym (judge_end (table c.before) l.i c.loop-i-test.false l.invariant.inside image)) ∙ l.invariant.verdict,
+      sym (numbers-end (table c.before) l.i c.loop-i-test.false l.invariant.inside image l.numbers-1) ∙ l.invariant.numbers-1,
     )
 
 pub read_spec : {M : Type 1} → statement M
@@ -92,5 +92,5 @@ read_spec =
     (λ c. omega arith)
     (λ c. omega arith)
     loop-again
-    (λ c. c.before.loop.invariant.size)
+    (λ c. c.before.loop-i.invariant.size)
     returns)

@@ -27,57 +27,57 @@ record Inv (ps : List ℕ) (zs : List ℤ) (image₀ image : List ℕ) (v : Chec
   verdict : after (checked_as v) (check_of zs (plain_fields (drop i ps))) ≡ check_of zs (plain_fields ps)
   registers : puts image (writes_of zs (plain_fields (drop i ps))) ≡ puts image₀ (writes_of zs (plain_fields ps))
 
-abbrev invariant-loop : tie.invariant-loop
+abbrev invariant-loop : tie.invariant-loop-i
 invariant-loop rows numbers image₀ verdict₀ i₀ image verdict i = Inv rows numbers image₀ image verdict i
 
-abbrev decreases-loop : tie.decreases-loop
+abbrev decreases-loop : tie.decreases-loop-i
 decreases-loop rows numbers image₀ verdict₀ i₀ image verdict i = length rows - i
 
-abbrev start : tie.At-loop invariant-loop decreases-loop → tie.Start invariant-loop decreases-loop
+abbrev start : tie.At-loop-i invariant-loop decreases-loop → tie.Start invariant-loop decreases-loop
 start c = c.before.before.before
 
-abbrev table : tie.At-loop invariant-loop decreases-loop → List ℕ
+abbrev table : tie.At-loop-i invariant-loop decreases-loop → List ℕ
 table c = (start c).args.rows.now
 
-abbrev settings : tie.At-loop invariant-loop decreases-loop → List ℤ
+abbrev settings : tie.At-loop-i invariant-loop decreases-loop → List ℤ
 settings c = (start c).args.numbers.now
 
 -- the field of a turn
-abbrev field_in : tie.At-loop invariant-loop decreases-loop → Field
-field_in c = plain_of (row_of (get_or (table c) c.loop.i 0))
+abbrev field_in : tie.At-loop-i invariant-loop decreases-loop → Field
+field_in c = plain_of (row_of (get_or (table c) c.loop-i.i 0))
 
 -- it and those after it fit
-fits-now : (c : tie.In-loop invariant-loop decreases-loop) → T (all_fit (field_in c.before ∷ plain_fields (drop (c.before.loop.i + 1) (table c.before))))
-fits-now c = fits_next (table c.before) _ c.loop-test.true c.before.loop.invariant.fits
+fits-now : (c : tie.In-loop-i invariant-loop decreases-loop) → T (all_fit (field_in c.before ∷ plain_fields (drop (c.before.loop-i.i + 1) (table c.before))))
+fits-now c = fits_next (table c.before) _ c.loop-i-test.true c.before.loop-i.invariant.fits
 
-loop-again : tie.Need-loop-preserved invariant-loop decreases-loop
+loop-again : tie.Need-loop-i-preserved invariant-loop decreases-loop
 loop-again c =
     let w = c.before.before in
     let i = w.before.before.before in
-    let l = i.before.loop in
+    let l = i.before.loop-i in
     let zs = settings i.before in
     let rest = plain_fields (drop (l.i + 1) (table i.before)) in
     let v = checked_as l.verdict in
     record {
-      inside = omega (arith, i.loop-test.true);
-      size = ap length w.want-row.ensures.1 ∙ simp length-set l.invariant.size;
+      inside = omega (arith, i.loop-i-test.true);
+      size = ap length w.want_row-verdict.ensures.1 ∙ simp length-set l.invariant.size;
       fits = fits-rest _ _ (fits-now i);
       verdict =
-          ap (λ u. after u (check_of zs rest)) w.want-row.ensures.0
+          ap (λ u. after u (check_of zs rest)) w.want_row-verdict.ensures.0
           ∙ after_assoc v (coding_fault zs (field_in i.before)) (check_of zs rest)
-          ∙ ap (after v) (sym (check_next (table i.before) l.i i.loop-test.true zs)) ∙ l.invariant.verdict;
+          ∙ ap (after v) (sym (check_next (table i.before) l.i i.loop-i-test.true zs)) ∙ l.invariant.verdict;
       registers =
-          ap (λ x. puts x (writes_of zs rest)) w.want-row.ensures.1
-          ∙ sym (puts-next (table i.before) l.i i.loop-test.true zs l.image) ∙ l.invariant.registers;
+          ap (λ x. puts x (writes_of zs rest)) w.want_row-verdict.ensures.1
+          ∙ sym (puts-next (table i.before) l.i i.loop-i-test.true zs l.image-1) ∙ l.invariant.registers;
     }
 
 returns : tie.Need-returns invariant-loop decreases-loop
 returns c =
-    let l = c.before.loop in
+    let l = c.before.loop-i in
     let zs = settings c.before in
     let v = checked_as l.verdict in (
-      sym (after-good v) ∙ ap (after v) (sym (check_end (table c.before) l.i c.loop-test.false l.invariant.inside zs)) ∙ l.invariant.verdict,
-      sym (puts-end (table c.before) l.i c.loop-test.false l.invariant.inside zs l.image) ∙ l.invariant.registers,
+      sym (after-good v) ∙ ap (after v) (sym (check_end (table c.before) l.i c.loop-i-test.false l.invariant.inside zs)) ∙ l.invariant.verdict,
+      sym (puts-end (table c.before) l.i c.loop-i-test.false l.invariant.inside zs l.image-1) ∙ l.invariant.registers,
     )
 
 pub want_spec : {M : Type 1} → statement M
@@ -93,5 +93,5 @@ want_spec =
     (λ c. omega arith)
     (λ c. omega arith)
     loop-again
-    (λ c. c.before.loop.invariant.size)
+    (λ c. c.before.loop-i.invariant.size)
     returns)

@@ -19,7 +19,7 @@ use Rattle.planning.proofs.JoinedLaws.{joined_mapped, first-room, later-room, la
 use Rattle.planning.proofs.plan.pack_after.Statement.{statement}
 use Rattle.planning.proofs.plan.pack_after.Tie as tie
 
-module _ (c : tie.After-count2) where
+module _ (c : tie.After-count) where
   -- where the function was entered
   abbrev start : tie.Start
   start = c.before.before.before.before.before.before.before
@@ -29,10 +29,10 @@ module _ (c : tie.After-count2) where
 
   -- the registers taken, the starts, and the registers that transactions go on over
   abbrev taken : ℕ
-  taken = c.before.before.before.covered.result
+  taken = c.before.before.before.covered-taken.result
 
   abbrev starts : ℕ
-  starts = c.before.before.starts.result
+  starts = c.before.before.starts-starts.result
 
   abbrev goes : ℕ
   goes = bit_and taken (complement starts)
@@ -44,7 +44,7 @@ module _ (c : tie.After-count2) where
   known : Mapped plan-of wanted taken starts goes
   known =
       joined_mapped start.args.needed start.args.allowed taken starts wanted (search rules) (search rules) start.pre.writable
-      c.before.before.before.covered.ensures c.before.before.starts.ensures start.pre.inside
+      c.before.before.before.covered-taken.ensures c.before.before.starts-starts.ensures start.pre.inside
 
   -- the first transaction, the others, and all
   abbrev lead : Transaction
@@ -61,97 +61,97 @@ module _ (c : tie.After-count2) where
   same = ap (λ (l : List Transaction). lead ∷ l) known.list
 
   -- how many they are, and how many data they have
-  counted : c.before.count.result + 1 ≡ length all
-  counted = omega (arith, known.transactions, c.before.count.ensures)
+  counted : c.before.count-all.result + 1 ≡ length all
+  counted = omega (arith, known.transactions, c.before.count-all.ensures)
 
-  bytes : data_count all ≡ c.count2.result + length start.args.bytes.now
+  bytes : data_count all ≡ c.count.result + length start.args.bytes.now
   unfolding data_count
-  bytes = omega (arith, known.bytes, c.count2.ensures)
+  bytes = omega (arith, known.bytes, c.count.ensures)
 
   -- which are few
-  few : (c.before.count.result + 1 ≤ 63) × (c.count2.result ≤ 63)
+  few : (c.before.count-all.result + 1 ≤ 63) × (c.count.result ≤ 63)
   few =
       let n = start.pre.small in
-      (omega (arith, known.few, c.before.count.ensures), omega (arith, known.short, c.count2.ensures))
+      (omega (arith, known.few, c.before.count-all.ensures), omega (arith, known.short, c.count.ensures))
 
 -- the bytes of their packing
-long : (c : tie.After-packed-length) → c.packed-length.result ≡ length (packed (all c.before))
+long : (c : tie.After-packed_length-size) → c.packed_length-size.result ≡ length (packed (all c.before))
 long c =
-    c.packed-length.ensures ∙ ap₂ packed_length (counted c.before) (sym (bytes c.before)) ∙ sym (packed-length (all c.before))
+    c.packed_length-size.ensures ∙ ap₂ packed_length (counted c.before) (sym (bytes c.before)) ∙ sym (packed-length (all c.before))
 
 -- and what they cost on the bus
-cost : (c : tie.After-count2) → cost_of (c.before.count.result + 1) (c.count2.result + length (start c).args.bytes.now) ≡ bus_bytes (all c)
+cost : (c : tie.After-count) → cost_of (c.before.count-all.result + 1) (c.count.result + length (start c).args.bytes.now) ≡ bus_bytes (all c)
 cost c = ap₂ cost_of (counted c) (sym (bytes c)) ∙ sym (bytes_count (all c))
 
 returns : tie.Need-returns
 returns c =
     let p = c.before.before.before in
-    let t = too_short (all p) (lead p ∷ plan-of p) (start p).args.plan.now (same p) (omega (arith, c.before.if1.true, long c.before.before)) in
+    let t = too_short (all p) (lead p ∷ plan-of p) (start p).args.plan-1.now (same p) (omega (arith, c.before.if-plan-size.true, long c.before.before)) in
     (c.too_short.ensures ∙ t.0, t.1)
 
 -- where the plan was begun with the count
-abbrev counted-at : tie.After-begin → tie.After-count2
+abbrev counted-at : tie.After-begin → tie.After-count
 counted-at c = c.before.before.before.before
 
 -- all fit
-fits : (c : tie.After-begin) → length (packed (all (counted-at c))) ≤ length (start (counted-at c)).args.plan.now
-fits c = omega (arith, c.before.before.if1.false, long c.before.before.before)
+fits : (c : tie.After-begin) → length (packed (all (counted-at c))) ≤ length (start (counted-at c)).args.plan-1.now
+fits c = omega (arith, c.before.before.if-plan-size.false, long c.before.before.before)
 
-pack-transaction-requires : tie.Need-pack-transaction-requires
+pack-transaction-requires : tie.Need-pack_transaction-first-requires
 pack-transaction-requires c κs =
     let p = counted-at c in
-    let n = p.before.count.result + 1 in
-    let w = (start p).args.plan.now in (
+    let n = p.before.count-all.result + 1 in
+    let w = (start p).args.plan-1.now in (
       begun-sound (all p) w c.begin.result n (few p).0 (counted p) c.begin.ensures,
       omega (arith, (start p).pre.start),
       omega (arith, (start p).pre.short),
       first-room (lead p) (others p) w c.begin.result n (few p).0 (counted p) c.begin.ensures (fits c),
     )
 
-pack-spans-requires : tie.Need-pack-spans-requires
+pack-spans-requires : tie.Need-pack_spans-requires
 pack-spans-requires c κs =
     let k = c.before.before.before in
     let g = k.before in
     let p = counted-at g in
-    let n = p.before.count.result + 1 in
-    let put = k.pack-transaction in
+    let n = p.before.count-all.result + 1 in
+    let put = k.pack_transaction-first in
     record {
       inside = (known p).inside;
       over = (known p).over;
       small = omega (arith, (start p).pre.small);
       sound = put.ensures.sound;
-      room = later-room (lead p) (others p) (start p).args.plan.now g.begin.result n (few p).0 (counted p) g.begin.ensures (fits g)
+      room = later-room (lead p) (others p) (start p).args.plan-1.now g.begin.result n (few p).0 (counted p) g.begin.ensures (fits g)
           put.new.0 put.result put.auto.0 put.ensures;
     }
 
 -- where the first transaction was packed
-abbrev packed-at : tie.After-slice-known3 → tie.After-pack-transaction
+abbrev packed-at : tie.After-slice_known-3-1 → tie.After-pack_transaction-first
 packed-at c = c.before.before.before.before.before.before
 
-cast-t13 : tie.Need-overflow-cast-t13
+cast-t13 : tie.Need-overflow_cast-result
 cast-t13 c =
     let l = (packed-at c).before.before.before.before in
-    omega (arith, l.packed-length.ensures, (few l.before).0, (few l.before).1, (start l.before).pre.short)
+    omega (arith, l.packed_length-size.ensures, (few l.before).0, (few l.before).1, (start l.before).pre.short)
 
-cast-t15 : tie.Need-overflow-cast-t15
+cast-t15 : tie.Need-overflow_cast-result-2
 cast-t15 c =
     let p = counted-at (packed-at c.before).before in
-    omega (arith, c.bus-bytes.ensures, (few p).0, (few p).1, (start p).pre.short)
+    omega (arith, c.bus_bytes.ensures, (few p).0, (few p).1, (start p).pre.short)
 
-returns-2 : tie.Need-returns-2
+returns-2 : tie.Need-returns
 returns-2 c =
     let r = c.before.before.before in
     let k = packed-at c.before in
     let g = k.before in
     let p = counted-at g in
-    let n = p.before.count.result + 1 in
-    let w = (start p).args.plan.now in
-    let put = k.pack-transaction in
+    let n = p.before.count-all.result + 1 in
+    let w = (start p).args.plan-1.now in
+    let put = k.pack_transaction-first in
     let l = g.before.before.before in
-    has_room (all p) (lead p ∷ plan-of p) w r.pack-spans.new.0 l.packed-length.result n c.bus-bytes.result
-    (same p) (fits g) (long l) (counted p) (c.bus-bytes.ensures ∙ cost p)
+    has_room (all p) (lead p ∷ plan-of p) w r.pack_spans.new.0 l.packed_length-size.result n c.bus_bytes.result
+    (same p) (fits g) (long l) (counted p) (c.bus_bytes.ensures ∙ cost p)
     (later-done (lead p) (others p) w g.begin.result n (few p).0 (counted p) g.begin.ensures (fits g) put.last.0 put.result put.kept.0
-    put.ensures r.pack-spans.new.0 r.pack-spans.ensures)
+    put.ensures r.pack_spans.new.0 r.pack_spans.ensures)
 
 pub pack_after_spec : {M : Type 1} → statement M
 pack_after_spec =
@@ -160,7 +160,7 @@ pack_after_spec =
     (λ c κs. tt)
     (λ c κs. tt)
     (λ c κs. tt)
-    (λ c. omega (arith, c.count.ensures, ones-le 64 c.before.starts.result (search rules)))
+    (λ c. omega (arith, c.count-all.ensures, ones-le 64 c.before.starts-starts.result (search rules)))
     (λ c κs. tt)
     (λ c. search rules)
     (λ c. omega (arith, (few c).1, (start c).requires.short))

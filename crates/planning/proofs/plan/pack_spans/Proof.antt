@@ -21,129 +21,129 @@ record Inv (before : List ℕ) (first : Pending) (taken goes : ℕ) (wanted plan
   is : rest ≡ taken / 2 ^ from
   progress : Progress (list_of taken goes wanted) first before plan pending (list_from taken goes wanted from)
 
-abbrev invariant-loop : tie.invariant-loop
+abbrev invariant-loop : tie.invariant-loop-rest
 invariant-loop plan₀ taken goes wanted first rest₀ from₀ plan pending rest from = Inv plan₀ first taken goes wanted plan pending rest from
 
-abbrev decreases-loop : tie.decreases-loop
+abbrev decreases-loop : tie.decreases-loop-rest
 decreases-loop plan₀ taken goes wanted first rest₀ from₀ plan pending rest from = length wanted - from
 
 -- where the function was entered
-abbrev start : tie.At-loop invariant-loop decreases-loop → tie.Start invariant-loop decreases-loop
+abbrev start : tie.At-loop-rest invariant-loop decreases-loop → tie.Start invariant-loop decreases-loop
 start c = c.before.before.before
 
 -- what is left of the map fits, and is not empty
-rest-fits : (c : tie.At-loop invariant-loop decreases-loop) → c.loop.rest < 2 ^ 64
-rest-fits c = omega (arith, c.loop.invariant.is, shr_le (start c).args.taken c.loop.from, (start c).ranges.taken.fits)
+rest-fits : (c : tie.At-loop-rest invariant-loop decreases-loop) → c.loop-rest.rest < 2 ^ 64
+rest-fits c = omega (arith, c.loop-rest.invariant.is, shr_le (start c).args.taken c.loop-rest.from, (start c).ranges.taken.fits)
 
-some_left : (c : tie.In-loop invariant-loop decreases-loop) → 0 < c.before.loop.rest
-some_left c = omega (arith, c.loop-test.true)
+some_left : (c : tie.In-loop-rest invariant-loop decreases-loop) → 0 < c.before.loop-rest.rest
+some_left c = omega (arith, c.loop-rest-test.true)
 
 -- its lowest register is one of 64
 near : (c : tie.After-lowest invariant-loop decreases-loop) → c.lowest.result < 64
-near c = (first-is c.before.before.loop.rest c.lowest.result (some_left c.before) (rest-fits c.before.before) c.lowest.ensures).near
+near c = (first-is c.before.before.loop-rest.rest c.lowest.result (some_left c.before) (rest-fits c.before.before) c.lowest.ensures).near
 
 -- and has a wanted byte
-low : (c : tie.After-lowest invariant-loop decreases-loop) → c.before.before.loop.from + c.lowest.result < length (start c.before.before).args.wanted.now
+low : (c : tie.After-lowest invariant-loop decreases-loop) → c.before.before.loop-rest.from + c.lowest.result < length (start c.before.before).args.wanted.now
 low c =
     let a = c.before.before in
     let s = start a in
-    let l = a.loop in
+    let l = a.loop-rest in
     starts_in s.args.taken s.args.goes s.args.wanted.now s.pre.inside s.pre.over l.from l.rest c.lowest.result
     s.fits.taken.fits l.invariant.is (some_left c.before) c.lowest.ensures
 
 -- the transaction of this round
-turn : (c : tie.After-run invariant-loop decreases-loop)
+turn : (c : tie.After-run-more invariant-loop decreases-loop)
     → Round (start c.before.before.before).args.taken (start c.before.before.before).args.goes
     (start c.before.before.before).args.wanted.now
-    c.before.before.before.loop.from c.before.lowest.result c.run.result
+    c.before.before.before.loop-rest.from c.before.lowest.result c.run-more.result
 turn c =
     let a = c.before.before.before in
     let s = start a in
-    let l = a.loop in
+    let l = a.loop-rest in
     round s.args.taken s.args.goes s.args.wanted.now s.pre.inside s.pre.over l.from l.rest c.before.lowest.result
-    c.run.result
-    s.fits.taken.fits s.fits.goes.fits l.invariant.within l.invariant.is (some_left c.before.before) c.before.lowest.ensures c.run.ensures
+    c.run-more.result
+    s.fits.taken.fits s.fits.goes.fits l.invariant.within l.invariant.is (some_left c.before.before) c.before.lowest.ensures c.run-more.ensures
 
 -- the list
 abbrev list-of : tie.Start invariant-loop decreases-loop → List Transaction
 list-of s = list_of s.args.taken s.args.goes s.args.wanted.now
 
-loop-holds : tie.Need-loop-init invariant-loop decreases-loop
+loop-holds : tie.Need-loop-rest-init invariant-loop decreases-loop
 loop-holds c =
     let s = c.before.before in
     record {
       within = omega arith;
       is = sym (div-one s.args.taken);
-      progress = progress_none (list-of s) s.args.first s.args.plan.now s.requires.sound s.requires.room;
+      progress = progress_none (list-of s) s.args.first s.args.plan-1.now s.requires.sound s.requires.room;
     }
 
-add_start : tie.Need-overflow-add-start invariant-loop decreases-loop
+add_start : tie.Need-overflow_add-start invariant-loop decreases-loop
 add_start c = omega (arith, low c, (start c.before.before).pre.small)
 
-shr-run : tie.Need-overflow-shr-run invariant-loop decreases-loop
+shr-run : tie.Need-overflow_shr-goes invariant-loop decreases-loop
 shr-run c = omega (arith, low c, (start c.before.before).pre.small)
 
-pack-transaction-requires : tie.Need-pack-transaction-requires invariant-loop decreases-loop
+pack-transaction-requires : tie.Need-pack_transaction-pending-requires invariant-loop decreases-loop
 pack-transaction-requires c κs =
     let r = c.before.before in
     let a = r.before.before.before in
     let s = start a in
     let t = turn r in
-    let l = a.loop in
+    let l = a.loop-rest in
     let w = s.args.wanted.now in
     let first = l.from + r.before.lowest.result in
-    let past = first + r.run.result + 1 in (
+    let past = first + r.run-more.result + 1 in (
       l.invariant.progress.sofar.sound,
       omega (arith, low r.before, s.pre.small),
       omega (arith, span_size w first past (omega arith) t.inside, t.inside, s.pre.small),
-      progress_room (list-of s) s.args.first s.args.plan.now s.pre.sound s.pre.room l.invariant.progress (span w first past)
+      progress_room (list-of s) s.args.first s.args.plan-1.now s.pre.sound s.pre.room l.invariant.progress (span w first past)
           (list_from s.args.taken s.args.goes w past) t.next,
     )
 
-loop-again : tie.Need-loop-preserved invariant-loop decreases-loop
+loop-again : tie.Need-loop-rest-preserved invariant-loop decreases-loop
 loop-again c =
     let p = c.before.before in
     let r = p.before.before.before in
     let a = r.before.before.before in
     let s = start a in
     let t = turn r in
-    let l = a.loop in
+    let l = a.loop-rest in
     let w = s.args.wanted.now in
     let first = l.from + r.before.lowest.result in
-    let past = first + r.run.result + 1 in
+    let past = first + r.run-more.result + 1 in
     record {
       within = t.inside;
       is = refl;
-      progress = progress_more (list-of s) s.args.first s.args.plan.now s.pre.sound s.pre.room l.invariant.progress (span w first past)
+      progress = progress_more (list-of s) s.args.first s.args.plan-1.now s.pre.sound s.pre.room l.invariant.progress (span w first past)
           (list_from s.args.taken s.args.goes w past) t.next
-          p.pack-transaction.new.0 p.pack-transaction.result p.pack-transaction.auto.0 p.pack-transaction.ensures;
+          p.pack_transaction-pending.new.0 p.pack_transaction-pending.result p.pack_transaction-pending.auto.0 p.pack_transaction-pending.ensures;
     }
 
 -- no transaction is left
-none_left : (c : tie.After-loop invariant-loop decreases-loop)
-    → list_from (start c.before).args.taken (start c.before).args.goes (start c.before).args.wanted.now c.before.loop.from ≡ []
+none_left : (c : tie.After-loop-rest invariant-loop decreases-loop)
+    → list_from (start c.before).args.taken (start c.before).args.goes (start c.before).args.wanted.now c.before.loop-rest.from ≡ []
 none_left c =
     let s = start c.before in
-    let l = c.before.loop in
+    let l = c.before.loop-rest in
     listed s.args.taken s.args.goes s.args.wanted.now s.pre.inside s.pre.over l.from l.invariant.within
-    (sym l.invariant.is ∙ c.loop-test.false)
+    (sym l.invariant.is ∙ c.loop-rest-test.false)
 
 finish-requires : tie.Need-finish-requires invariant-loop decreases-loop
 finish-requires c κs =
     let a = c.before.before in
     let s = start a in
-    let g = a.loop.invariant.progress in
-    (g.sofar.sound, progress_last (list-of s) s.args.first s.args.plan.now s.pre.sound s.pre.room g (none_left c.before))
+    let g = a.loop-rest.invariant.progress in
+    (g.sofar.sound, progress_last (list-of s) s.args.first s.args.plan-1.now s.pre.sound s.pre.room g (none_left c.before))
 
-same_length : tie.Need-same-length invariant-loop decreases-loop
-same_length c = c.before.before.finish.auto.0 ∙ c.before.before.before.before.before.loop.invariant.progress.long
+same_length : tie.Need-shape_of-plan invariant-loop decreases-loop
+same_length c = c.before.before.finish.auto.0 ∙ c.before.before.before.before.before.loop-rest.invariant.progress.long
 
 returns : tie.Need-returns invariant-loop decreases-loop
 returns c =
     let f = c.before.before in
     let e = f.before.before in
     let s = start e.before in
-    progress_done (list-of s) s.args.first s.args.plan.now s.pre.sound s.pre.room e.before.loop.invariant.progress (none_left e)
+    progress_done (list-of s) s.args.first s.args.plan-1.now s.pre.sound s.pre.room e.before.loop-rest.invariant.progress (none_left e)
     f.finish.new.0 f.finish.result f.finish.ensures.0 f.finish.ensures.1
 
 pub pack_spans_spec : {M : Type 1} → statement M

@@ -15,20 +15,20 @@ returns c w π =
     let n = c.before.before in
     let s = n.before.before in
     let a = s.args in
-    let taken = n.before.covered.result in
+    let taken = n.before.covered-covered.result in
     let m =
-    joined_mapped a.needed a.allowed taken c.starts.result w (search rules) (search rules) π.writable n.before.covered.ensures
-    c.starts.ensures π.inside in
+    joined_mapped a.needed a.allowed taken c.starts-starts.result w (search rules) (search rules) π.writable n.before.covered-covered.ensures
+    c.starts-starts.ensures π.inside in
     let few : data_count (joined_by a.needed a.allowed w) ≤ a.limit =
-    omega (arith, sym (ap data_count m.list) ∙ m.bytes, n.count.ensures, c.before.if1.true) in
+    omega (arith, sym (ap data_count m.list) ∙ m.bytes, n.count.ensures, c.before.if-count-limit.true) in
     rw (few-joined a.needed a.allowed a.held a.limit w π few) m
 
-returns-2 : tie.Need-returns-2
+returns-2 : tie.Need-returns
 returns-2 c w π =
     let s = c.before.before.before.before in
     let a = s.args in
-    let e = c.plan-spans.ensures w π in
-    mapped a.needed a.allowed a.held a.limit w c.plan-spans.result.taken c.plan-spans.result.starts π (search rules) (search rules)
+    let e = c.plan_spans.ensures w π in
+    mapped a.needed a.allowed a.held a.limit w c.plan_spans.result.taken c.plan_spans.result.starts-starts π (search rules) (search rules)
     e.0 e.1
 
 pub plan_maps_spec : {M : Type 1} → statement M

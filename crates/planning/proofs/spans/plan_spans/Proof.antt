@@ -13,110 +13,110 @@ use Rattle.planning.proofs.FoundLaws.{Found, map-low, found_none, run-found, run
 use Rattle.planning.proofs.spans.plan_spans.Statement.{statement}
 use Rattle.planning.proofs.spans.plan_spans.Tie as tie
 
-abbrev invariant-loop : tie.invariant-loop
+abbrev invariant-loop : tie.invariant-loop-rest
 invariant-loop needed allowed held limit found₀ rest₀ from₀ found rest from = Found needed allowed held limit rest₀ found.taken found.starts rest from
 
-abbrev decreases-loop : tie.decreases-loop
+abbrev decreases-loop : tie.decreases-loop-rest
 decreases-loop needed allowed held limit found₀ rest₀ from₀ found rest from = 64 - from
 
 -- the map of the registers covered, and where the function was entered
-abbrev map : tie.At-loop invariant-loop decreases-loop → ℕ
-map l = l.before.covered.result
+abbrev map : tie.At-loop-rest invariant-loop decreases-loop → ℕ
+map l = l.before.covered-rest.result
 
-abbrev start : tie.At-loop invariant-loop decreases-loop → tie.Start invariant-loop decreases-loop
+abbrev start : tie.At-loop-rest invariant-loop decreases-loop → tie.Start invariant-loop decreases-loop
 start l = l.before.before
 
 -- it is a number of 63 bits
-low : (l : tie.At-loop invariant-loop decreases-loop) → map l < 2 ^ 63
+low : (l : tie.At-loop-rest invariant-loop decreases-loop) → map l < 2 ^ 63
 low l =
     let a = (start l).args in
-    map-low a.needed a.allowed a.held a.limit (map l) l.before.covered.ensures (start l).requires (search rules)
+    map-low a.needed a.allowed a.held a.limit (map l) l.before.covered-rest.ensures (start l).requires (search rules)
 
 -- the lowest register left
-first : (c : tie.After-lowest invariant-loop decreases-loop) → First c.before.before.loop.rest c.lowest.result
+first : (c : tie.After-lowest-gap invariant-loop decreases-loop) → First c.before.before.loop-rest.rest c.lowest-gap.result
 first c =
     let l = c.before.before in
-    first-is l.loop.rest c.lowest.result (omega (arith, c.before.loop-test.true))
-    (omega (arith, l.loop.invariant.is, low l, shr_le (map l) l.loop.from)) c.lowest.ensures
+    first-is l.loop-rest.rest c.lowest-gap.result (omega (arith, c.before.loop-rest-test.true))
+    (omega (arith, l.loop-rest.invariant.is, low l, shr_le (map l) l.loop-rest.from)) c.lowest-gap.ensures
 
 -- the run of this round
-abbrev loop : tie.After-run invariant-loop decreases-loop → tie.At-loop invariant-loop decreases-loop
+abbrev loop : tie.After-run-size invariant-loop decreases-loop → tie.At-loop-rest invariant-loop decreases-loop
 loop c = c.before.before.before
 
-turn : (c : tie.After-run invariant-loop decreases-loop) → Next (map (loop c)) (loop c).loop.from (loop c).loop.rest c.before.lowest.result c.run.result
+turn : (c : tie.After-run-size invariant-loop decreases-loop) → Next (map (loop c)) (loop c).loop-rest.from (loop c).loop-rest.rest c.before.lowest-gap.result c.run-size.result
 turn c =
-    let l = (loop c).loop in
-    next-is (map (loop c)) l.from l.rest c.before.lowest.result c.run.result (low (loop c)) l.inv.is
-    (omega (arith, c.before.before.loop-test.true)) c.before.lowest.ensures c.run.ensures
+    let l = (loop c).loop-rest in
+    next-is (map (loop c)) l.from l.rest c.before.lowest-gap.result c.run-size.result (low (loop c)) l.inv.is
+    (omega (arith, c.before.before.loop-rest-test.true)) c.before.lowest-gap.ensures c.run-size.ensures
 
 -- it lies below register 63
-ends : (c : tie.After-run invariant-loop decreases-loop) → (loop c).loop.from + c.before.lowest.result + c.run.result ≤ 63
+ends : (c : tie.After-run-size invariant-loop decreases-loop) → (loop c).loop-rest.from + c.before.lowest-gap.result + c.run-size.result ≤ 63
 ends c =
-    let l = (loop c).loop in
+    let l = (loop c).loop-rest in
     let a = (start (loop c)).args in
-    run-low a.needed a.allowed a.held a.limit (map (loop c)) (loop c).before.covered.ensures (start (loop c)).pre
-    l.found.taken l.found.starts l.rest l.from c.before.lowest.result c.run.result l.inv (turn c)
+    run-low a.needed a.allowed a.held a.limit (map (loop c)) (loop c).before.covered-rest.ensures (start (loop c)).pre
+    l.found.taken l.found.starts l.rest l.from c.before.lowest-gap.result c.run-size.result l.inv (turn c)
 
-loop-holds : tie.Need-loop-init invariant-loop decreases-loop
+loop-holds : tie.Need-loop-rest-init invariant-loop decreases-loop
 loop-holds c =
     let a = c.before.args in
-    found_none a.needed a.allowed a.held a.limit c.covered.result c.covered.ensures c.before.requires
+    found_none a.needed a.allowed a.held a.limit c.covered-rest.result c.covered-rest.ensures c.before.requires
 
 -- the round, where the transactions of the run were found
-more : (c : tie.After-run invariant-loop decreases-loop) (taken starts : ℕ)
+more : (c : tie.After-run-size invariant-loop decreases-loop) (taken starts : ℕ)
     → ((w : List ℕ) → Plannable (start (loop c)).args.needed (start (loop c)).args.allowed (start (loop c)).args.held (start (loop c)).args.limit w
     → MapsSoFar (plan_by (start (loop c)).args.needed (start (loop c)).args.allowed (start (loop c)).args.held (start (loop c)).args.limit w)
     (plan_from (start (loop c)).args.needed (start (loop c)).args.allowed (start (loop c)).args.held (start (loop c)).args.limit w
-    ((loop c).loop.from + c.before.lowest.result + c.run.result)) taken starts)
+    ((loop c).loop-rest.from + c.before.lowest-gap.result + c.run-size.result)) taken starts)
     → Found (start (loop c)).args.needed (start (loop c)).args.allowed (start (loop c)).args.held (start (loop c)).args.limit (map (loop c))
     taken starts
-    ((loop c).loop.rest / 2 ^ c.before.lowest.result / 2 ^ c.run.result) ((loop c).loop.from + c.before.lowest.result + c.run.result)
+    ((loop c).loop-rest.rest / 2 ^ c.before.lowest-gap.result / 2 ^ c.run-size.result) ((loop c).loop-rest.from + c.before.lowest-gap.result + c.run-size.result)
 more c taken starts g =
-    let l = (loop c).loop in
+    let l = (loop c).loop-rest in
     let a = (start (loop c)).args in
-    found-more a.needed a.allowed a.held a.limit (map (loop c)) (loop c).before.covered.ensures (start (loop c)).pre
-    l.found.taken l.found.starts l.rest l.from c.before.lowest.result c.run.result l.inv (turn c) taken starts g
+    found-more a.needed a.allowed a.held a.limit (map (loop c)) (loop c).before.covered-rest.ensures (start (loop c)).pre
+    l.found.taken l.found.starts l.rest l.from c.before.lowest-gap.result c.run-size.result l.inv (turn c) taken starts g
 
-loop-again : tie.Need-loop-preserved invariant-loop decreases-loop
+loop-again : tie.Need-loop-rest-preserved-then-size-limit invariant-loop decreases-loop
 loop-again c =
     let r = c.before.before in
-    let l = (loop r).loop in
+    let l = (loop r).loop-rest in
     let a = (start (loop r)).args in
-    let v = c.with-span in
+    let v = c.with_span-found in
     more r v.result.taken v.result.starts
-    (found-whole a.needed a.allowed a.held a.limit (map (loop r)) (loop r).before.covered.ensures (start (loop r)).pre
-    l.found.taken l.found.starts l.rest l.from r.before.lowest.result r.run.result l.inv (turn r)
-    v.result.taken v.result.starts c.before.if1.true v.ensures.0 v.ensures.1)
+    (found-whole a.needed a.allowed a.held a.limit (map (loop r)) (loop r).before.covered-rest.ensures (start (loop r)).pre
+    l.found.taken l.found.starts l.rest l.from r.before.lowest-gap.result r.run-size.result l.inv (turn r)
+    v.result.taken v.result.starts c.before.if-size-limit.true v.ensures.0 v.ensures.1)
 
-cut-run-requires : tie.Need-cut-run-requires invariant-loop decreases-loop
+cut-run-requires : tie.Need-cut_run-found-requires invariant-loop decreases-loop
 cut-run-requires c κs =
     let r = c.before in
-    let l = (loop r).loop in
+    let l = (loop r).loop-rest in
     let a = (start (loop r)).args in
     let β = (start (loop r)).pre in (
       (omega (arith, (turn r).some), (omega (arith, ends r), (β.some, β.most))),
-      (run-found a.needed a.allowed a.held a.limit (map (loop r)) (loop r).before.covered.ensures β l.found.taken l.found.starts
-          l.rest l.from r.before.lowest.result r.run.result l.inv (turn r)).first,
+      (run-found a.needed a.allowed a.held a.limit (map (loop r)) (loop r).before.covered-rest.ensures β l.found.taken l.found.starts
+          l.rest l.from r.before.lowest-gap.result r.run-size.result l.inv (turn r)).first,
     )
 
-loop-again-2 : tie.Need-loop-preserved-2 invariant-loop decreases-loop
+loop-again-2 : tie.Need-loop-rest-preserved invariant-loop decreases-loop
 loop-again-2 c =
     let r = c.before.before in
-    let l = (loop r).loop in
+    let l = (loop r).loop-rest in
     let a = (start (loop r)).args in
-    let v = c.cut-run in
+    let v = c.cut_run-found in
     more r v.result.taken v.result.starts
-    (found-cut a.needed a.allowed a.held a.limit (map (loop r)) (loop r).before.covered.ensures (start (loop r)).pre
-    l.found.taken l.found.starts l.rest l.from r.before.lowest.result r.run.result l.inv (turn r)
+    (found-cut a.needed a.allowed a.held a.limit (map (loop r)) (loop r).before.covered-rest.ensures (start (loop r)).pre
+    l.found.taken l.found.starts l.rest l.from r.before.lowest-gap.result r.run-size.result l.inv (turn r)
     v.result.taken v.result.starts v.ensures)
 
 returns : tie.Need-returns invariant-loop decreases-loop
 returns c w π =
     let l = c.before in
     let a = (start l).args in
-    let z : l.loop.rest ≡ 0 = c.loop-test.false in
-    found_all a.needed a.allowed a.held a.limit (map l) l.before.covered.ensures (start l).requires
-    l.loop.found.taken l.loop.found.starts l.loop.from (rw z at l.loop.invariant) w π
+    let z : l.loop-rest.rest ≡ 0 = c.loop-rest-test.false in
+    found_all a.needed a.allowed a.held a.limit (map l) l.before.covered-rest.ensures (start l).requires
+    l.loop-rest.found.taken l.loop-rest.found.starts l.loop-rest.from (rw z at l.loop-rest.invariant) w π
 
 pub plan_spans_spec : {M : Type 1} → statement M
 plan_spans_spec =

@@ -6,10 +6,10 @@ use borrow.Author.Rules.{rules}
 use Rattle.records.proofs.lines.read_line.Statement.{statement}
 use Rattle.records.proofs.lines.read_line.Tie as tie
 
-abbrev invariant-loop : tie.invariant-loop
+abbrev invariant-loop : tie.invariant-loop-n
 invariant-loop line₀ n₀ line n = (n ≤ length line₀) × (length line ≡ length line₀)
 
-abbrev decreases-loop : tie.decreases-loop
+abbrev decreases-loop : tie.decreases-loop-n
 decreases-loop line₀ n₀ line n = length line₀ - n
 
 pub read_line_spec : {M : Type 1} → statement M

@@ -6,10 +6,10 @@ use borrow.Author.Rules.{rules}
 use Rattle.records.proofs.tokens.bytes.Statement.{statement}
 use Rattle.records.proofs.tokens.bytes.Tie as tie
 
-abbrev invariant-loop : tie.invariant-loop
+abbrev invariant-loop : tie.invariant-loop-i
 invariant-loop from to out₀ held n₀ i₀ out n i = (n ≤ length out₀) × (length out ≡ length out₀)
 
-abbrev decreases-loop : tie.decreases-loop
+abbrev decreases-loop : tie.decreases-loop-i
 decreases-loop from to out₀ held n₀ i₀ out n i = to - i
 
 pub bytes_spec : {M : Type 1} → statement M

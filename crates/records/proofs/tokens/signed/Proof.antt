@@ -26,21 +26,21 @@ below : (n : ℕ) → negative ≤ n → n % negative ≤ 2147483647 → neg_ℤ
 below n h k = rw (le-ltb n negative h, le-ltb 2147483647 (n % negative) k)
 
 returns : tie.Need-returns
-returns c = high c.before.before.args.number c.before.if1.true c.if2.true
+returns c = high c.before.before.args.number c.before.if-number-lt-NEGATIVE.true c.if-magnitude-gt-HIGHEST_MAGNITUDE.true
 
-returns-2 : tie.Need-returns-2
+returns-2 : tie.Need-returns-then-number-lt-NEGATIVE
 returns-2 c =
     let n = c.before.before.args.number in
-    as_signed (n % negative) (omega (arith, c.if2.false)) ∙ above n c.before.if1.true c.if2.false
+    as_signed (n % negative) (omega (arith, c.if-magnitude-gt-HIGHEST_MAGNITUDE.false)) ∙ above n c.before.if-number-lt-NEGATIVE.true c.if-magnitude-gt-HIGHEST_MAGNITUDE.false
 
-returns-3 : tie.Need-returns-3
-returns-3 c = low c.before.before.args.number c.before.if1.false c.if3.true
+returns-3 : tie.Need-returns-then-magnitude-gt-HIGHEST_MAGNITUDE-2
+returns-3 c = low c.before.before.args.number c.before.if-number-lt-NEGATIVE.false c.if-magnitude-gt-HIGHEST_MAGNITUDE-2.true
 
-returns-4 : tie.Need-returns-4
+returns-4 : tie.Need-returns
 returns-4 c =
     let e = c.before in
-    to_z-of_z w32 c.below-zero.result (record { sfits = c.below-zero.type-inv }) ∙ c.below-zero.ensures
-    ∙ below e.before.before.args.number e.before.if1.false e.if3.false
+    to_z-of_z w32 c.below_zero.result (record { sfits = c.below_zero.type-inv }) ∙ c.below_zero.ensures
+    ∙ below e.before.before.args.number e.before.if-number-lt-NEGATIVE.false e.if-magnitude-gt-HIGHEST_MAGNITUDE-2.false
 
 pub signed_spec : {M : Type 1} → statement M
 signed_spec = tie.close (tie.spec returns (λ c. search rules) returns-2 returns-3 (λ c. search rules) (λ c κs. search rules) returns-4)

@@ -5,10 +5,10 @@ use borrow.Author.Rules.{rules}
 use Rattle.records.proofs.tokens.split.Statement.{statement}
 use Rattle.records.proofs.tokens.split.Tie as tie
 
-abbrev invariant-loop : tie.invariant-loop
+abbrev invariant-loop : tie.invariant-loop-i
 invariant-loop text held₀ count₀ first₀ second₀ good₀ partial₀ i₀ held count first second good partial i = i ≤ length text
 
-abbrev decreases-loop : tie.decreases-loop
+abbrev decreases-loop : tie.decreases-loop-i
 decreases-loop text held₀ count₀ first₀ second₀ good₀ partial₀ i₀ held count first second good partial i = length text - i
 
 pub split_spec : {M : Type 1} → statement M

@@ -15,10 +15,10 @@ record Inv (table : List ℕ) (start at : ℕ) : Type 0 where
   within : at ≤ length table
   column : column_in (drop start table) 0 ≡ take (at - start) (drop start table) ++ column_in (drop at table) 0
 
-abbrev invariant-loop : tie.invariant-loop
+abbrev invariant-loop : tie.invariant-loop-at
 invariant-loop table start at₀ at = Inv table start at
 
-abbrev decreases-loop : tie.decreases-loop
+abbrev decreases-loop : tie.decreases-loop-at
 decreases-loop table start at₀ at = length table - at
 
 begun : (table : List ℕ) (start : ℕ) → start ≤ length table → Inv table start start
@@ -26,7 +26,7 @@ begun table start h =
     let none : 0 ≡ start - start = omega arith in
     record { from = omega arith; within = h; column = ap (λ (k : ℕ). take k (drop start table) ++ column_in (drop start table) 0) none }
 
-loop-holds : tie.Need-loop-init invariant-loop decreases-loop
+loop-holds : tie.Need-loop-at-init invariant-loop decreases-loop
 loop-holds c = begun c.before.args.table.now c.before.args.start (omega arith)
 
 -- a column is the bytes passed where nothing is left of it
@@ -38,28 +38,28 @@ whole table start at v e =
 returns : tie.Need-returns invariant-loop decreases-loop
 returns c =
     let i = c.before.before.before in
-    let l = i.before.loop in
+    let l = i.before.loop-at in
     let a = i.before.before.before.args in
-    let e = closed a.table.now l.at i.loop-test.true (sym c.before.is-end.ensures ∙ c.if1.true) in
+    let e = closed a.table.now l.at i.loop-at-test.true (sym c.before.is_end.ensures ∙ c.if-is_end.true) in
     ((l.invariant.from, l.invariant.within), whole a.table.now a.start l.at l.invariant e)
 
-loop-again : tie.Need-loop-preserved invariant-loop decreases-loop
+loop-again : tie.Need-loop-at-preserved invariant-loop decreases-loop
 loop-again c =
     let i = c.before.before.before in
-    let l = i.before.loop in
+    let l = i.before.loop-at in
     let a = i.before.before.before.args in
-    let e = sym c.before.is-end.ensures ∙ c.if1.false in
+    let e = sym c.before.is_end.ensures ∙ c.if-is_end.false in
     record {
       from = omega (arith, l.invariant.from);
-      within = omega (arith, i.loop-test.true);
-      column = l.invariant.column ∙ grown a.table.now a.start l.at l.invariant.from i.loop-test.true e;
+      within = omega (arith, i.loop-at-test.true);
+      column = l.invariant.column ∙ grown a.table.now a.start l.at l.invariant.from i.loop-at-test.true e;
     }
 
-returns-2 : tie.Need-returns-2 invariant-loop decreases-loop
+returns-2 : tie.Need-returns invariant-loop decreases-loop
 returns-2 c =
-    let l = c.before.loop in
+    let l = c.before.loop-at in
     let a = c.before.before.before.args in
-    let e = at-end a.table.now l.at 0 (omega (arith, l.invariant.within, c.loop-test.false)) in
+    let e = at-end a.table.now l.at 0 (omega (arith, l.invariant.within, c.loop-at-test.false)) in
     ((l.invariant.from, l.invariant.within), whole a.table.now a.start l.at l.invariant e)
 
 pub column_end_spec : {M : Type 1} → statement M

@@ -15,46 +15,46 @@ record Inv (table : List ℕ) (k at left : ℕ) : Type 0 where
   within : at ≤ length table
   column : column_in (drop at table) left ≡ column_in table k
 
-abbrev invariant-loop : tie.invariant-loop
+abbrev invariant-loop : tie.invariant-loop-left
 invariant-loop table k at₀ left₀ at left = Inv table k at left
 
-abbrev decreases-loop : tie.decreases-loop
+abbrev decreases-loop : tie.decreases-loop-left
 decreases-loop table k at₀ left₀ at left = length table - at
 
-loop-holds : tie.Need-loop-init invariant-loop decreases-loop
+loop-holds : tie.Need-loop-left-init invariant-loop decreases-loop
 loop-holds c = record { within = omega arith; column = refl }
 
 returns : tie.Need-returns invariant-loop decreases-loop
 returns c =
-    let l = c.before.before.loop in
+    let l = c.before.before.loop-left in
     let a = c.before.before.before.before.args in
-    let none = at-end a.table.now l.at 0 c.if1.true in
-    let left = at-end a.table.now l.at l.left c.if1.true in
+    let none = at-end a.table.now l.at 0 c.if-at-table.true in
+    let left = at-end a.table.now l.at l.left c.if-at-table.true in
     (l.invariant.within, none ∙ sym left ∙ l.invariant.column)
 
-loop-again : tie.Need-loop-preserved invariant-loop decreases-loop
+loop-again : tie.Need-loop-left-preserved invariant-loop decreases-loop
 loop-again c =
     let e = c.before in
     let n = e.before.before in
     let i = n.before in
-    let l = i.before.loop in
+    let l = i.before.loop-left in
     let t = i.before.before.before.args.table.now in
-    let h : l.at < length t = omega (arith, l.invariant.within, n.if1.false) in
-    let same = sym e.is-end.ensures in
+    let h : l.at < length t = omega (arith, l.invariant.within, n.if-at-table.false) in
+    let same = sym e.is_end.ensures in
     record {
       within = omega (arith, h);
       column =
-          ⊎_elim (λ w. ap (column_in (drop (l.at + 1) t)) w.1 ∙ sym (one_less t l.at l.left h i.loop-test.true (same ∙ w.0.taken)))
-          (λ w. ap (column_in (drop (l.at + 1) t)) w.1 ∙ sym (as_many t l.at l.left h i.loop-test.true (same ∙ w.0.left)))
-          c.if2.branch
+          ⊎_elim (λ w. ap (column_in (drop (l.at + 1) t)) w.1 ∙ sym (one_less t l.at l.left h i.loop-left-test.true (same ∙ w.0.taken)))
+          (λ w. ap (column_in (drop (l.at + 1) t)) w.1 ∙ sym (as_many t l.at l.left h i.loop-left-test.true (same ∙ w.0.left)))
+          c.if-is_end.branch
           ∙ l.invariant.column;
     }
 
-returns-2 : tie.Need-returns-2 invariant-loop decreases-loop
+returns-2 : tie.Need-returns invariant-loop decreases-loop
 returns-2 c =
-    let l = c.before.loop in
+    let l = c.before.loop-left in
     let t = c.before.before.before.args.table.now in
-    let none : l.left ≡ 0 = omega (arith, c.loop-test.false) in
+    let none : l.left ≡ 0 = omega (arith, c.loop-left-test.false) in
     (l.invariant.within, ap (column_in (drop l.at t)) (sym none) ∙ l.invariant.column)
 
 pub column_start_spec : {M : Type 1} → statement M

@@ -4,11 +4,11 @@ use Rattle.template.specs.Columns.{comma}
 use Rattle.template.proofs.columns.is_end.Statement.{statement}
 use Rattle.template.proofs.columns.is_end.Tie as tie
 
-returns : tie.Need-returns
-returns c = rw (eq-eqb c.before.args.b comma c.if1.true)
+returns : tie.Need-returns-then-b-eq44
+returns c = rw (eq-eqb c.before.args.b comma c.if-b-eq44.true)
 
-returns-2 : tie.Need-returns-2
-returns-2 c = rw (ne_eqb c.before.args.b comma c.if1.false)
+returns-2 : tie.Need-returns-else-b-eq44
+returns-2 c = rw (ne_eqb c.before.args.b comma c.if-b-eq44.false)
 
 pub is_end_spec : {M : Type 1} → statement M
 is_end_spec = tie.close (tie.spec returns returns-2)

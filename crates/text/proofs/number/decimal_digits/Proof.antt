@@ -11,7 +11,7 @@ use Rattle.text.specs.Line.{zeros}
 use Rattle.text.specs.Text.{decimal, leading, digit}
 use Rattle.text.specs.DecimalDigits.{decimal_digits}
 use Rattle.text.proofs.Zeros.{take-zeros}
-use Rattle.text.proofs.Digits.{leading_step, leading-zero, one-before, shorter}
+use Rattle.text.proofs.DigitLists.{leading_step, leading-zero, one-before, shorter}
 use Rattle.text.proofs.number.decimal_digits.Statement.{statement}
 use Rattle.text.proofs.number.decimal_digits.Tie as tie
 
@@ -24,13 +24,13 @@ record Inv (n : ℕ) (bytes : List ℕ) (first rest : ℕ) : Type 0 where
   clear : take first bytes ≡ zeros first
   text : leading n rest ++ drop first bytes ≡ decimal n
 
-abbrev invariant-loop : tie.invariant-loop
+abbrev invariant-loop : tie.invariant-loop-rest
 invariant-loop n bytes₀ first₀ rest₀ bytes first rest = Inv n bytes first rest
 
-abbrev decreases-loop : tie.decreases-loop
+abbrev decreases-loop : tie.decreases-loop-rest
 decreases-loop n bytes₀ first₀ rest₀ bytes first rest = rest
 
-loop-holds : tie.Need-loop-init invariant-loop decreases-loop
+loop-holds : tie.Need-loop-rest-init invariant-loop decreases-loop
 unfolding decimal
 loop-holds c = record { long = refl; free = omega arith; some = omega arith; less = omega arith; short = omega arith; clear = refl; text = refl }
 
@@ -57,13 +57,13 @@ module _ (n : ℕ) (bytes : List ℕ) (first rest : ℕ) (p : 0 < rest) (v : Inv
         ∙ v.text;
   }
 
-loop-again : tie.Need-loop-preserved invariant-loop decreases-loop
-loop-again c = let l = c.before.loop in turn c.before.before.args.n l.bytes l.first l.rest (omega arith) l.invariant
+loop-again : tie.Need-loop-rest-preserved invariant-loop decreases-loop
+loop-again c = let l = c.before.loop-rest in turn c.before.before.args.n l.bytes l.first l.rest (omega arith) l.invariant
 
 returns : tie.Need-returns invariant-loop decreases-loop
 unfolding decimal_digits
 returns c =
-    let l = c.before.loop in
+    let l = c.before.loop-rest in
     let n = c.before.before.args.n in
     let none : l.rest ≡ 0 = omega arith in
     let text : drop l.first l.bytes ≡ decimal n =

@@ -30,78 +30,78 @@ record Inv (plan : List ℕ) (order : Order) (index : ℕ) (cursor : Cursor) (fo
   is : found_as plan found ≡ accepted (get_elem? done index)
   placed : FoundPlaced plan found
 
-abbrev invariant-loop : tie.invariant-loop
+abbrev invariant-loop : tie.invariant-loop-found
 invariant-loop plan index cursor₀ found₀ i₀ cursor found i = Inv plan cursor₀.order index cursor found i
 
-abbrev decreases-loop : tie.decreases-loop
+abbrev decreases-loop : tie.decreases-loop-found
 decreases-loop plan index cursor₀ found₀ i₀ cursor found i = cursor.left
 
-abbrev start : tie.At-loop invariant-loop decreases-loop → tie.Start invariant-loop decreases-loop
+abbrev start : tie.At-loop-found invariant-loop decreases-loop → tie.Start invariant-loop decreases-loop
 start c = c.before.before.before
 
-abbrev plan-at : tie.At-loop invariant-loop decreases-loop → List ℕ
+abbrev plan-at : tie.At-loop-found invariant-loop decreases-loop → List ℕ
 plan-at c = (start c).args.plan.now
 
 -- the walk keeps its order
-in_order : (l : tie.At-loop invariant-loop decreases-loop) → l.before.begin.result.order ≡ (start l).args.order
-in_order l = ap (λ (k : Cursor). k.order) l.before.begin.ensures
+in_order : (l : tie.At-loop-found invariant-loop decreases-loop) → l.before.begin-cursor.result.order ≡ (start l).args.order
+in_order l = ap (λ (k : Cursor). k.order) l.before.begin-cursor.ensures
 
 -- so what it answers is of that order
-abbrev answer-by : tie.At-loop invariant-loop decreases-loop → Order → Judged (Option Transaction)
+abbrev answer-by : tie.At-loop-found invariant-loop decreases-loop → Order → Judged (Option Transaction)
 answer-by l o = looked_up (unpack_by (start_after o) (plan-at l)) (start l).args.index
 
-loop-holds : tie.Need-loop-init invariant-loop decreases-loop
+loop-holds : tie.Need-loop-found-init invariant-loop decreases-loop
 loop-holds c =
     let k = c.before in
     record {
       done = [];
-      walked = rw c.begin.ensures (walk_begins k.before.args.plan.now k.before.args.order (λ i. (k.shared-slice-known.given i).fits));
+      walked = rw c.begin-cursor.ensures (walk_begins k.before.args.plan.now k.before.args.order (λ i. (k.shared_slice_known-1.given i).fits));
       counts = refl;
       is = refl;
       placed = tt;
     }
 
 -- what the step says
-said : (c : tie.After-next invariant-loop decreases-loop) (r : Step) → c.next.result ≡ r → Stepped (plan-at c.before) c.before.loop.cursor r
-said c r e = subst (Stepped (plan-at c.before) c.before.loop.cursor) (sym c.next.ensures ∙ e)
-    (stepped (plan-at c.before) c.before.loop.cursor)
+said : (c : tie.After-next invariant-loop decreases-loop) (r : Step) → c.next.result ≡ r → Stepped (plan-at c.before) c.before.loop-found.cursor r
+said c r e = subst (Stepped (plan-at c.before) c.before.loop-found.cursor) (sym c.next.ensures ∙ e)
+    (stepped (plan-at c.before) c.before.loop-found.cursor)
 
-returns : tie.Need-returns invariant-loop decreases-loop
+returns : tie.Need-returns-in-Fault invariant-loop decreases-loop
 returns c =
     let n = c.before.before in
     let l = n.before in (
       sym (ap (λ (j : Judged (List Transaction)). looked_up j (start l).args.index)
-          (walk_fails l.loop.invariant.walked (said n _ c.enum_told.given.1)))
+          (walk_fails l.loop-found.invariant.walked (said n _ c.enum_told-1.given.1)))
           ∙ ap (answer-by l) (in_order l),
       tt,
     )
 
-returns-2 : tie.Need-returns-2 invariant-loop decreases-loop
+returns-2 : tie.Need-returns-in-End invariant-loop decreases-loop
 returns-2 c =
     let n = c.before.before in
     let l = n.before in
-    let v = l.loop.invariant in (
+    let v = l.loop-found.invariant in (
       v.is ∙ sym (ap (λ (j : Judged (List Transaction)). looked_up j (start l).args.index)
-          (walk_ends v.walked (said n _ c.enum-told2.given.1)))
+          (walk_ends v.walked (said n _ c.enum_told-in-End-1.given.1)))
           ∙ ap (answer-by l) (in_order l),
       v.placed,
     )
 
 -- the transaction that was found
-went : (c : tie.After-subaddress invariant-loop decreases-loop)
-    → Went (plan-at c.before.before.before) c.before.before.before.loop.cursor c.subaddress.given.0.0 c.subaddress.given.0.1.0
-    c.subaddress.given.0.1.1.0 c.subaddress.given.0.1.1.1.0
-went c = said c.before.before _ c.subaddress.given.1
+went : (c : tie.In-Transaction-2 invariant-loop decreases-loop)
+    → Went (plan-at c.before.before.before) c.before.before.before.loop-found.cursor c.subaddress-1.given.0.0 c.subaddress-1.given.0.1.0
+    c.subaddress-1.given.0.1.1.0 c.subaddress-1.given.0.1.1.1.0
+went c = said c.before.before _ c.subaddress-1.given.1
 
-loop-again : tie.Need-loop-preserved invariant-loop decreases-loop
+loop-again : tie.Need-loop-found-preserved invariant-loop decreases-loop
 loop-again c =
     let s = c.before.before in
     let l = s.before.before.before in
-    let v = l.loop.invariant in
+    let v = l.loop-found.invariant in
     let plan = plan-at l in
     let index = (start l).args.index in
     let g = went s in
-    let t = transaction_at plan s.subaddress.given.0.0 s.subaddress.given.0.1.0 s.subaddress.given.0.1.1.0 in
+    let t = transaction_at plan s.subaddress-1.given.0.0 s.subaddress-1.given.0.1.0 s.subaddress-1.given.0.1.1.0 in
     record {
       done = v.done ++ (t ∷ []);
       walked = walk_goes v.walked g;
@@ -109,8 +109,8 @@ loop-again c =
       is = ⊎_elim
           (λ w. ap (found_as plan) w.1 ∙ sym (ap accepted (ap (get_elem? (v.done ++ (t ∷ []))) (sym w.0.taken ∙ v.counts) ∙ last_index v.done t)))
           (λ w. ap (found_as plan) w.1 ∙ v.is ∙ sym (ap accepted (other_index v.done t index (λ e. w.0.left (v.counts ∙ e)))))
-          c.if1.branch;
-      placed = ⊎_elim (λ w. subst⁻¹ (FoundPlaced plan) w.1 (g.placed, g.room)) (λ w. subst⁻¹ (FoundPlaced plan) w.1 v.placed) c.if1.branch;
+          c.if-i-index.branch;
+      placed = ⊎_elim (λ w. subst⁻¹ (FoundPlaced plan) w.1 (g.placed, g.room)) (λ w. subst⁻¹ (FoundPlaced plan) w.1 v.placed) c.if-i-index.branch;
     }
 
 pub find_spec : {M : Type 1} → statement M
@@ -127,6 +127,6 @@ find_spec =
     (λ c. search rules)
     returns-2
     (λ c. search rules)
-    (λ c. let v = c.before.before.before.before.before.loop.invariant in record { fits = omega (arith, v.counts, v.walked.few) })
+    (λ c. let v = c.before.before.before.before.before.loop-found.invariant in record { fits = omega (arith, v.counts, v.walked.few) })
     (λ c. omega (arith, (went c.before.before).left))
     loop-again)

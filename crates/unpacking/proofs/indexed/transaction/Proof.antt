@@ -28,7 +28,7 @@ abbrev plan-at : tie.After-find → List ℕ
 plan-at f = f.before.before.before.args.plan.now
 
 abbrev memory-at : tie.After-find → List ℕ
-memory-at f = f.before.before.before.args.memory.now
+memory-at f = f.before.before.before.args.memory-1.now
 
 abbrev answer_at : tie.After-find → Judged Transaction
 answer_at f =
@@ -55,43 +55,43 @@ answered f r e =
 refuse : (f : tie.After-find) (n : ℕ) → answer_at f ≡ refused n → (refused n ≡ header_of (answer_at f)) × (memory-at f ≡ data_after (answer_at f) (memory-at f))
 refuse f n e = (sym (ap header_of e), sym (ap (λ (j : Judged Transaction). data_after j (memory-at f)) e))
 
-returns-2 : tie.Need-returns-2
-returns-2 c = let f = c.before.before in refuse f 9 (answered f _ c.enum_told.given.1)
+returns-2 : tie.Need-returns-in-Fault
+returns-2 c = let f = c.before.before in refuse f 9 (answered f _ c.enum_told-1.given.1)
 
-returns-3 : tie.Need-returns-3
-returns-3 c = let f = c.before.before in refuse f 3 (answered f _ c.enum-told2.given.1)
+returns-3 : tie.Need-returns-in-PastLast
+returns-3 c = let f = c.before.before in refuse f 3 (answered f _ c.enum_told-in-PastLast-1.given.1)
 
 -- the transaction that was found, and its data count
-abbrev found_at : tie.After-subaddress → Transaction
-found_at s = transaction_at (plan-at s.before.before) s.subaddress.given.0.0 s.subaddress.given.0.1.0 s.subaddress.given.0.1.1.0
+abbrev found_at : tie.In-At-2 → Transaction
+found_at s = transaction_at (plan-at s.before.before) s.subaddress-1.given.0.0 s.subaddress-1.given.0.1.0 s.subaddress-1.given.0.1.1.0
 
-count_at : (s : tie.After-subaddress) → size (found_at s) ≡ s.subaddress.given.0.1.0
-count_at s = first_bytes-length s.subaddress.given.0.1.0 (left_at (plan-at s.before.before) s.subaddress.given.0.1.1.0)
+count_at : (s : tie.In-At-2) → size (found_at s) ≡ s.subaddress-1.given.0.1.0
+count_at s = first_bytes-length s.subaddress-1.given.0.1.0 (left_at (plan-at s.before.before) s.subaddress-1.given.0.1.1.0)
 
-by_room_lem : (s : tie.After-subaddress) (b : Bool) → leb (size (found_at s)) (length (memory-at s.before.before)) ≡ b
+by_room_lem : (s : tie.In-At-2) (b : Bool) → leb (size (found_at s)) (length (memory-at s.before.before)) ≡ b
     → answer_at s.before.before ≡ cond b (accepted (found_at s)) (refused 10)
-by_room_lem s b e = answered s.before.before _ s.subaddress.given.1 ∙ ap (λ (x : Bool). cond x (accepted (found_at s)) (refused 10)) e
+by_room_lem s b e = answered s.before.before _ s.subaddress-1.given.1 ∙ ap (λ (x : Bool). cond x (accepted (found_at s)) (refused 10)) e
 
-returns : tie.Need-returns
+returns : tie.Need-returns-then-memory-count
 returns c =
     let s = c.before.before in
     let f = s.before.before in
-    refuse f 10 (by_room_lem s false (lt-leb (size (found_at s)) (length (memory-at f)) (omega (arith, count_at s, c.if1.true))))
+    refuse f 10 (by_room_lem s false (lt-leb (size (found_at s)) (length (memory-at f)) (omega (arith, count_at s, c.if-memory-count.true))))
 
-returns-4 : tie.Need-returns-4
+returns-4 : tie.Need-returns-else-memory-count
 returns-4 c =
     let k = c.before.before in
     let o = k.before.before in
     let s = o.before.before in
     let f = s.before.before in
     let t = found_at s in
-    let fits : size t ≤ length (memory-at f) = omega (arith, count_at s, o.if1.false) in
+    let fits : size t ≤ length (memory-at f) = omega (arith, count_at s, o.if-memory-count.false) in
     let e = by_room_lem s true (le-leb (size t) (length (memory-at f)) fits) in
-    let p = subst (FoundPlaced (plan-at f)) s.subaddress.given.1 f.find.ensures.1 in (
-      ap (λ (n : ℕ). accepted (record { subaddress = t.subaddress; count = n })) (sym (count_at s)) ∙ sym (ap header_of e),
-      k.copy-data.ensures
-          ∙ data_copied_lem (plan-at f) s.subaddress.given.0.1.1.0 (memory-at f) 0 s.subaddress.given.0.1.0 p.0 p.1
-          (omega (arith, o.if1.false))
+    let p = subst (FoundPlaced (plan-at f)) s.subaddress-1.given.1 f.find.ensures.1 in (
+      ap (λ (n : ℕ). accepted (record { subaddress = t.subaddress-1; count = n })) (sym (count_at s)) ∙ sym (ap header_of e),
+      k.copy_data.ensures
+          ∙ data_copied_lem (plan-at f) s.subaddress-1.given.0.1.1.0 (memory-at f) 0 s.subaddress-1.given.0.1.0 p.0 p.1
+          (omega (arith, o.if-memory-count.false))
           ∙ sets_front t.bytes (memory-at f) fits
           ∙ sym (ap (λ (j : Judged Transaction). data_after j (memory-at f)) e),
     )

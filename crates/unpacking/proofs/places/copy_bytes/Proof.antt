@@ -11,12 +11,12 @@ use Rattle.unpacking.proofs.places.copy_bytes.Statement.{statement}
 use Rattle.unpacking.proofs.places.copy_bytes.Tie as tie
 
 -- where the function was entered, from where the last byte begun was read
-abbrev start : tie.After-shared-slice-known2 → tie.Start
+abbrev start : tie.After-shared_slice_known-2-1 → tie.Start
 start k = k.before.before.before.before
 
 -- the plan's bytes are bytes
-byte : (k : tie.After-shared-slice-known2) (i : ℕ) → get_or (start k).args.plan.now i 0 < 2 ^ 8
-byte k i = (k.shared-slice-known2.given i).fits
+byte : (k : tie.After-shared_slice_known-2-1) (i : ℕ) → get_or (start k).args.plan.now i 0 < 2 ^ 8
+byte k i = (k.shared_slice_known-2-1.given i).fits
 
 shift-requires : tie.Need-shift-requires
 shift-requires c κs =
@@ -34,8 +34,8 @@ returns c =
     let p = a.place in
     let n : p.at + a.count - p.at ≡ a.count = omega arith in
     c.before.before.shift.ensures.1
-    ∙ ap (λ (m : ℕ). sets a.registers.now a.subaddress (shifted p.held (get_or a.plan.now (p.at - 1) 0) (take m (drop p.at a.plan.now)))) n
-    ∙ ap (sets a.registers.now a.subaddress) (sym (data_shifted a.count a.plan.now p s.pre.0 s.pre.1 (byte k)))
+    ∙ ap (λ (m : ℕ). sets a.registers-1.now a.subaddress (shifted p.held (get_or a.plan.now (p.at - 1) 0) (take m (drop p.at a.plan.now)))) n
+    ∙ ap (sets a.registers-1.now a.subaddress) (sym (data_shifted a.count a.plan.now p s.pre.0 s.pre.1 (byte k)))
 
 pub copy_bytes_spec : {M : Type 1} → statement M
 copy_bytes_spec =

@@ -12,22 +12,22 @@ use Rattle.unpacking.proofs.steps.filling.Tie as tie
 returns : tie.Need-returns
 returns c =
     let s = c.before in
-    sym (not_filling s.args.plan.now s.args.place s.requires c.if1.true)
+    sym (not_filling s.args.plan.now s.args.place s.requires c.if-at-plan.true)
 
-cast-result : tie.Need-overflow-cast-result
-cast-result c = record { fits = omega (arith, (c.shared-slice-known.given (c.before.before.args.place.at - 1)).fits) }
+cast-result : tie.Need-overflow_cast-result
+cast-result c = record { fits = omega (arith, (c.shared_slice_known-1.given (c.before.before.args.place.at - 1)).fits) }
 
 -- two to the count of bits held
 unit : (s : tie.Start) → (1 * 2 ^ s.args.place.held) % 2 ^ 32 ≡ 2 ^ s.args.place.held
 unit s = one_shl s.args.place.held 32 (omega (arith, s.requires.few))
 
-rem-result : tie.Need-nonzero-rem-result
+rem-result : tie.Need-nonzero_rem-result
 rem-result c = let s = c.before.before.before in rw (unit s) (pow_pos s.args.place.held)
 
-returns-2 : tie.Need-returns-2
+returns-2 : tie.Need-returns
 returns-2 c =
     let s = c.before.before.before in
-    rw (unit s) (sym (last_filling s.args.plan.now s.args.place s.requires c.before.before.if1.false))
+    rw (unit s) (sym (last_filling s.args.plan.now s.args.place s.requires c.before.before.if-at-plan.false))
 
 pub filling_spec : {M : Type 1} → statement M
 filling_spec =

@@ -28,54 +28,54 @@ abbrev cursor-at : tie.After-within → Cursor
 cursor-at w = w.before.before.before.args.cursor
 
 abbrev bits_at : tie.After-within → List Bool
-bits_at w = left_at (plan-at w) (cursor-at w).place
+bits_at w = left_at (plan-at w) (cursor-at w).place-1
 
 -- ---- the place
 
 returns : tie.Need-returns
-returns c = let w = c.before in sym (outside (plan-at w) (cursor-at w) (sym w.within.ensures ∙ not-true _ c.if1.true))
+returns c = let w = c.before in sym (outside (plan-at w) (cursor-at w) (sym w.within.ensures ∙ not-true _ c.if-not-within.true))
 
-right : (c : tie.Else1) → inside (plan-at c.before) (cursor-at c.before).place ≡ true
-right c = sym c.before.within.ensures ∙ not-false _ c.if1.false
+right : (c : tie.Else-not-within) → inside (plan-at c.before) (cursor-at c.before).place-1 ≡ true
+right c = sym c.before.within.ensures ∙ not-false _ c.if-not-within.false
 
-placed : (c : tie.Else1) → Placed (plan-at c.before) (cursor-at c.before).place
-placed c = inside-placed (plan-at c.before) (cursor-at c.before).place (right c)
+placed : (c : tie.Else-not-within) → Placed (plan-at c.before) (cursor-at c.before).place-1
+placed c = inside-placed (plan-at c.before) (cursor-at c.before).place-1 (right c)
 
 -- ---- the last transaction passed
 
-returns-2 : tie.Need-returns-2
+returns-2 : tie.Need-returns-then-filling
 returns-2 c =
     let f = c.before in
     let e = f.before.before in
     let w = e.before in
-    sym (at-end (plan-at w) (cursor-at w) (right e) true f.before.if2.true (sym f.filling.ensures ∙ c.if3.true))
+    sym (at-end (plan-at w) (cursor-at w) (right e) true f.before.if-left-eq0.true (sym f.filling.ensures ∙ c.if-filling.true))
 
-returns-3 : tie.Need-returns-3
+returns-3 : tie.Need-returns-else-filling
 returns-3 c =
     let f = c.before in
     let e = f.before.before in
     let w = e.before in
-    sym (at-end (plan-at w) (cursor-at w) (right e) false f.before.if2.true (sym f.filling.ensures ∙ c.if3.false))
+    sym (at-end (plan-at w) (cursor-at w) (right e) false f.before.if-left-eq0.true (sym f.filling.ensures ∙ c.if-filling.false))
 
 -- ---- a transaction to come
 
 -- how many follow it
-turn : (c : tie.Else2) → (cursor-at c.before.before).left ≡ suc ((cursor-at c.before.before).left - 1)
-turn c = let some = lt_of_le-ne zero-le (λ z. c.if2.false (sym z)) in omega (arith, some)
+turn : (c : tie.Else-left-eq0) → (cursor-at c.before.before).left ≡ suc ((cursor-at c.before.before).left - 1)
+turn c = let some = lt_of_le-ne zero-le (λ z. c.if-left-eq0.false (sym z)) in omega (arith, some)
 
 -- it isn't there
-faulty : (c : tie.Else2) → (Front (cursor-at c.before.before).free (bits_at c.before.before) → ⊥)
+faulty : (c : tie.Else-left-eq0) → (Front (cursor-at c.before.before).free (bits_at c.before.before) → ⊥)
     → Fault ≡ next_of (plan-at c.before.before) (cursor-at c.before.before)
 faulty c f =
     let w = c.before.before in
     sym (not_in_front (plan-at w) (cursor-at w) (right c.before) ((cursor-at w).left - 1) (turn c) f)
 
 -- how many bits are left
-bits-length : (c : tie.Else1) → length (bits_at c.before) ≡ (length (plan-at c.before) - (cursor-at c.before).place.at) * 8 + (cursor-at
-    c.before).place.held
-bits-length c = left_at-length (plan-at c.before) (cursor-at c.before).place (placed c)
+bits-length : (c : tie.Else-not-within) → length (bits_at c.before) ≡ (length (plan-at c.before) - (cursor-at c.before).place-1.at) * 8 + (cursor-at
+    c.before).place-1.held
+bits-length c = left_at-length (plan-at c.before) (cursor-at c.before).place-1 (placed c)
 
-returns-4 : tie.Need-returns-4
+returns-4 : tie.Need-returns-then-plan-place-lt-HEADER_BYTES
 returns-4 c =
     let e = c.before.before in
     faulty e (λ f. omega (
@@ -85,71 +85,71 @@ returns-4 c =
       length-drop 12 (bits_at e.before.before),
       bits-length e.before,
       (placed e.before).few,
-      c.if4.true,
+      c.if-plan-place-lt-HEADER_BYTES.true,
     ))
 
-header-at-requires : tie.Need-header-at-requires
-header-at-requires c κs = let p = placed c.before.before.before in (p, omega (arith, c.if4.false, p.inside))
+header-at-requires : tie.Need-header_at-header-requires
+header-at-requires c κs = let p = placed c.before.before.before in (p, omega (arith, c.if-plan-place-lt-HEADER_BYTES.false, p.inside))
 
 -- where a header was taken
-abbrev located : tie.After-header-at → tie.Else2
+abbrev located : tie.After-header_at-header → tie.Else-left-eq0
 located h = h.before.before.before
 
-returns-5 : tie.Need-returns-5
+returns-5 : tie.Need-returns-then-count-eq0
 returns-5 c =
     let h = c.before.before in
-    faulty (located h) (λ f. omega (arith, f.some, h.header_at.ensures.count, c.if5.true))
+    faulty (located h) (λ f. omega (arith, f.some, h.header_at-header.ensures.count, c.if-count-eq0.true))
 
-returns-6 : tie.Need-returns-6
+returns-6 : tie.Need-returns-then-subaddress-cursor
 returns-6 c =
     let h = c.before.before.before.before in
-    faulty (located h) (λ f. omega (arith, f.from, h.header_at.ensures.subaddress, c.if6.true))
+    faulty (located h) (λ f. omega (arith, f.from, h.header_at-header.ensures.subaddress, c.if-subaddress-cursor.true))
 
 -- how many bits are left from its data on
-data_length : (h : tie.After-header-at)
+data_length : (h : tie.After-header_at-header)
     → length (drop 12 (bits_at (located h).before.before))
-    ≡ (length (plan-at (located h).before.before) - h.header_at.result.next.at) * 8 + h.header_at.result.next.held
+    ≡ (length (plan-at (located h).before.before) - h.header_at-header.result.next.at) * 8 + h.header_at-header.result.next.held
 data_length h =
-    let e = h.header_at.ensures in
-    sym (ap length e.rest) ∙ left_at-length (plan-at (located h).before.before) h.header_at.result.next e.placed
+    let e = h.header_at-header.ensures in
+    sym (ap length e.rest) ∙ left_at-length (plan-at (located h).before.before) h.header_at-header.result.next e.placed
 
-returns-7 : tie.Need-returns-7
+returns-7 : tie.Need-returns-then-plan-data
 returns-7 c =
     let h = c.before.before.before.before.before.before in
-    let e = h.header_at.ensures in
-    faulty (located h) (λ f. omega (arith, f.held, e.count, e.placed.few, data_length h, c.if7.true))
+    let e = h.header_at-header.ensures in
+    faulty (located h) (λ f. omega (arith, f.held, e.count, e.placed.few, data_length h, c.if-plan-data.true))
 
 -- its data are there
-abbrev header : tie.Else7 → tie.After-header-at
+abbrev header : tie.Else-plan-data → tie.After-header_at-header
 header c = c.before.before.before.before.before.before
 
-small : (h : tie.After-header-at) → (h.header_at.result.subaddress < 64) × (h.header_at.result.count < 64)
+small : (h : tie.After-header_at-header) → (h.header_at-header.result.subaddress < 64) × (h.header_at-header.result.count < 64)
 small h =
-    let e = h.header_at.ensures in
+    let e = h.header_at-header.ensures in
     let bs = bits_at (located h).before.before in
     (subst (λ (n : ℕ). n < 64) (sym e.subaddress) (number_lt 6 bs), subst (λ (n : ℕ). n < 64) (sym e.count) (number_lt 6 (drop 6 bs)))
 
-front : (c : tie.Else7) → Front (cursor-at (located (header c)).before.before).free (bits_at (located (header c)).before.before)
+front : (c : tie.Else-plan-data) → Front (cursor-at (located (header c)).before.before).free (bits_at (located (header c)).before.before)
 front c =
     let h = header c in
-    let e = h.header_at.ensures in
-    let some = lt_of_le-ne zero-le (λ z. c.before.before.before.before.if5.false (sym z)) in
+    let e = h.header_at-header.ensures in
+    let some = lt_of_le-ne zero-le (λ z. c.before.before.before.before.if-count-eq0.false (sym z)) in
     record {
-      long = omega (arith, h.before.if4.left, bits-length (located h).before);
+      long = omega (arith, h.before.if-plan-place-lt-HEADER_BYTES.left, bits-length (located h).before);
       some = omega (arith, some, e.count);
-      from = omega (arith, c.before.before.if6.false, e.subaddress);
-      held = omega (arith, c.if7.false, e.count, data_length h);
+      from = omega (arith, c.before.before.if-subaddress-cursor.false, e.subaddress);
+      held = omega (arith, c.if-plan-data.false, e.count, data_length h);
     }
 
 -- the data are there
 found-requires : tie.Need-found-requires
 found-requires c κs =
     let h = header c in
-    let e = h.header_at.ensures in
+    let e = h.header_at-header.ensures in
     let k = small h in
-    (omega (arith, k.0, k.1), omega (arith, c.if7.false, e.placed.inside, (located h).before.before.before.before.before.good.0.0))
+    (omega (arith, k.0, k.1), omega (arith, c.if-plan-data.false, e.placed.inside, (located h).before.before.before.before.before.good.0.0))
 
-returns-8 : tie.Need-returns-8
+returns-8 : tie.Need-returns
 returns-8 c =
     let s = c.before in
     let h = header s in
@@ -157,7 +157,7 @@ returns-8 c =
     let n = (cursor-at w).left - 1 in
     let there : in_front (cursor-at w).free (bits_at w) ≡ true =
     holds (in_front (cursor-at w).free (bits_at w)) (front_from (cursor-at w).free (bits_at w) (front s)) in
-    c.found.ensures ∙ header_first (plan-at w) (cursor-at w).place h.header_at.result n (cursor-at w).order h.header_at.ensures
+    c.found.ensures ∙ header_first (plan-at w) (cursor-at w).place-1 h.header_at-header.result n (cursor-at w).order h.header_at-header.ensures
     ∙ sym (in_front_lem (plan-at w) (cursor-at w) (right (located h).before) n true (turn (located h)) there)
 
 pub next_spec : {M : Type 1} → statement M

@@ -15,8 +15,8 @@ returns c =
     let f = a.before.before.before.before.before in
     let w = f.before.before.before.before in
     let h = w.before.before.before.before.requires in
-    let first = more (put w.put.ensures.0 w.put.ensures.1) f.put-hex.ensures (omega arith) in
-    wider reason_width (omega arith) (more (more first (put a.put2.ensures.0 a.put2.ensures.1) (omega arith)) s.put-hex2.ensures (omega arith))
+    let first = more (put w.put-word.ensures.0 w.put-word.ensures.1) f.put_hex-first.ensures (omega arith) in
+    wider reason_width (omega arith) (more (more first (put a.put-and.ensures.0 a.put-and.ensures.1) (omega arith)) s.put_hex.ensures (omega arith))
 
 pub put_bridge_spec : {M : Type 1} → statement M
 put_bridge_spec =

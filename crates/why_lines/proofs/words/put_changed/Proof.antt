@@ -20,7 +20,7 @@ returns c =
     let n = p.before.before.before.before.before in
     let start = n.before.before.before in
     let h = start.requires in
-    let w = more n.put-column.ensures (put p.put.ensures.0 p.put.ensures.1) (omega arith) in
+    let w = more n.put_column-name.ensures (put p.put.ensures.0 p.put.ensures.1) (omega arith) in
     wider reason_width (omega arith) (same_text (ap (λ (t : List ℕ). t ++ ascii " changed") (name-is (named start.args.field))) w)
 
 pub put_changed_spec : {M : Type 1} → statement M

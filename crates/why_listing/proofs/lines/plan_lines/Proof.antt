@@ -21,90 +21,90 @@ use Rattle.why_listing.proofs.WalkLaws.{Listing, listing_begins, lines-room, lis
 use Rattle.why_listing.proofs.lines.plan_lines.Statement.{statement}
 use Rattle.why_listing.proofs.lines.plan_lines.Tie as tie
 
-abbrev invariant-loop : tie.invariant-loop
+abbrev invariant-loop : tie.invariant-loop-subaddress
 invariant-loop line₀ at image plan cursor₀ place₀ line cursor place = Listing (house_reason image) line₀ at plan line cursor place
 
-abbrev decreases-loop : tie.decreases-loop
+abbrev decreases-loop : tie.decreases-loop-subaddress
 decreases-loop line₀ at image plan cursor₀ place₀ line cursor place = cursor.left
 
 -- where the function was entered
-abbrev start : tie.At-loop invariant-loop decreases-loop → tie.Start invariant-loop decreases-loop
+abbrev start : tie.At-loop-subaddress invariant-loop decreases-loop → tie.Start invariant-loop decreases-loop
 start c = c.before.before.before.before.before
 
-abbrev plan-at : tie.At-loop invariant-loop decreases-loop → List ℕ
+abbrev plan-at : tie.At-loop-subaddress invariant-loop decreases-loop → List ℕ
 plan-at c = (start c).args.plan.now
 
-abbrev why : tie.At-loop invariant-loop decreases-loop → ℕ → Reason
+abbrev why : tie.At-loop-subaddress invariant-loop decreases-loop → ℕ → Reason
 why c = house_reason (start c).args.image.now
 
-loop-holds : tie.Need-loop-init invariant-loop decreases-loop
+loop-holds : tie.Need-loop-subaddress-init invariant-loop decreases-loop
 loop-holds c =
     let k = c.before in
     let s = k.before.before.before in
-    listing_begins (house_reason s.args.image.now) s.args.line.now s.args.plan.now s.args.at c.begin.result c.begin.ensures
-    (λ i. (k.shared-slice-known2.given i).fits) (omega (arith, s.requires.1.0))
+    listing_begins (house_reason s.args.image.now) s.args.line-1.now s.args.plan.now s.args.at c.begin-cursor.result c.begin-cursor.ensures
+    (λ i. (k.shared_slice_known-2-1.given i).fits) (omega (arith, s.requires.1.0))
 
 -- what the step says
-said : (c : tie.After-next invariant-loop decreases-loop) (r : Step) → c.next.result ≡ r → Stepped (plan-at c.before) c.before.loop.cursor r
+said : (c : tie.After-next invariant-loop decreases-loop) (r : Step) → c.next.result ≡ r → Stepped (plan-at c.before) c.before.loop-subaddress.cursor r
 said c r e =
     let plan = plan-at c.before in
-    let cursor = c.before.loop.cursor in
+    let cursor = c.before.loop-subaddress.cursor in
     subst (Stepped plan cursor) (sym c.next.ensures ∙ e) (stepped plan cursor)
 
-returns : tie.Need-returns invariant-loop decreases-loop
+returns : tie.Need-returns-in_default invariant-loop decreases-loop
 returns c =
     let n = c.before in
-    let l = n.before.loop.invariant in
+    let l = n.before.loop-subaddress.invariant in
     let s = start n.before in
     let plan = plan-at n.before in
-    let all = all_passed l.walked s.pre.0 n.next.result c.match.keys2 (said n n.next.result refl) in
+    let all = all_passed l.walked s.pre.0 n.next.result c.in-Transaction.keys2 (said n n.next.result refl) in
     same_text (ap (flat_map (transaction_text (why n.before))) (sym all))
     (wider (byte_width * length plan) (omega (arith, plan-width plan s.pre.0, ap list_width all)) l.written)
 
 -- the transaction that was found
-went : (c : tie.After-subaddress invariant-loop decreases-loop)
-    → Went (plan-at c.before.before.before) c.before.before.before.loop.cursor c.subaddress.given.0.0 c.subaddress.given.0.1.0
-    c.subaddress.given.0.1.1.0 c.subaddress.given.0.1.1.1.0
-went c = said c.before.before _ c.subaddress.given.1
+went : (c : tie.In-Transaction-2 invariant-loop decreases-loop)
+    → Went (plan-at c.before.before.before) c.before.before.before.loop-subaddress.cursor c.subaddress-1.given.0.0 c.subaddress-1.given.0.1.0
+    c.subaddress-1.given.0.1.1.0 c.subaddress-1.given.0.1.1.1.0
+went c = said c.before.before _ c.subaddress-1.given.1
 
 -- its data were copied
-abbrev found : tie.After-copy-data invariant-loop decreases-loop → tie.After-subaddress invariant-loop decreases-loop
+abbrev found : tie.After-copy_data invariant-loop decreases-loop → tie.In-Transaction-2 invariant-loop decreases-loop
 found c = c.before.before.before
 
-copied : (c : tie.After-copy-data invariant-loop decreases-loop) → (let g = (found c).subaddress.given.0 in
-    (take (g.1.0 - 0) c.copy-data.new.1.1.0 ≡ first_bytes g.1.0 (left_at (plan-at (found c).before.before.before) g.1.1.0))
-    × (g.1.0 ≤ length c.copy-data.new.1.1.0))
-copied c = data_in_front (went (found c)) c.copy-data.new.1.1.0 c.copy-data.ensures
+copied : (c : tie.After-copy_data invariant-loop decreases-loop) → (let g = (found c).subaddress-1.given.0 in
+    (take (g.1.0 - 0) c.copy_data.new.1.1.0 ≡ first_bytes g.1.0 (left_at (plan-at (found c).before.before.before) g.1.1.0))
+    × (g.1.0 ≤ length c.copy_data.new.1.1.0))
+copied c = data_in_front (went (found c)) c.copy_data.new.1.1.0 c.copy_data.ensures
 
 -- as many as the header says
-as_many : (c : tie.After-copy-data invariant-loop decreases-loop) → (let n = (found c).subaddress.given.0.1.0 in length (take (n - 0) c.copy-data.new.1.1.0) ≡ n)
+as_many : (c : tie.After-copy_data invariant-loop decreases-loop) → (let n = (found c).subaddress-1.given.0.1.0 in length (take (n - 0) c.copy_data.new.1.1.0) ≡ n)
 as_many c = ap length (copied c).0 ∙ first_bytes-length _ _
 
 -- there is room for the lines
-room : (c : tie.After-copy-data invariant-loop decreases-loop) → (let l = (found c).before.before.before.loop in
-    l.place + transaction_width (found c).subaddress.given.0.1.0 ≤ length l.line)
+room : (c : tie.After-copy_data invariant-loop decreases-loop) → (let l = (found c).before.before.before.loop-subaddress in
+    l.place + transaction_width (found c).subaddress-1.given.0.1.0 ≤ length l.line-1)
 room c =
     let a = (found c).before.before.before in
     let s = start a in
-    omega (arith, lines-room a.loop.inv s.pre.0 s.pre.1.0 (went (found c)), kept a.loop.inv.written)
+    omega (arith, lines-room a.loop-subaddress.inv s.pre.0 s.pre.1.0 (went (found c)), kept a.loop-subaddress.inv.written)
 
-transaction-lines-requires : tie.Need-transaction-lines-requires invariant-loop decreases-loop
+transaction-lines-requires : tie.Need-transaction_lines-place-requires invariant-loop decreases-loop
 transaction-lines-requires c κs =
     let d = c.before.before.before.before in
     let g = went (found d) in
     let many = as_many d in
     (omega (arith, room d), ((start (found d).before.before.before).pre.1.1, omega (arith, g.low, g.few)))
 
-loop-again : tie.Need-loop-preserved invariant-loop decreases-loop
+loop-again : tie.Need-loop-subaddress-preserved invariant-loop decreases-loop
 loop-again c =
     let p = c.before.before in
     let d = p.before.before.before.before.before in
     let f = found d in
     let a = f.before.before.before in
     let s = start a in
-    let text : List ℕ → List ℕ = λ bs. transaction_text (why a) (record { subaddress = f.subaddress.given.0.0; bytes = bs }) in
-    listing_goes a.loop.inv s.pre.0 s.pre.1.0 (went f)
-    (wider _ (omega (arith, as_many d)) (same_text (ap text (copied d).0) p.transaction-lines.ensures))
+    let text : List ℕ → List ℕ = λ bs. transaction_text (why a) (record { subaddress = f.subaddress-1.given.0.0; bytes = bs }) in
+    listing_goes a.loop-subaddress.inv s.pre.0 s.pre.1.0 (went f)
+    (wider _ (omega (arith, as_many d)) (same_text (ap text (copied d).0) p.transaction_lines-place.ensures))
 
 pub plan_lines_spec : {M : Type 1} → statement M
 plan_lines_spec =
@@ -116,7 +116,7 @@ plan_lines_spec =
     loop-holds
     (λ c κs. search rules)
     (λ c. search rules)
-    (λ c. kept c.before.before.loop.invariant.written)
+    (λ c. kept c.before.before.loop-subaddress.invariant.written)
     returns
     (λ c. refl)
     (λ c κs. search rules)

@@ -19,62 +19,62 @@ record Inv (why : ℕ → Reason) (line₀ : List ℕ) (at first count : ℕ) (l
   written : Put (register_width * i) line₀ at text line place
   rest : text ++ lines_from why first count i ≡ register_lines why count first
 
-abbrev invariant-loop : tie.invariant-loop
+abbrev invariant-loop : tie.invariant-loop-i
 invariant-loop line₀ at image first count place₀ i₀ line place i = Inv (house_reason image) line₀ at first count line place i
 
-abbrev decreases-loop : tie.decreases-loop
+abbrev decreases-loop : tie.decreases-loop-i
 decreases-loop line₀ at image first count place₀ i₀ line place i = count - i
 
 -- where the function was entered, and the reasons
-abbrev start : tie.At-loop invariant-loop decreases-loop → tie.Start invariant-loop decreases-loop
+abbrev start : tie.At-loop-i invariant-loop decreases-loop → tie.Start invariant-loop decreases-loop
 start c = c.before.before.before
 
-abbrev why : tie.At-loop invariant-loop decreases-loop → ℕ → Reason
+abbrev why : tie.At-loop-i invariant-loop decreases-loop → ℕ → Reason
 why c = house_reason (start c).args.image.now
 
-loop-holds : tie.Need-loop-init invariant-loop decreases-loop
+loop-holds : tie.Need-loop-i-init invariant-loop decreases-loop
 loop-holds c =
     let s = c.before.before in
     let a = s.args in
     record {
       inside = omega arith;
       text = [];
-      written = unwritten a.line.now a.at (omega (arith, s.requires.0));
+      written = unwritten a.line-1.now a.at (omega (arith, s.requires.0));
       rest = lines-all (house_reason a.image.now) a.first a.count;
     }
 
-register-line-requires : tie.Need-register-line-requires invariant-loop decreases-loop
+register-line-requires : tie.Need-register_line-place-requires invariant-loop decreases-loop
 register-line-requires c κs =
     let t = c.before in
-    let w = t.before.loop.invariant.written in
+    let w = t.before.loop-i.invariant.written in
     let s = start t.before in
-    (omega (arith, kept w, w.most, s.pre.0, t.loop-test.true), s.pre.1.0)
+    (omega (arith, kept w, w.most, s.pre.0, t.loop-i-test.true), s.pre.1.0)
 
-loop-again : tie.Need-loop-preserved invariant-loop decreases-loop
+loop-again : tie.Need-loop-i-preserved invariant-loop decreases-loop
 loop-again c =
     let p = c.before.before in
     let t = p.before.before in
-    let l = t.before.loop in
+    let l = t.before.loop-i in
     let s = start t.before in
     let a = s.args in
     let r = a.first + l.i in
     let one = register_line r (why t.before r) in
     record {
-      inside = omega (arith, t.loop-test.true);
+      inside = omega (arith, t.loop-i-test.true);
       text = l.invariant.text ++ one;
       written =
           wider (register_width * (l.i + 1)) (omega arith)
-          (more l.invariant.written p.register-line.ensures (omega (arith, s.pre.0, t.loop-test.true)));
+          (more l.invariant.written p.register_line-place.ensures (omega (arith, s.pre.0, t.loop-i-test.true)));
       rest =
           append_assoc l.invariant.text one (lines_from (why t.before) a.first a.count (l.i + 1))
-          ∙ ap (λ (x : List ℕ). l.invariant.text ++ x) (sym (lines_turn (why t.before) a.first a.count l.i t.loop-test.true)) ∙ l.invariant.rest;
+          ∙ ap (λ (x : List ℕ). l.invariant.text ++ x) (sym (lines_turn (why t.before) a.first a.count l.i t.loop-i-test.true)) ∙ l.invariant.rest;
     }
 
 returns : tie.Need-returns invariant-loop decreases-loop
 returns c =
-    let v = c.before.loop.invariant in
+    let v = c.before.loop-i.invariant in
     let a = (start c.before).args in
-    let none = lines_end (why c.before) a.first a.count c.before.loop.i c.loop-test.false in
+    let none = lines_end (why c.before) a.first a.count c.before.loop-i.i c.loop-i-test.false in
     same_text (sym (append-nil v.text) ∙ ap (λ (x : List ℕ). v.text ++ x) (sym none) ∙ v.rest)
     (wider (register_width * a.count) (omega (arith, v.inside)) v.written)
 
@@ -85,10 +85,10 @@ register_lines_spec =
     invariant-loop
     decreases-loop
     loop-holds
-    (λ c. let t = c.before in record { fits = omega (arith, (start t.before).pre.1.1, t.loop-test.true) })
+    (λ c. let t = c.before in record { fits = omega (arith, (start t.before).pre.1.1, t.loop-i-test.true) })
     register-line-requires
-    (λ c. let t = c.before.before.before.before in record { fits = omega (arith, (start t.before).pre.1.1, t.loop-test.true) })
-    (λ c. omega (arith, c.before.before.before.before.loop-test.true))
+    (λ c. let t = c.before.before.before.before in record { fits = omega (arith, (start t.before).pre.1.1, t.loop-i-test.true) })
+    (λ c. omega (arith, c.before.before.before.before.loop-i-test.true))
     loop-again
-    (λ c. kept c.before.loop.invariant.written)
+    (λ c. kept c.before.loop-i.invariant.written)
     returns)
