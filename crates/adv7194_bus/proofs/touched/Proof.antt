@@ -24,7 +24,7 @@ unfolding keeps_rules marks
 past subaddress zero h = refl
 past subaddress (suc n) h = rw (ne_eqb (suc n) 0 (λ q. omega arith), lt-leb (subaddress + suc n) register_count h)
 
-returns : tie.Need-returns
+returns : tie.Need-returns-then-end-gt-REGISTERS
 returns c = let a = c.before.args in sym (past a.subaddress a.count c.if-end-gt-REGISTERS.true)
 
 -- within the registers it is the test on the map of those touched

@@ -23,7 +23,7 @@ refused s n f e =
     clauses a.extended.now a.ordinary.now a.address a.plan-1.now a.plan-1.now (refused_at n f) (sym e)
     (sym (refused_left a.extended.now a.ordinary.now a.address a.plan-1.now n f e))
 
-returns : tie.Need-returns
+returns : tie.Need-returns-then-not-address_right
 returns c =
     let r = c.before in
     let s = r.before.before in

@@ -36,7 +36,7 @@ long c =
 cost : (s : tie.Start) → cost_of (characters s / 2) (characters s) ≡ bus_bytes (list s)
 cost s = let k = known s in ap₂ cost_of (sym k.transactions) (sym k.bytes) ∙ sym (bytes_count (list s))
 
-returns : tie.Need-returns
+returns : tie.Need-returns-then-plan-length
 returns c =
     let p = c.before in
     let s = p.before.before in

@@ -23,7 +23,7 @@ board s = board_of s.args.image.now s.args.known
 abbrev pair : tie.Start → ℕ
 pair s = s.args.pair
 
-returns : tie.Need-returns
+returns : tie.Need-returns-then-image
 returns c = let s = c.before.before in answers (board s) (pair s) (wrong_length (board s) (pair s) c.if-image.true)
 
 returns-2 : tie.Need-returns-then-pair-ge-PAIRS
@@ -50,7 +50,7 @@ returns-3 c =
     let k = c.before in
     let s = start k in
     let t = tests k in
-    answers (board s) (pair s) (unknown-pair (board s) (pair s) t.before.if-image.left t.if-pair-ge-PAIRS.left (sym (known k) ∙ not-true _ c.if-not-has.true))
+    answers (board s) (pair s) (unknown-pair (board s) (pair s) t.before.if-image.false t.if-pair-ge-PAIRS.false (sym (known k) ∙ not-true _ c.if-not-has.true))
 
 -- they are, past that test
 are-known : (c : tie.Else-not-has) → both_known (board (start c.before)) (pair (start c.before)) ≡ true
@@ -74,7 +74,7 @@ returns-4 c =
     let s = start p.before in
     let t = tests p.before in
     answers (board s) (pair s)
-    (even_ones (board s) (pair s) t.before.if-image.left t.if-pair-ge-PAIRS.left (are-known p) (sym (odd o) ∙ not-true _ c.if-not-is_odd.true))
+    (even_ones (board s) (pair s) t.before.if-image.false t.if-pair-ge-PAIRS.false (are-known p) (sym (odd o) ∙ not-true _ c.if-not-is_odd.true))
 
 returns-5 : tie.Need-returns
 returns-5 c =
@@ -85,7 +85,7 @@ returns-5 c =
     let i = (board s).registers in
     let r = pair_register (pair s) in
     answers (board s) (pair s)
-    (odd_ones_lem (board s) (pair s) t.before.if-image.left t.if-pair-ge-PAIRS.left (are-known p) (sym (odd o) ∙ not-false _ c.if-not-is_odd.false)
+    (odd_ones_lem (board s) (pair s) t.before.if-image.false t.if-pair-ge-PAIRS.false (are-known p) (sym (odd o) ∙ not-false _ c.if-not-is_odd.false)
     ∙ ap (λ (k : ℕ). good (record { first = character_in (get_or i r 0); second = character_in (get_or i k 0) })) (sym (add-one r)))
 
 pub read_captions_spec : {M : Type 1} → statement M

@@ -14,7 +14,7 @@ use Rattle.adv7194_captions.proofs.PairLaws.{none_right, length_wrong, two_right
 use Rattle.adv7194_captions.proofs.pair_right.Statement.{statement}
 use Rattle.adv7194_captions.proofs.pair_right.Tie as tie
 
-returns : tie.Need-returns
+returns : tie.Need-returns-then-pair-eq0
 returns c = sym (none_right c.before.args.pair.now c.if-pair-eq0.true)
 
 returns-2 : tie.Need-returns-then-pair-ne-PAIR

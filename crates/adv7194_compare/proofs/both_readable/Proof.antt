@@ -12,7 +12,7 @@ first_holds {s} {t} {p} {q} e h f = let g : p ≡ true = sym e ∙ h in rw g f
 first_fails : {s p : Bool} (q : Bool) → s ≡ p → s ≡ false → false ≡ (p && q)
 first_fails {s} {p} q e h = let g : p ≡ false = sym e ∙ h in rw g
 
-returns : tie.Need-returns
+returns : tie.Need-returns-then-can_be_read
 returns c = first_holds c.before.before.can_be_read.ensures c.before.if-can_be_read.true c.can_be_read-then-can_be_read.ensures
 
 returns-2 : tie.Need-returns

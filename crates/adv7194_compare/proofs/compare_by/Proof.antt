@@ -13,7 +13,7 @@ bytes : (c : tie.After-shared_slice_known-2-1) (r : ℕ)
     → (get_or c.before.before.args.a.now r 0 < 2 ^ 8) × (get_or c.before.before.args.b.now r 0 < 2 ^ 8)
 bytes c r = ((c.before.shared_slice_known-1.given r).fits, (c.shared_slice_known-2-1.given r).fits)
 
-returns : tie.Need-returns
+returns : tie.Need-returns-then-not-whole
 returns c =
     let w = c.before in
     let s = w.before.before.before.args in

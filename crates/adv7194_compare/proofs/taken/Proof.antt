@@ -9,7 +9,7 @@ use Rattle.adv7194_compare.proofs.ReadableLaws.{taken-good, taken_left}
 use Rattle.adv7194_compare.proofs.taken.Statement.{statement}
 use Rattle.adv7194_compare.proofs.taken.Tie as tie
 
-returns : tie.Need-returns
+returns : tie.Need-returns-in_default
 returns c =
     let r = c.before.before.before.read-answer in
     let a = c.before.before.before.before.before.before.args in (

@@ -55,7 +55,7 @@ cast-of-pair-2 c = rw (same-q c.before.before.before) (cast-inside c.before.befo
 add-of-pair : tie.Need-overflow_add-p
 add-of-pair c = rw (same-p c.before.before.before, same-q c.before.before.before) (record { fits = omega (arith, (in_p c).high, (in-q c).high) })
 
-returns : tie.Need-returns
+returns : tie.Need-returns-then-inside
 returns c =
     let s = c.before.before.before.before in
     let p = in_p c.before in

@@ -25,7 +25,7 @@ pack-requires : tie.Need-pack-requires
 pack-requires c κs =
     let m = c.before in
     let s = start m in
-    plannable s.args.board s.args.wanted.now s.args.fixed s.args.limit s.pre m.register_maps-maps.result
+    plannable s.args.board s.args.wanted.now s.args.fixed s.args.limit s.requires m.register_maps-maps.result
     (m.register_maps-maps.ensures s.args.limit)
 
 -- the plan that is packed is the aim's
@@ -34,7 +34,7 @@ same : (m : tie.After-register_maps-maps) → (let a = (start m).args in
     plan_by w.needed w.allowed w.held a.limit a.wanted.now ≡ plan_of (aim_by a.board a.wanted.now a.fixed a.limit))
 same m =
     let s = start m in
-    plan-is s.args.board s.args.wanted.now s.args.fixed s.args.limit s.pre m.register_maps-maps.result
+    plan-is s.args.board s.args.wanted.now s.args.fixed s.args.limit s.requires m.register_maps-maps.result
     (m.register_maps-maps.ensures s.args.limit)
 
 -- what packing answers and leaves is what it does of that plan

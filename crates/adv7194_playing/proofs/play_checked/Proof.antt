@@ -90,7 +90,7 @@ returns-3 c =
     let w = written_at k in
     let a = (start w).args in
     let e = t.transactions-1.given.1 in
-    let r = (start w).pre in
+    let r = (start w).requires in
     let p = own_played a.kind (board w) a.used a.own o.if-used-own.false a.plan.now r.0 r.1 r.2 _ _ (answered w _ e) (wrote w _ e) in
     (p.0, ap (λ (l : List ℕ). board_of l t.transactions-1.given.0.1.0) (became k) ∙ p.1)
 

@@ -43,7 +43,7 @@ promised : (s : tie.Start) {v : Verdict Bool} {registers : List ℕ} {map : ℕ}
     → Promised s v (board_of registers map)
 promised s l = let p = as_left l in (p.0, (p.1, (exactly_played (call s) p.0, taken s)))
 
-returns : tie.Need-returns
+returns : tie.Need-returns-then-image
 returns c =
     let s = c.before.before.before in
     promised s (image_fault (call s) s.args.known c.if-image.true)

@@ -26,7 +26,7 @@ invariant-loop kind plan registers₀ known cursor₀ transactions₀ map₀ reg
     Passed kind plan known registers₀ map registers cursor transactions
 
 abbrev decreases-loop : tie.decreases-loop-subaddress
-decreases-loop kind plan registers₀ known cursor₀ transactions₀ map₀ registers cursor transactions map = cursor.left
+decreases-loop kind plan registers₀ known cursor₀ transactions₀ map₀ registers cursor transactions map = cursor.false
 
 -- where the function was entered
 abbrev start : tie.At-loop-subaddress invariant-loop decreases-loop → tie.Start invariant-loop decreases-loop
@@ -101,11 +101,11 @@ returns-5 : tie.Need-returns-then-not-takes_data invariant-loop decreases-loop
 returns-5 c =
     let a = c.before.before in
     let l = (found a).before.before.before in
-    data_answered (start l).args.kind l.loop-subaddress.inv (went (found a)) (start l).pre (header a) a.before.before.before.copy_data.ensures
+    data_answered (start l).args.kind l.loop-subaddress.invariant (went (found a)) (start l).requires (header a) a.before.before.before.copy_data.ensures
     (start l).args.known (sym c.before.takes_data.ensures ∙ not-true _ c.if-not-takes_data.true)
 
 add-transactions : tie.Need-overflow_add-transactions invariant-loop decreases-loop
-add-transactions c = let v = (found c.before.before).before.before.before.loop-subaddress.inv in record { fits = omega (arith, v.counts, v.walked.few) }
+add-transactions c = let v = (found c.before.before).before.before.before.loop-subaddress.invariant in record { fits = omega (arith, v.counts, v.walked.few) }
 
 -- its registers are joined to those known
 joined : (c : tie.After-takes-data-arg invariant-loop decreases-loop) (map : ℕ)
@@ -122,19 +122,19 @@ loop-again : tie.Need-loop-subaddress-preserved invariant-loop decreases-loop
 loop-again c =
     let a = c.before.before in
     let l = (found a).before.before.before in
-    written_on (start l).args.kind l.loop-subaddress.inv (went (found a)) (start l).pre (header a) a.before.before.before.copy_data.ensures
+    written_on (start l).args.kind l.loop-subaddress.invariant (went (found a)) (start l).requires (header a) a.before.before.before.copy_data.ensures
     (sym c.before.takes_data.ensures ∙ not-false _ c.if-not-takes_data.false) (joined a l.loop-subaddress.map)
 
 same-length-5 : tie.Need-shape_of-registers-then-not-takes_data invariant-loop decreases-loop
 same-length-5 c =
     let a = c.before.before in
     let l = (found a).before.before.before in
-    still_as_many (start l).args.kind l.loop-subaddress.inv (went (found a)) (start l).pre (header a) a.before.before.before.copy_data.ensures
+    still_as_many (start l).args.kind l.loop-subaddress.invariant (went (found a)) (start l).requires (header a) a.before.before.before.copy_data.ensures
 
 takes-data-requires : tie.Need-takes_data-requires invariant-loop decreases-loop
 takes-data-requires c κs =
     let l = (found c).before.before.before in
-    data_there (start l).args.kind l.loop-subaddress.inv (went (found c)) (start l).pre (header c) c.before.before.before.copy_data.ensures
+    data_there (start l).args.kind l.loop-subaddress.invariant (went (found c)) (start l).requires (header c) c.before.before.before.copy_data.ensures
 
 pub write_plan_spec : {M : Type 1} → statement M
 write_plan_spec =
@@ -163,5 +163,5 @@ write_plan_spec =
     same-length-5
     returns-5
     add-transactions
-    (λ c. omega (arith, (went (found c.before.before)).left))
+    (λ c. omega (arith, (went (found c.before.before)).false))
     loop-again)

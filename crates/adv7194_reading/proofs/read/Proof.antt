@@ -41,7 +41,7 @@ judged c =
     ∙ ap₂ with_unknown (c.before.lowest_field.ensures ∙ lowest_unknown (board s) s.fits.known.fits) (image-judged r)
     ∙ judged_read (board s) (length s.args.numbers-1.now) lengths.before.if-image.false lengths.if-numbers-ne-NUMBERS.false
 
-returns : tie.Need-returns
+returns : tie.Need-returns-then-image
 returns c =
     let s = c.before.before in
     let a = s.args in

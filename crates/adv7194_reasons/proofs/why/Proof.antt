@@ -52,7 +52,7 @@ module _ (k : tie.After-check) where
 
   -- the image is one
   image : Image s.args.image.now
-  image = record { size = (right-at k).if-image.left; bytes = bytes (right-at k).before }
+  image = record { size = (right-at k).if-image.false; bytes = bytes (right-at k).before }
 
   -- the record that was made is the board
   board-is : k.before.before.before.board_of-board.result ≡ board s

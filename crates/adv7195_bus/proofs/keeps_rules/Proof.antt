@@ -7,7 +7,7 @@ use Rattle.adv7195_bus.specs.Rules.{keeps_rules}
 use Rattle.adv7195_bus.proofs.keeps_rules.Statement.{statement}
 use Rattle.adv7195_bus.proofs.keeps_rules.Tie as tie
 
-returns : tie.Need-returns
+returns : tie.Need-returns-then-count-eq0
 unfolding keeps_rules
 returns c = rw (eq-eqb _ _ c.if-count-eq0.true)
 

@@ -65,7 +65,7 @@ module _ (k : tie.After-want) where
   -- what was checked decides, and packing after it
   planned : planning_of image zs s.args.address (length plan) ≡ after (checked_as k.want.result) (packing_of (list_of image zs) (length plan))
   planned =
-      right-count image zs s.args.address (length plan) (long counted.before.before.before) (right counted.before) counted.if-numbers-ne-NUMBERS.left
+      right-count image zs s.args.address (length plan) (long counted.before.before.before) (right counted.before) counted.if-numbers-ne-NUMBERS.false
       ∙ ap (λ (v : Verdict (Unit {0})). after v (packing_of (list_of image zs) (length plan))) (sym k.want.ensures.0)
 
   -- the wanted image stands where the copy was

@@ -46,7 +46,7 @@ pack-requires c κs =
     let f = t.before in
     (plan_stays (image f) (wanted f) (start f).requires (found f).changed_registers-changed.result (found f).changed_registers-changed.ensures (stays t)).0
 
-returns : tie.Need-returns
+returns : tie.Need-returns-then-not-flips
 returns c =
     let k = c.before.before in
     let t = k.before.before in
@@ -73,7 +73,7 @@ module _ (c : tie.After-copied-bytes) where
 
   -- what is known of both images
   told : Told (image at) (wanted at) (found at).changed_registers-changed.result (restores (wanted at))
-  told = record { change = (start at).pre; differ = (found at).changed_registers-changed.ensures; back = refl }
+  told = record { change = (start at).requires; differ = (found at).changed_registers-changed.ensures; back = refl }
 
   -- the wanted bytes with 3E for 09
   abbrev bytes : List ℕ
@@ -86,13 +86,13 @@ part-pack-after-end : tie.Need-slice_bounds-pack_after-end
 part-pack-after-end c =
     let k = c.before.before in
     let f = at k in
-    omega (arith, ap length (bytes_are k), length-set (wanted f) 0x09 0x3e, (start f).pre.wants)
+    omega (arith, ap length (bytes_are k), length-set (wanted f) 0x09 0x3e, (start f).requires.wants)
 
 pack-after-requires : tie.Need-pack_after-requires
 pack-after-requires c κs =
     let k = c.before.before.before in
     let f = at k in
-    flip_joinable (image f) (wanted f) (start f).pre (first k) k.before.beside-needed.result k.before.before.preparing_start-start.ensures.0.1
+    flip_joinable (image f) (wanted f) (start f).requires (first k) k.before.beside-needed.result k.before.before.preparing_start-start.ensures.0.1
     (k.before.beside-needed.ensures (image f) (wanted f) (told k)) (bytes k) (bytes_are k)
 
 returns-2 : tie.Need-returns
@@ -102,7 +102,7 @@ returns-2 c =
     let f = at k in
     let plan = (start f).args.plan-1.now in
     let same =
-    plan_flips (image f) (wanted f) (start f).pre (first k) k.before.beside-needed.result k.before.before.preparing_start-start.ensures.0.1
+    plan_flips (image f) (wanted f) (start f).requires (first k) k.before.beside-needed.result k.before.before.preparing_start-start.ensures.0.1
     (k.before.beside-needed.ensures (image f) (wanted f) (told k)) (bytes k) (bytes_are k)
     (k.before.before.preparing_start-start.ensures.1 (image f) (wanted f) (told k)) (sym (flips-is f) ∙ not-false _ (turn k).if-not-flips.false) in (
       p.pack_after.ensures.0 ∙ ap (λ (ts : List Transaction). packing_of ts (length plan)) same,

@@ -35,7 +35,7 @@ promised : (s : tie.Start) {v : Verdict Bool} {registers : List ℕ} {map : ℕ}
     → (v ≡ play_of (call s)) × ((registers ≡ registers_left (call s)) × (Exactly (row_played (call s)) play_order (acknowledged (call s)) v × Taken s))
 promised s l = (l.answer, (l.stored, (exactly_played (call s) l.answer, taken s)))
 
-returns : tie.Need-returns
+returns : tie.Need-returns-then-image
 returns c = let s = c.before.before.before in promised s (image_fault (call s) no_map c.if-image.true)
 
 returns-2 : tie.Need-returns-then-not-address_right

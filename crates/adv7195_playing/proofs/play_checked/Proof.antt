@@ -86,7 +86,7 @@ returns-3 c =
     let t = o.before.before in
     let w = written_at k in
     let a = (start w).args in
-    let r = (start w).pre in
+    let r = (start w).requires in
     let p =
     own_played (image w) a.used a.own o.if-used-own.false a.plan.now r.0 r.1 r.2 _ _ (answered w _ t.transactions-1.given.1) (wrote w) in
     (p.0, became k ∙ p.1)

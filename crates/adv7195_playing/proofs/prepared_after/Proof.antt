@@ -6,7 +6,7 @@ use Rattle.adv7195_bus.specs.Order.{mode_register6}
 use Rattle.adv7195_playing.proofs.prepared_after.Statement.{statement}
 use Rattle.adv7195_playing.proofs.prepared_after.Tie as tie
 
-returns : tie.Need-returns
+returns : tie.Need-returns-then-first-gt-MODE_REGISTER_6
 returns c = rw (lt-leb c.before.args.subaddress mode_register6 c.if-first-gt-MODE_REGISTER_6.true)
 
 returns-2 : tie.Need-returns-then-first-count-le-MODE_REGISTER_6

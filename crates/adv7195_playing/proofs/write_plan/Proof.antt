@@ -21,7 +21,7 @@ abbrev invariant-loop : tie.invariant-loop-subaddress
 invariant-loop plan registers₀ cursor₀ transactions₀ prepared₀ registers cursor transactions prepared = Passed plan registers₀ prepared registers cursor transactions
 
 abbrev decreases-loop : tie.decreases-loop-subaddress
-decreases-loop plan registers₀ cursor₀ transactions₀ prepared₀ registers cursor transactions prepared = cursor.left
+decreases-loop plan registers₀ cursor₀ transactions₀ prepared₀ registers cursor transactions prepared = cursor.false
 
 -- where the function was entered
 abbrev start : tie.At-loop-subaddress invariant-loop decreases-loop → tie.Start invariant-loop decreases-loop
@@ -45,7 +45,7 @@ returns : tie.Need-returns-in-Fault invariant-loop decreases-loop
 returns c = let n = c.before.before in fault_answered n.before.loop-subaddress.invariant (said n _ c.enum_told-1.given.1)
 
 returns-2 : tie.Need-returns-in-End invariant-loop decreases-loop
-returns-2 c = let n = c.before.before in end_answered n.before.loop-subaddress.invariant (start n.before).pre (said n _ c.enum_told-in-End-1.given.1)
+returns-2 c = let n = c.before.before in end_answered n.before.loop-subaddress.invariant (start n.before).requires (said n _ c.enum_told-in-End-1.given.1)
 
 -- the transaction that was found
 went : (c : tie.In-Transaction-2 invariant-loop decreases-loop)
@@ -72,7 +72,7 @@ kept d = let e = d.before.before.before in sym e.before.keeps_rules.ensures ∙ 
 
 -- the registers are as many
 still : (d : tie.After-copy_data invariant-loop decreases-loop) → length d.copy_data.new.1.1.0 ≡ length (start (loop-at d)).args.registers-1.now
-still d = let l = loop-at d in still_as_many l.loop-subaddress.inv (start l).pre (went (found d)) (kept d) d.copy_data.ensures
+still d = let l = loop-at d in still_as_many l.loop-subaddress.invariant (start l).requires (went (found d)) (kept d) d.copy_data.ensures
 
 -- where they were written, from where the flip was tested
 abbrev copied_at : tie.After-flips-flipped invariant-loop decreases-loop → tie.After-copy_data invariant-loop decreases-loop
@@ -83,11 +83,11 @@ returns-4 c =
     let f = c.before.before.before in
     let d = copied_at f in
     let l = loop-at d in
-    order_answered l.loop-subaddress.inv (start l).pre (went (found d)) (kept d) d.copy_data.ensures f.flips-flipped.ensures c.if-flipped-prepared.true
+    order_answered l.loop-subaddress.invariant (start l).requires (went (found d)) (kept d) d.copy_data.ensures f.flips-flipped.ensures c.if-flipped-prepared.true
 
 add-transactions : tie.Need-overflow_add-transactions invariant-loop decreases-loop
 add-transactions c =
-    let v = (loop-at (copied_at c.before.before.before)).loop-subaddress.inv in
+    let v = (loop-at (copied_at c.before.before.before)).loop-subaddress.invariant in
     record { fits = omega (arith, v.counts, v.walked.few) }
 
 loop-again : tie.Need-loop-subaddress-preserved invariant-loop decreases-loop
@@ -95,7 +95,7 @@ loop-again c =
     let f = c.before.before.before in
     let d = copied_at f in
     let l = loop-at d in
-    written_on l.loop-subaddress.inv (start l).pre (went (found d)) (kept d) d.copy_data.ensures f.flips-flipped.ensures c.if-flipped-prepared.false
+    written_on l.loop-subaddress.invariant (start l).requires (went (found d)) (kept d) d.copy_data.ensures f.flips-flipped.ensures c.if-flipped-prepared.false
     c.before.prepared_after-prepared_now.ensures
 
 pub write_plan_spec : {M : Type 1} → statement M
@@ -119,11 +119,11 @@ write_plan_spec =
     returns-3
     (λ c. let l = c.before.before.before.before.before.before.before in omega (arith, as_many l.loop-subaddress.invariant, (start l).requires))
     (λ c κs. tt)
-    (λ c. let d = c.before.before.before in omega (arith, still d, (start (loop-at d)).pre))
+    (λ c. let d = c.before.before.before in omega (arith, still d, (start (loop-at d)).requires))
     (λ c κs. tt)
-    (λ c κs. let d = copied_at c.before in still d ∙ (start (loop-at d)).pre)
+    (λ c κs. let d = copied_at c.before in still d ∙ (start (loop-at d)).requires)
     (λ c. still (copied_at c.before.before.before))
     returns-4
     add-transactions
-    (λ c. omega (arith, (went (found (copied_at c.before.before.before))).left))
+    (λ c. omega (arith, (went (found (copied_at c.before.before.before))).false))
     loop-again)

@@ -23,7 +23,7 @@ start c = c.before.before.before.before.before.before.before
 abbrev lengths : tie.After-read-judged → tie.Else-numbers-ne-NUMBERS
 lengths c = c.before.before.before.before
 
-returns : tie.Need-returns
+returns : tie.Need-returns-then-image
 returns c =
     let a = c.before.before.args in
     answered a.image.now a.numbers-1.now (image-length a.image.now (length a.numbers-1.now) c.if-image.true) refl

@@ -45,7 +45,7 @@ short (ListedRefused r) p h e = let z : ◌≡◌ {A = ℕ} 0 1 = cc in absurd (
 abbrev start : tie.After-first_word → tie.Start
 start c = c.before.before.before.before
 
-returns : tie.Need-returns
+returns : tie.Need-returns-in_default
 returns c =
     let p = c.before.before in
     let m = p.before.before in

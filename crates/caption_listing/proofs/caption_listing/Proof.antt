@@ -9,7 +9,7 @@ use Rattle.caption_listing.proofs.caption_listing.Statement.{statement}
 use Rattle.caption_listing.proofs.caption_listing.Tie as tie
 
 -- two bytes
-returns : tie.Need-returns
+returns : tie.Need-returns-then-input-eq-PAIR
 returns c =
     let k = c.before.before in
     let p = k.before.before.before.before in

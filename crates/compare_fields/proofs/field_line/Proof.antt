@@ -6,7 +6,7 @@ use Rattle.compare_fields.proofs.LineLaws.{line_shown, line_left_out}
 use Rattle.compare_fields.proofs.field_line.Statement.{statement}
 use Rattle.compare_fields.proofs.field_line.Tie as tie
 
-returns : tie.Need-returns
+returns : tie.Need-returns-then-field_differs
 returns c =
     let x = c.before.before in
     let t = x.before.before in

@@ -31,13 +31,13 @@ field-line-requires : tie.Need-field_line-place-requires invariant-loop decrease
 field-line-requires c κs =
     let t = c.before in
     let g = t.before.loop-field.invariant in
-    (line_room g (inside t) (start t.before).pre, omega (arith, g.from), omega (arith, inside t))
+    (line_room g (inside t) (start t.before).requires, omega (arith, g.from), omega (arith, inside t))
 
 loop-again : tie.Need-loop-field-preserved invariant-loop decreases-loop
 loop-again c =
     let p = c.before.before in
     let t = p.before.before in
-    line_put t.before.loop-field.invariant (inside t) (start t.before).pre p.field_line-place.ensures
+    line_put t.before.loop-field.invariant (inside t) (start t.before).requires p.field_line-place.ensures
 
 returns : tie.Need-returns invariant-loop decreases-loop
 returns c = same_text (field-lines-all _ _ _) (all-put c.before.loop-field.invariant (omega (arith, c.loop-field-test.false)))

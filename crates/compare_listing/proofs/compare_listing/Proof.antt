@@ -15,7 +15,7 @@ handed : (out : List ℕ) {left text whole : List ℕ} {place : Place} → place
     → (place ≡ place_after out 0 whole) × (left ≡ appended out 0 whole)
 handed out p l e = (p ∙ ap (place_after out 0) e, l ∙ ap (appended out 0) e)
 
-returns : tie.Need-returns
+returns : tie.Need-returns-then-not-whole
 returns c =
     let p = c.before.before in
     let t = p.before.before in

@@ -8,7 +8,7 @@ use Rattle.listing.proofs.Beginning.{begins-short, begins-flag}
 use Rattle.listing.proofs.begins_with.Statement.{statement}
 use Rattle.listing.proofs.begins_with.Tie as tie
 
-returns : tie.Need-returns
+returns : tie.Need-returns-then-line-n
 returns c = let a = c.before.before.before.args in sym (begins-short a.word.now a.line.now c.if-line-n.true)
 
 returns-2 : tie.Need-returns

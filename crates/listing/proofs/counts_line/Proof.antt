@@ -65,7 +65,7 @@ first-written c =
     let w = word-written p in
     let more = decimal a.a ++ space in
     let long = length-append (decimal a.a) space in
-    next w more (omega (arith, first-few p, (start p).pre, w.here, length-zeros line_width))
+    next w more (omega (arith, first-few p, (start p).requires, w.here, length-zeros line_width))
     c.put_number-second.ensures.1 (omega (arith, c.put_number-second.ensures.0))
 
 -- then there is room for the second
@@ -74,7 +74,7 @@ second-room c =
     let p = before-first c in
     let a = (start p).args in
     let long = length-append a.word.now (decimal a.a ++ space) in
-    omega (arith, first-few p, second-few p, (start p).pre, (first-written c).here, long, length-append (decimal a.a) space)
+    omega (arith, first-few p, second-few p, (start p).requires, (first-written c).here, long, length-append (decimal a.a) space)
 
 put-number-requires-2 : tie.Need-put_number-length-requires
 put-number-requires-2 c κs =

@@ -5,7 +5,7 @@ use Rattle.listing.specs.Written.{word_of}
 use Rattle.listing.proofs.first_word.Statement.{statement}
 use Rattle.listing.proofs.first_word.Tie as tie
 
-returns : tie.Need-returns
+returns : tie.Need-returns-then-begins_with
 unfolding word_of
 returns c = rw (sym c.before.begins_with.ensures ∙ c.if-begins_with.true)
 

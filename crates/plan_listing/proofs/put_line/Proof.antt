@@ -65,16 +65,16 @@ loop-again c =
     let x = c.before.before in
     let i = inside c in
     let l = i.before.loop-i in
-    let v = l.inv in
+    let v = l.invariant in
     let bytes = (start i.before).args.bytes.now in
     let rest = drop (l.i + 1) bytes in
     let byte = get_or bytes l.i 0 in
-    let more : drop l.i bytes ≡ byte ∷ rest = drop-cons bytes l.i 0 i.loop-i-test.taken ∙ ap (λ (k : ℕ). byte ∷ drop k bytes) (sym (add-one l.i)) in
+    let more : drop l.i bytes ≡ byte ∷ rest = drop-cons bytes l.i 0 i.loop-i-test.true ∙ ap (λ (k : ℕ). byte ∷ drop k bytes) (sym (add-one l.i)) in
     let e = x.hex_byte-in-loop-i.ensures.1 in
     let room : l.end + (3 + length (data_text rest)) ≤ length l.out-1 =
-    omega (arith, data_length rest, length-drop (l.i + 1) bytes, v.here, v.kept, v.room, i.loop-i-test.taken) in
+    omega (arith, data_length rest, length-drop (l.i + 1) bytes, v.here, v.kept, v.room, i.loop-i-test.true) in
     record {
-      turns = omega (arith, i.loop-i-test.taken);
+      turns = omega (arith, i.loop-i-test.true);
       here = omega (arith, v.here);
       kept = ap length e ∙ length-appended _ _ _ ∙ length-set l.out-1 l.end _ ∙ v.kept;
       room = v.room;
@@ -98,7 +98,7 @@ returns c =
       omega (arith, v.here, v.turns, c.loop-i-test.false),
       no_datum l.out-1 l.end (end-room c) ∙ ap (λ (ds : List ℕ). appended l.out-1 l.end (data_text ds)) (sym none) ∙ sym v.goes
           ∙ ap (λ (o : List ℕ). appended o (a.at + 2) (data_text bytes)) (written c.before).hex_byte.ensures.1
-          ∙ line a.out-1.now a.at t (omega (arith, s.pre, data_length bytes)),
+          ∙ line a.out-1.now a.at t (omega (arith, s.requires, data_length bytes)),
     )
 
 pub put_line_spec : {M : Type 1} → statement M

@@ -22,7 +22,7 @@ abbrev invariant-loop : tie.invariant-loop-subaddress
 invariant-loop out₀ at plan cursor₀ end₀ out cursor end = Listing out₀ at plan out cursor end
 
 abbrev decreases-loop : tie.decreases-loop-subaddress
-decreases-loop out₀ at plan cursor₀ end₀ out cursor end = cursor.left
+decreases-loop out₀ at plan cursor₀ end₀ out cursor end = cursor.false
 
 -- where the function was entered
 abbrev start : tie.At-loop-subaddress invariant-loop decreases-loop → tie.Start invariant-loop decreases-loop
@@ -51,7 +51,7 @@ returns c =
     let l = n.before.loop-subaddress in
     let s = start n.before in
     let w = l.invariant.written in
-    let all = all_passed l.invariant.walked s.pre.0 n.next.result c.in-Transaction.keys2 (said n n.next.result refl) in (
+    let all = all_passed l.invariant.walked s.requires.0 n.next.result c.in-Transaction.keys2 (said n n.next.result refl) in (
       w.here ∙ ap (λ (ts : List Transaction). s.args.at + length (flat_map transaction_line ts)) (sym all),
       w.memory ∙ ap (λ (ts : List Transaction). appended s.args.out-1.now s.args.at (flat_map transaction_line ts)) (sym all),
     )
@@ -77,7 +77,7 @@ room : (c : tie.After-copy_data invariant-loop decreases-loop) → (let l = (fou
 room c =
     let a = (found c).before.before.before in
     let s = start a in
-    omega (arith, line_room a.loop-subaddress.inv s.pre.0 s.pre.1 (went (found c)), kept a.loop-subaddress.inv.written)
+    omega (arith, line_room a.loop-subaddress.invariant s.requires.0 s.requires.1 (went (found c)), kept a.loop-subaddress.invariant.written)
 
 -- the data copied are as many as the header says
 as_many : (c : tie.After-copy_data invariant-loop decreases-loop) → (let n = (found c).subaddress-1.given.0.1.0 in length (take (n - 0) c.copy_data.new.1.1.0) ≡ n)
@@ -94,7 +94,7 @@ loop-again c =
     let a = f.before.before.before in
     let s = start a in
     let line : List ℕ → List ℕ = λ bs. transaction_line (record { subaddress = f.subaddress-1.given.0.0; bytes = bs }) in
-    listing_goes a.loop-subaddress.inv s.pre.0 s.pre.1 (went f) p.put_line-end.new.0 p.put_line-end.result
+    listing_goes a.loop-subaddress.invariant s.requires.0 s.requires.1 (went f) p.put_line-end.new.0 p.put_line-end.result
     (p.put_line-end.ensures.1 ∙ ap (λ (bs : List ℕ). appended a.loop-subaddress.out-1 a.loop-subaddress.end (line bs)) (copied d).0)
     (omega (arith, p.put_line-end.ensures.0, as_many d))
 
@@ -117,5 +117,5 @@ put_lines_spec =
     (λ c. omega arith)
     (λ c. (copied c.before.before.before).1)
     put-line-requires
-    (λ c. omega (arith, (went (found c.before.before.before.before.before.before.before)).left))
+    (λ c. omega (arith, (went (found c.before.before.before.before.before.before.before)).false))
     loop-again)

@@ -28,7 +28,7 @@ lines_long c = omega (arith, lines-length (listed (unpack (start c).args.plan.no
 both : (c : tie.After-data_bytes-data) → length ((start c).args.heading.now ++ lines_of c) ≡ length (start c).args.heading.now + length (lines_of c)
 both c = length-append (start c).args.heading.now (lines_of c)
 
-returns : tie.Need-returns
+returns : tie.Need-returns-then-out-heading
 returns c =
     let d = c.before in
     let a = (start d).args in

@@ -42,7 +42,7 @@ kept c =
     ap length c.loop-i.invariant.wrote ∙ length-sets (stored c) a.at (shifted a.held a.before (take c.loop-i.i a.from.now))
     ∙ length-set a.to.now a.at c.before.between.result
 
-returns : tie.Need-returns invariant-loop decreases-loop
+returns : tie.Need-returns-then-from-eq0 invariant-loop decreases-loop
 returns c =
     let a = c.before.before.before.args in
     none a.to.now a.at a.held a.before a.from.now c.if-from-eq0.true
@@ -77,14 +77,14 @@ loop-again c =
     let bs = a.from.now in
     let xs = take l.i bs in
     let x = get_or bs l.i 0 in
-    let n : length xs ≡ l.i = length-take-le l.i bs l.inv.within in
+    let n : length xs ≡ l.i = length-take-le l.i bs l.invariant.within in
     let told : c.between-in-loop-i.result ≡ between a.held (last_from a.before xs) x =
-    c.between-in-loop-i.ensures ∙ ap (λ (y : ℕ). between a.held y x) (sym (last_taken a.before bs l.i l.inv.some l.inv.within)) in
+    c.between-in-loop-i.ensures ∙ ap (λ (y : ℕ). between a.held y x) (sym (last_taken a.before bs l.i l.invariant.some l.invariant.within)) in
     record {
       some = omega arith;
       within = omega (arith, tested c);
       wrote =
-          ap₂ (λ (m : List ℕ) (b : ℕ). set m (a.at + l.i) b) l.inv.wrote told
+          ap₂ (λ (m : List ℕ) (b : ℕ). set m (a.at + l.i) b) l.invariant.wrote told
           ∙ ap (λ (k : ℕ). set (sets (stored (turn c)) a.at (shifted a.held a.before xs)) (a.at + k)
           (between a.held (last_from a.before xs) x)) (sym n)
           ∙ more (stored (turn c)) a.at a.held a.before xs (x ∷ [])
@@ -106,7 +106,7 @@ returns-2 c =
 
 -- there is room for it
 room : tie.Need-bounds-to-at-in-loop-i invariant-loop decreases-loop
-room c = omega (arith, (start (turn c)).pre.0, kept (turn c), tested c)
+room c = omega (arith, (start (turn c)).requires.0, kept (turn c), tested c)
 
 add-to : tie.Need-overflow_add-to invariant-loop decreases-loop
 add-to c = record { fits = omega (arith, room c, kept (turn c), (start (turn c)).good.0.0) }

@@ -65,8 +65,8 @@ loop-again c =
     let longer = l.invariant.text ++ stands_for b (get_or a.numbers.now l.next (pos 0)) in
     let part = looked (stands_for b) g.type-inv g.ensures p.put_part-place.ensures in
     let next : l.next + taken b ≡ c.if-is_mark.next =
-    ⊎_elim (λ w. omega (arith, takes b (sym m.is_mark.ensures ∙ w.0.taken), w.1))
-    (λ w. omega (arith, takes b (sym m.is_mark.ensures ∙ w.0.left), w.1)) c.if-is_mark.branch in
+    ⊎_elim (λ w. omega (arith, takes b (sym m.is_mark.ensures ∙ w.0.true), w.1))
+    (λ w. omega (arith, takes b (sym m.is_mark.ensures ∙ w.0.false), w.1)) c.if-is_mark.branch in
     record {
       turns = omega (arith, t.loop-i-test.true);
       few = ⊎_elim (λ w. omega (arith, w.1, l.invariant.few)) (λ w. omega (arith, w.1, l.invariant.few)) c.if-is_mark.branch;

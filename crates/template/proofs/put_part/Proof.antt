@@ -16,7 +16,7 @@ put-signed-requires c κs =
     let a = start.args in
     omega (arith, start.requires, (decimal_part a.b a.n t.if-b-eq-DECIMAL.true).0)
 
-returns : tie.Need-returns
+returns : tie.Need-returns-then-b-eq-DECIMAL
 returns c =
     let p = c.before.before in
     let t = p.before.before in

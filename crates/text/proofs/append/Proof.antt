@@ -9,7 +9,7 @@ use Rattle.text.proofs.append.Tie as tie
 put-requires : tie.Need-put-requires
 put-requires c κs = leb-true _ _ (sym c.before.before.fits2.ensures ∙ c.before.if-fits.true)
 
-returns : tie.Need-returns
+returns : tie.Need-returns-then-fits
 returns c =
     let f = c.before.before.before.before in
     let p = c.before.before.put in

@@ -17,7 +17,7 @@ yes line at n h = sym (le-leb (at + n) (length line) h)
 no : (line : List ℕ) (at n : ℕ) → length line < at + n → false ≡ room line at n
 no line at n h = sym (lt-leb (at + n) (length line) h)
 
-returns : tie.Need-returns
+returns : tie.Need-returns-then-line-at
 returns c = let a = c.before.args in no a.line.now a.at a.n (omega arith)
 
 returns-2 : tie.Need-returns-then-n-line

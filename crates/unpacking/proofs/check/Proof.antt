@@ -26,7 +26,7 @@ abbrev invariant-loop : tie.invariant-loop-after
 invariant-loop plan cursor₀ transactions₀ cursor transactions = Inv plan cursor transactions
 
 abbrev decreases-loop : tie.decreases-loop-after
-decreases-loop plan cursor₀ transactions₀ cursor transactions = cursor.left
+decreases-loop plan cursor₀ transactions₀ cursor transactions = cursor.false
 
 abbrev plan-at : tie.At-loop-after invariant-loop decreases-loop → List ℕ
 plan-at c = c.before.before.before.args.plan.now
@@ -67,7 +67,7 @@ went : (c : tie.In-Transaction-2 invariant-loop decreases-loop)
 went c = said c.before.before _ c.after-1.given.1
 
 loop-less : tie.Need-loop-after-smaller invariant-loop decreases-loop
-loop-less c = omega (arith, (went c.before).left)
+loop-less c = omega (arith, (went c.before).false)
 
 loop-again : tie.Need-loop-after-preserved invariant-loop decreases-loop
 loop-again c =

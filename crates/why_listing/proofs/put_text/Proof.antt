@@ -25,7 +25,7 @@ use Rattle.why_listing.proofs.put_text.Tie as tie
 abbrev start : tie.After-put_first-first → tie.Start
 start c = c.before.before.before.before.before
 
-returns : tie.Need-returns
+returns : tie.Need-returns-in_default
 returns c =
     let p = c.before.before.before.before in
     let a = (start p).args in
@@ -66,7 +66,7 @@ plan-lines-requires c κs =
     let r = ready p in
     let w = f.put_first-first.ensures in (
       subst Accepted (sym (part p)) r.holds.well_formed_lem,
-      (omega (arith, few p, r.holds.within, r.most, kept w, w.most, (start f).pre.0), r.whole (counts p) refl),
+      (omega (arith, few p, r.holds.within, r.most, kept w, w.most, (start f).requires.0), r.whole (counts p) refl),
     )
 
 returns-2 : tie.Need-returns
@@ -78,7 +78,7 @@ returns-2 c =
     let a = (start f).args in
     let why = house_reason a.image.now in
     let plan = a.plan.now in
-    let both = more f.put_first-first.ensures l.plan_lines.ensures (omega (arith, few p, r.holds.within, r.most, (start f).pre.0)) in
+    let both = more f.put_first-first.ensures l.plan_lines.ensures (omega (arith, few p, r.holds.within, r.most, (start f).requires.0)) in
     wider text_width (omega (arith, few p, r.holds.within, r.most))
     (same_text (ap₂ (λ (v : Verdict Counts) (bs : List ℕ). first_line v ++ flat_map (transaction_text why) (listed (unpack bs))) (answer p) (part p)
     ∙ planned_text why plan (counts p) r.holds ∙ sym (ap (λ (v : Verdict Counts). answer_text (transaction_text why) (list_in plan v) v) (answer p))) both)

@@ -21,7 +21,7 @@ use Rattle.writing.proofs.put_code.Tie as tie
 same : (c : tie.Start) → back w32 c.args.n ≡ c.args.n
 same c = to_z-of_z w32 c.args.n c.ranges.n
 
-returns : tie.Need-returns
+returns : tie.Need-returns-then-n-lt0
 returns c =
     let p = c.before.before in
     let start = p.before.before.before.before in

@@ -9,7 +9,7 @@ use borrow.Author.Rules.{rules}
 use Rattle.writing.proofs.put_hex.Statement.{statement}
 use Rattle.writing.proofs.put_hex.Tie as tie
 
-returns : tie.Need-returns
+returns : tie.Need-returns-in_default
 returns c =
     let s = c.before.before.before.before in
     let start = s.before.before.before in

@@ -11,7 +11,7 @@ use borrow.Author.Rules.{rules}
 use Rattle.writing.proofs.put_signed.Statement.{statement}
 use Rattle.writing.proofs.put_signed.Tie as tie
 
-returns : tie.Need-returns
+returns : tie.Need-returns-in_default
 returns c =
     let s = c.before.before.before.before in
     let start = s.before.before.before in

@@ -15,7 +15,7 @@ use Rattle.adv7194_caption_planning.proofs.PairCounts.{none-bits, pair-bits}
 use Rattle.adv7194_caption_planning.proofs.pairs.pack_pair.Statement.{statement}
 use Rattle.adv7194_caption_planning.proofs.pairs.pack_pair.Tie as tie
 
-returns : tie.Need-returns
+returns : tie.Need-returns-then-pair-eq0
 returns c =
     let s = c.before.before in
     rw (none-bits s.args.register s.args.pair.now c.if-pair-eq0.true) (put-none s.args.plan-1.now s.args.pending s.requires.0)
@@ -39,7 +39,7 @@ pack-transaction-requires : tie.Need-pack_transaction-requires
 pack-transaction-requires c κs =
     let p = c.before.before in
     let s = start p in
-    (s.pre.0, s.pre.1, search rules, omega (arith, s.pre.3, ap length (bits p), transaction_bits-length (packs p)))
+    (s.requires.0, s.requires.1, search rules, omega (arith, s.requires.3, ap length (bits p), transaction_bits-length (packs p)))
 
 returns-2 : tie.Need-returns
 returns-2 c =

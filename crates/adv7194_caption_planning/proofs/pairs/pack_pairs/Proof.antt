@@ -39,12 +39,12 @@ entry c = c.before.before
 sound : (c : tie.After-begin-begun) → Sound c.begin-begun.result
 sound c =
     let s = entry c in
-    begun-sound (list s) s.args.plan-1.now c.begin-begun.result s.args.transactions (few s) s.pre.counted c.begin-begun.ensures
+    begun-sound (list s) s.args.plan-1.now c.begin-begun.result s.args.transactions (few s) s.requires.counted c.begin-begun.ensures
 
 room : (c : tie.After-begin-begun) → Room (entry c).args.plan-1.now c.begin-begun.result (length (list_bits (list (entry c))))
 room c =
     let s = entry c in
-    begun-room (list s) s.args.plan-1.now c.begin-begun.result s.args.transactions (few s) s.pre.counted c.begin-begun.ensures s.pre.fits
+    begun-room (list s) s.args.plan-1.now c.begin-begun.result s.args.transactions (few s) s.requires.counted c.begin-begun.ensures s.requires.fits
 
 -- nothing was packed yet
 begun : (c : tie.After-begin-begun)
@@ -79,7 +79,7 @@ pack-pair-requires c κs =
     let g = begun b in (
       g.sofar.sound,
       omega arith,
-      (both_right s.args.extended.now s.args.ordinary.now s.pre.right).0,
+      (both_right s.args.extended.now s.args.ordinary.now s.requires.right).0,
       several_room (list s) b.begin-begun.result s.args.plan-1.now (sound b) (room b) g (front s) (back s) refl,
     )
 
@@ -91,7 +91,7 @@ pack-pair-requires-2 c κs =
     let g = first f in (
       g.sofar.sound,
       omega arith,
-      (both_right s.args.extended.now s.args.ordinary.now s.pre.right).1,
+      (both_right s.args.extended.now s.args.ordinary.now s.requires.right).1,
       several_room (list s) b.begin-begun.result s.args.plan-1.now (sound b) (room b) g (back s) [] (sym (append-nil (back s))),
     )
 
@@ -111,7 +111,7 @@ returns c =
     let s = entry b in
     let done = progress_done (list s) b.begin-begun.result s.args.plan-1.now (sound b) (room b) (second f) refl
     n.finish.new.0 n.finish.result n.finish.ensures.0 n.finish.ensures.1 in
-    begun-done (list s) s.args.plan-1.now b.begin-begun.result s.args.transactions (few s) s.pre.counted b.begin-begun.ensures
+    begun-done (list s) s.args.plan-1.now b.begin-begun.result s.args.transactions (few s) s.requires.counted b.begin-begun.ensures
     n.finish.new.0 done
 
 pub pack_pairs_spec : {M : Type 1} → statement M

@@ -41,7 +41,7 @@ opposite l = pos 0 -ℤ back w32 l
 abbrev magnitude : ℤ → ℕ
 magnitude l = nat_abs (back w32 (opposite l))
 
-returns : tie.Need-returns
+returns : tie.Need-returns-then-out_of_range
 returns c = outside-refused brightness _ (sym (judged c.before) ∙ c.if-out_of_range.true) refl
 
 nearest-level-requires : tie.Need-nearest_level-level-requires

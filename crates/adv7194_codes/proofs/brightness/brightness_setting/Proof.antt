@@ -47,7 +47,7 @@ at : (P : ℕ → Bool) → T (below P 31) → T (below (λ k. P (113 + k)) 15) 
 at P low high c =
     let code = c.before.before.args.code in
     ⊎_elim
-    (λ w. from_at P 113 15 high code (ltb-false code 113 w.1.left) (omega arith))
+    (λ w. from_at P 113 15 high code (ltb-false code 113 w.1.false) (omega arith))
     (λ w. below_at P 31 low code (omega arith))
     c.if-code-gt-HIGHEST_POSITIVE.branch
 
@@ -69,7 +69,7 @@ negated k = pos 0 -ℤ to_z w32 (least k)
 
 -- the level that either arm chose
 levelled : (c : tie.Joined-negative) → c.if-negative.level ≡ level c.before.before.before.args.code
-levelled c = ⊎_elim (λ w. rw w.0.taken w.1) (λ w. rw w.0.left w.1) c.if-negative.branch
+levelled c = ⊎_elim (λ w. rw w.0.true w.1) (λ w. rw w.0.false w.1) c.if-negative.branch
 
 least-tenths-requires : tie.Need-least_tenths-tenths-requires
 least-tenths-requires c κs = rw (levelled c.before) (leb→le _ _ (at (λ k. leb (level k) 30) tt tt c.before.before))

@@ -5,7 +5,7 @@ use borrow.Author.Tests.{eq-eqb, ne_eqb}
 use Rattle.adv7194_codes.proofs.brightness.least_tenths.Statement.{statement}
 use Rattle.adv7194_codes.proofs.brightness.least_tenths.Tie as tie
 
-returns : tie.Need-returns
+returns : tie.Need-returns-then-level-eq0
 returns c = (rw (eq-eqb c.before.args.level 0 c.if-level-eq0.true), omega arith)
 
 returns-2 : tie.Need-returns

@@ -39,7 +39,7 @@ wide r = lt_z r (neg_ℤ (pos 15)) || lt_z (pos 30) r
 
 -- the half that either arm chose
 halved : (c : tie.Joined-product-lt0) → c.if-product-lt0.half ≡ half c.before.args.tenths
-halved c = ⊎_elim (λ w. rw w.0.taken w.1) (λ w. rw w.0.left w.1) c.if-product-lt0.branch
+halved c = ⊎_elim (λ w. rw w.0.true w.1) (λ w. rw w.0.false w.1) c.if-product-lt0.branch
 
 add-result : tie.Need-overflow_add-result
 add-result c = rw (halved c) (fits→ w32 _ (at (λ t. sfitsb w32 (sum t)) tt c.before))

@@ -32,7 +32,7 @@ opposite s = pos 0 -ℤ back w32 s
 abbrev signed : ℤ → ℤ
 signed s = pos 4 +ℤ back w32 (opposite s)
 
-returns : tie.Need-returns
+returns : tie.Need-returns-then-out_of_range
 returns c = outside-refused clamp_delay _ (sym (judged c.before) ∙ c.if-out_of_range.true) refl
 
 returns-2 : tie.Need-returns-then-clocks-lt0

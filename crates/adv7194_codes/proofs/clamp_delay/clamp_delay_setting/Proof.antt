@@ -12,7 +12,7 @@ use Rattle.field_table.proofs.Judging.{is_refused, is_refused→, is_setting, is
 use Rattle.adv7194_codes.proofs.clamp_delay.clamp_delay_setting.Statement.{statement}
 use Rattle.adv7194_codes.proofs.clamp_delay.clamp_delay_setting.Tie as tie
 
-returns : tie.Need-returns
+returns : tie.Need-returns-then-code-gt-HIGHEST_CODE
 unfolding decode code_by first_from
 returns c = is_refused→ 3 _ (from_at (λ k. is_refused 3 (decode clamp_delay k)) 8 248 tt c.before.args.code (omega arith) (omega arith))
 

@@ -33,7 +33,7 @@ at P t c = in_range 128 127 P t c.steps.result c.steps.ensures.1
 abbrev sum : ℤ → ℤ
 sum r = pos 128 +ℤ back w32 r
 
-returns : tie.Need-returns
+returns : tie.Need-returns-then-out_of_range
 returns c = outside-refused hue _ (sym (judged c.before) ∙ c.if-out_of_range.true) refl
 
 steps-requires : tie.Need-steps-requires

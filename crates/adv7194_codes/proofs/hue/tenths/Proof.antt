@@ -35,7 +35,7 @@ quotient s = quot_z (back w32 (sum s)) (pos 512)
 
 -- the offset that either arm chose
 chosen : (c : tie.Joined-product-lt0) → c.if-product-lt0.offset ≡ offset c.before.args.steps
-chosen c = ⊎_elim (λ w. rw w.0.taken w.1) (λ w. rw w.0.left w.1) c.if-product-lt0.branch
+chosen c = ⊎_elim (λ w. rw w.0.true w.1) (λ w. rw w.0.false w.1) c.if-product-lt0.branch
 
 add-result : tie.Need-overflow_add-result
 add-result c = rw (chosen c) (fits→ w32 _ (at (λ s. sfitsb w32 (sum s)) tt c.before))

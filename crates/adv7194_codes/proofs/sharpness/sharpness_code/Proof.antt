@@ -26,7 +26,7 @@ at P t c = in_range 6 6 P t c.before.before.args.step (sym (judged c.before) ∙
 abbrev sum : ℤ → ℤ
 sum s = back w32 s +ℤ pos 6
 
-returns : tie.Need-returns
+returns : tie.Need-returns-then-out_of_range
 returns c = outside-refused sharpness _ (sym (judged c.before) ∙ c.if-out_of_range.true) refl
 
 add-t4 : tie.Need-overflow_add-result

@@ -15,7 +15,7 @@ use Rattle.adv7194_codes.proofs.sharpness.sharpness_setting.Tie as tie
 abbrev step : ℕ → ℤ
 step c = back w32 (pos c) -ℤ pos 6
 
-returns : tie.Need-returns
+returns : tie.Need-returns-then-code-gt-HIGHEST_CODE
 unfolding decode code_by first_from
 returns c = is_refused→ 3 _ (from_at (λ k. is_refused 3 (decode sharpness k)) 13 243 tt c.before.args.code (omega arith) (omega arith))
 

@@ -36,10 +36,10 @@ inside c = sym (judged c.before) ∙ c.if-out_of_range.false
 in-scale : (c : tie.Else-out_of_range) → Scaled (row_in c.before.before) c.before.before.args.setting
 in-scale c = scaled (row_in c.before.before) c.before.before.requires c.before.before.args.setting (inside c)
 
-returns : tie.Need-returns
+returns : tie.Need-returns-then-out_of_range
 returns c = outside-refused (in_thousandths (row_in c.before.before)) _ (sym (judged c.before) ∙ c.if-out_of_range.true) refl
 
-cast-nearest-2 : tie.Need-overflow_cast-nearest-2
+cast-nearest-2 : tie.Need-overflow_cast-setting
 cast-nearest-2 c = rw (same c.before.before) ((in-scale c).positive, record { fits = omega (arith, (in-scale c).bound) })
 
 mul-nearest : tie.Need-overflow_mul-setting

@@ -25,7 +25,7 @@ same c = as_signed c.least_multiple-setting.result (omega (arith, small c))
 judged : (c : tie.After-out_of_range) → c.out_of_range.result ≡ outside (row_of c.before.before.args.packed) (pos c.before.least_multiple-setting.result)
 judged c = rw (same c.before) at c.out_of_range.ensures
 
-returns : tie.Need-returns
+returns : tie.Need-returns-then-out_of_range
 returns c =
     let l = c.before.before in
     read_none (row_of l.before.args.packed) l.before.requires l.before.args.code _ (sym (judged c.before) ∙ c.if-out_of_range.true)

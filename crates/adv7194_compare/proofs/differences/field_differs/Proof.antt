@@ -23,7 +23,7 @@ decreases-loop a b field register₀ register = register_count - register
 abbrev start : tie.At-loop-register invariant-loop decreases-loop → tie.Start invariant-loop decreases-loop
 start c = c.before.before.before
 
-returns : tie.Need-returns invariant-loop decreases-loop
+returns : tie.Need-returns-then-own_bits invariant-loop decreases-loop
 returns c =
     let w = c.before.before.before in
     let l = w.before in

@@ -29,7 +29,7 @@ loop-again c =
     let i = c.before.before in
     let g = i.before.loop-field.invariant in
     let e = c.before.field_differs.ensures in
-    ⊎_elim (λ w. with-bit g (inside i) e 32 (omega arith) w.0.taken w.1) (λ w. without-bit g (inside i) e w.0.left w.1) c.if-field_differs.branch
+    ⊎_elim (λ w. with-bit g (inside i) e 32 (omega arith) w.0.true w.1) (λ w. without-bit g (inside i) e w.0.false w.1) c.if-field_differs.branch
 
 returns : tie.Need-returns invariant-loop decreases-loop
 returns c = all_gathered c.before.loop-field.invariant (omega (arith, c.loop-field-test.false)) ∙ sym (fields_map _ _)

@@ -4,7 +4,7 @@ use Rattle.adv7194_compare.proofs.DifferenceLaws.{never_read_only, by_outside}
 use Rattle.adv7194_compare.proofs.differences.register_differs.Statement.{statement}
 use Rattle.adv7194_compare.proofs.differences.register_differs.Tie as tie
 
-returns : tie.Need-returns
+returns : tie.Need-returns-then-register-eq-READ_ONLY
 returns c = let s = c.before.before.before.args in never_read_only s.a.now s.b.now c.if-register-eq-READ_ONLY.true
 
 returns-2 : tie.Need-returns

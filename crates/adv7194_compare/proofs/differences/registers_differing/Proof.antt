@@ -29,7 +29,7 @@ loop-again c =
     let i = c.before.before in
     let g = i.before.loop-register.invariant in
     let e = c.before.register_differs.ensures in
-    ⊎_elim (λ w. with-bit g (inside i) e 64 (omega arith) w.0.taken w.1) (λ w. without-bit g (inside i) e w.0.left w.1) c.if-register_differs.branch
+    ⊎_elim (λ w. with-bit g (inside i) e 64 (omega arith) w.0.true w.1) (λ w. without-bit g (inside i) e w.0.false w.1) c.if-register_differs.branch
 
 returns : tie.Need-returns invariant-loop decreases-loop
 returns c = all_gathered c.before.loop-register.invariant (omega (arith, c.loop-register-test.false)) ∙ sym (registers-map _ _)

@@ -42,7 +42,7 @@ on c b h =
     let i = c.before.before.loop-i.i in
     ap (λ (t : Bool). t && all_bytes (drop (i + 1) zs)) (sym h) ∙ sym (from_on zs i (omega arith)) ∙ c.before.before.loop-i.invariant.1
 
-returns : tie.Need-returns invariant-loop decreases-loop
+returns : tie.Need-returns-then-number invariant-loop decreases-loop
 returns c = let d = c.before in on d false (no_byte (number d) (tested d true c.if-number.true))
 
 loop-again : tie.Need-loop-i-preserved invariant-loop decreases-loop

@@ -10,7 +10,7 @@ use Rattle.adv7194_gamma.proofs.CodeLaws.{seven_from}
 use Rattle.adv7194_gamma.proofs.field.curve_setting.Statement.{statement}
 use Rattle.adv7194_gamma.proofs.field.curve_setting.Tie as tie
 
-returns : tie.Need-returns
+returns : tie.Need-returns-then-image-lt-BYTE_COUNT
 returns c = let a = c.before.args in rw (lt-leb (a.register + 7) (length a.image.now) (omega arith))
 
 returns-2 : tie.Need-returns-then-image-register

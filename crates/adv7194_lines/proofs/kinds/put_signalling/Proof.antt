@@ -17,7 +17,7 @@ use Rattle.adv7194_lines.proofs.KindLaws.{cgms-is, signalling-filled, signalling
 use Rattle.adv7194_lines.proofs.kinds.put_signalling.Statement.{statement}
 use Rattle.adv7194_lines.proofs.kinds.put_signalling.Tie as tie
 
-returns : tie.Need-returns
+returns : tie.Need-returns-then-kind-eq-CGMS
 returns c =
     let p = c.before.before in
     let i = p.before.before in

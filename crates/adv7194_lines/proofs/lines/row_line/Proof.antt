@@ -10,7 +10,7 @@ use borrow.Author.Rules.{rules}
 use Rattle.adv7194_lines.proofs.lines.row_line.Statement.{statement}
 use Rattle.adv7194_lines.proofs.lines.row_line.Tie as tie
 
-returns : tie.Need-returns
+returns : tie.Need-returns-then-row-ge-NUMBERS
 returns c =
     let r = c.before.before.row_of-row in
     let start = c.before.before.before.before in

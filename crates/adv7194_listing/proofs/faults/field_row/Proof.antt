@@ -28,7 +28,7 @@ loop-holds c =
     let r = c.rows-table in
     record { turns = omega arith; size = packed_rows r.result r.ensures; first = ap (row_at c.before.args.field) r.ensures }
 
-returns : tie.Need-returns invariant-loop decreases-loop
+returns : tie.Need-returns-then-row-field invariant-loop decreases-loop
 returns c =
     let r = c.before.before.row_of-row in
     let t = c.before.before.before in

@@ -14,7 +14,7 @@ use borrow.Author.Rules.{rules}
 use Rattle.adv7194_listing.proofs.faults.put_place.Statement.{statement}
 use Rattle.adv7194_listing.proofs.faults.put_place.Tie as tie
 
-returns : tie.Need-returns
+returns : tie.Need-returns-then-field-eq0
 returns c =
     let p = c.before.before in
     let t = p.before.before in

@@ -19,7 +19,7 @@ use Rattle.adv7194_listing.proofs.WordLaws.{Tells, column_is, length_told, told}
 use Rattle.adv7194_listing.proofs.faults.put_words.Statement.{statement}
 use Rattle.adv7194_listing.proofs.faults.put_words.Tie as tie
 
-returns : tie.Need-returns
+returns : tie.Need-returns-then-number-eq1
 returns c =
     let p = c.before.before in
     let i = p.before.before.before.before in

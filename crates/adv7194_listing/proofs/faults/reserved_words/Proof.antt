@@ -8,7 +8,7 @@ use Rattle.adv7194_listing.specs.Words.{reserved_words}
 use Rattle.adv7194_listing.proofs.faults.reserved_words.Statement.{statement}
 use Rattle.adv7194_listing.proofs.faults.reserved_words.Tie as tie
 
-returns : tie.Need-returns
+returns : tie.Need-returns-then-field-eq-SIGNALLING_FIELD
 unfolding reserved_words
 returns c = rw (eq-eqb c.before.args.field 11 c.if-field-eq-SIGNALLING_FIELD.true)
 

@@ -7,7 +7,7 @@ use Rattle.adv7194_listing.proofs.FaultLaws.{field-bits}
 use Rattle.adv7194_listing.proofs.faults.shown.Statement.{statement}
 use Rattle.adv7194_listing.proofs.faults.shown.Tie as tie
 
-returns : tie.Need-returns
+returns : tie.Need-returns-then-column-eq-SIGNALLING_BYTES
 unfolding shown_numbers
 returns c =
     let d = c.before in

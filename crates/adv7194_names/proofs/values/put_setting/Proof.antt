@@ -15,7 +15,7 @@ use borrow.Author.Rules.{rules}
 use Rattle.adv7194_names.proofs.values.put_setting.Statement.{statement}
 use Rattle.adv7194_names.proofs.values.put_setting.Tie as tie
 
-returns : tie.Need-returns
+returns : tie.Need-returns-then-at-word
 returns c =
     let p = c.before.before.before in
     let start = p.before.before.before in

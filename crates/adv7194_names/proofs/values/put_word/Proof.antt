@@ -8,7 +8,7 @@ use borrow.Author.Rules.{rules}
 use Rattle.adv7194_names.proofs.values.put_word.Statement.{statement}
 use Rattle.adv7194_names.proofs.values.put_word.Tie as tie
 
-returns : tie.Need-returns
+returns : tie.Need-returns-then-n-eq0
 returns c =
     let p = c.before.before in
     let t = p.before.before in

@@ -41,7 +41,7 @@ module _ (c : tie.After-lowest_field-field) (image : List ℕ) where
       ∙ sym (ap (λ (f : ℕ). cond (eqb f 0) (good tt) (refused_at 11 f)) field_is)
       ∙ ap (λ (x : Bool). cond x (good tt) (refused_at 11 c.lowest_field-field.result)) e
 
-returns : tie.Need-returns
+returns : tie.Need-returns-then-field-ne-NO_FIELD
 returns c = λ image address limit room. sym (row_is c.before image address limit room _ (ne_eqb _ 0 c.if-field-ne-NO_FIELD.true))
 
 returns-2 : tie.Need-returns

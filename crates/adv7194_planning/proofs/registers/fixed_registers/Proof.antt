@@ -6,7 +6,7 @@ use Rattle.adv7194_planning.proofs.FixedMaps.{fixed_off, fixed_sent}
 use Rattle.adv7194_planning.proofs.registers.fixed_registers.Statement.{statement}
 use Rattle.adv7194_planning.proofs.registers.fixed_registers.Tie as tie
 
-returns : tie.Need-returns
+returns : tie.Need-returns-then-sends
 returns c =
     let s = c.before.before in
     fixed_sent s.args.numbers.now s.requires (not-true _ (sym c.before.sends.ensures ∙ c.if-sends.true))

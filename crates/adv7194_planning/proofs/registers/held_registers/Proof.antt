@@ -3,7 +3,7 @@ use Rattle.adv7194_planning.proofs.RegisterMaps.{held_none, held-some}
 use Rattle.adv7194_planning.proofs.registers.held_registers.Statement.{statement}
 use Rattle.adv7194_planning.proofs.registers.held_registers.Tie as tie
 
-returns : tie.Need-returns
+returns : tie.Need-returns-then-needed-eq0
 returns c = held_none c.before.args.needed c.if-needed-eq0.true
 
 returns-2 : tie.Need-returns

@@ -4,7 +4,7 @@ use Rattle.adv7194_planning.proofs.RegisterMaps.{none_in_word, some_in_word}
 use Rattle.adv7194_planning.proofs.registers.needed_registers.Statement.{statement}
 use Rattle.adv7194_planning.proofs.registers.needed_registers.Tie as tie
 
-returns : tie.Need-returns
+returns : tie.Need-returns-then-must-eq0
 returns c = none_in_word c.before.args.must c.if-must-eq0.true
 
 returns-2 : tie.Need-returns

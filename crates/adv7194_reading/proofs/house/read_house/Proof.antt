@@ -9,7 +9,7 @@ use Rattle.adv7194_table.specs.Fields.{number_count}
 use Rattle.adv7194_reading.proofs.house.read_house.Statement.{statement}
 use Rattle.adv7194_reading.proofs.house.read_house.Tie as tie
 
-returns : tie.Need-returns
+returns : tie.Need-returns-then-numbers-ne-NUMBERS
 returns c =
     let zs = c.before.args.numbers-1.now in
     let z : eqb (length zs) number_count ≡ false = ne_eqb (length zs) number_count c.if-numbers-ne-NUMBERS.true in

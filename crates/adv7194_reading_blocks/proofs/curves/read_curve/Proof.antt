@@ -28,7 +28,7 @@ bytes c =
     (subst (λ (r : ℕ). r + 7 ≤ length image) (sym e) (start c).requires.1)
     ∙ ap (λ (r : ℕ). accepted (slice 0 image r 7)) e
 
-returns : tie.Need-returns
+returns : tie.Need-returns-in_default
 returns c = absurd (never_refused (bytes c.before.before) (ap curve_read_as c.enum_told-1.given.1))
 
 keep-curve-requires : tie.Need-keep_curve-requires
@@ -45,7 +45,7 @@ returns-2 c =
     let b = block_of s.args.packed in
     let zs = s.args.numbers-1.now in (
       sym (after-good _),
-      kept_block s.args.image.now zs b s.pre.0 (same_bytes_lem (bytes q) (ap curve_read_as p.points-1.given.1))
+      kept_block s.args.image.now zs b s.requires.0 (same_bytes_lem (bytes q) (ap curve_read_as p.points-1.given.1))
           (k.keep_curve.ensures
           ∙ ap (λ (x : Block). store_from zs x.index (curve_numbers (bytes_in p.points-1.given.0.0))) q.before.Block-of.ensures),
     )

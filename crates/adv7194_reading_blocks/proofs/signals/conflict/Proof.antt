@@ -23,7 +23,7 @@ judged c =
     (to_z-of_z w32 g.result (record { sfits = g.type-inv }) ∙ g.ensures
     ∙ ap (given c.before.before.before.args.numbers.now) c.before.before.row_of.ensures)
 
-returns : tie.Need-returns
+returns : tie.Need-returns-then-held_conflict
 returns c = ap (λ (b : Bool). fault_where b 7 11) (sym c.if-held_conflict.true ∙ judged c.before)
 
 returns-2 : tie.Need-returns

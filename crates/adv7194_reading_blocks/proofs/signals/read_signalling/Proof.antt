@@ -33,7 +33,7 @@ judged_of c =
     conflict_step a.image.now (given a.numbers-1.now standard.row) (checked_as a.before) held.result held.ensures
     t.then-judged.ensures t.before.conflict.ensures
 
-returns : tie.Need-returns
+returns : tie.Need-returns-in_default
 returns c =
     let f = c.before in
     let k = f.before.before in

@@ -32,7 +32,7 @@ reading c =
     (to_z-of_z w32 a.given-standard.result (record { sfits = a.given-standard.type-inv }) ∙ a.given-standard.ensures ∙ ap (given zs) a.before.row_of.ensures)
     (to_z-of_z w32 b.given-square.result (record { sfits = b.given-square.type-inv }) ∙ b.given-square.ensures ∙ ap (given zs) b.before.row_of-2.ensures)
 
-returns : tie.Need-returns
+returns : tie.Need-returns-in_default
 returns c =
     let k = c.before.before.before.before in
     c.then.ensures ∙ ap (after (checked_as (start k).args.before)) (c.before.fault.ensures ∙ ap (fault_of 28) (reading k))

@@ -45,7 +45,7 @@ module _ (w : tie.After-setting_bits-in-loop-field invariant-loop decreases-loop
   agree : w.before.setting_bits.result ≡ w.setting_bits-in-loop-field.result → eqb (image start.args.found.now) (image start.args.wanted.now) ≡ true
   agree h = eq-eqb _ _ (sym w.before.setting_bits.ensures ∙ h ∙ w.setting_bits-in-loop-field.ensures)
 
-returns : tie.Need-returns invariant-loop decreases-loop
+returns : tie.Need-returns-then-setting_bits invariant-loop decreases-loop
 returns c =
     let w = c.before in
     let l = w.before.before.before in

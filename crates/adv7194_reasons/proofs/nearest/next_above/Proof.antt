@@ -23,7 +23,7 @@ decreases-loop map register at₀ here = register_count - here
 loop-holds : tie.Need-loop-at-init invariant-loop decreases-loop
 loop-holds c = record { inside = omega arith; next = up_first (has c.args.map) c.args.register }
 
-returns : tie.Need-returns invariant-loop decreases-loop
+returns : tie.Need-returns-then-has invariant-loop decreases-loop
 returns c =
     let l = c.before.before.before in
     up_here (has l.before.args.map) l.loop-at.at c.before.before.loop-at-test.true (sym c.before.has.ensures ∙ c.if-has.true)

@@ -22,7 +22,7 @@ decreases-loop map register at₀ here = here
 loop-holds : tie.Need-loop-at-init invariant-loop decreases-loop
 loop-holds c = record { inside = omega arith; next = refl }
 
-returns : tie.Need-returns invariant-loop decreases-loop
+returns : tie.Need-returns-then-has invariant-loop decreases-loop
 returns c =
     let l = c.before.before.before in
     down_here (has l.before.args.map) l.loop-at.at c.before.before.loop-at-test.true (sym c.before.has.ensures ∙ c.if-has.true)

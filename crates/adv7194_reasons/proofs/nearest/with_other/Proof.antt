@@ -26,7 +26,7 @@ module _ (c : tie.After-has) where
   in_word_lem : c.has.result ≡ in_word register
   in_word_lem = c.has.ensures ∙ word-is register
 
-returns : tie.Need-returns
+returns : tie.Need-returns-then-not-has
 returns c = let h = c.before in sym (ap (λ (b : Bool). b && another h) (sym (in_word_lem h) ∙ not-true _ c.if-not-has.true))
 
 returns-2 : tie.Need-returns

@@ -53,7 +53,7 @@ first_two c o =
     let s = start c.before.before.before in
     ap (λ (b : Bool). tests (field s) (last s) b (zero s) o) (unchanged c.before.before) ∙ ap (λ (b : Bool). tests (field s) (last s) true b o) (clear c)
 
-returns : tie.Need-returns
+returns : tie.Need-returns-then-field-ne-NO_FIELD
 returns c =
     let f = c.before in
     let s = start f in

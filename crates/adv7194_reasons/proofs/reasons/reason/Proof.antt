@@ -36,21 +36,21 @@ register-maps-requires c κs =
 plan-spans-requires : tie.Need-plan_spans-sent-requires
 plan-spans-requires m κs =
     let s = start m in
-    bounded s.args.board s.args.wanted.now s.args.fixed s.args.limit s.pre.change m.register_maps-maps.result
+    bounded s.args.board s.args.wanted.now s.args.fixed s.args.limit s.requires.change m.register_maps-maps.result
     (m.register_maps-maps.ensures s.args.limit)
 
 -- ---- what is known on the way
 
 -- the map has the registers that the plan touches
-taken_is : (p : tie.After-plan_spans-sent) (x : ℕ) → has p.plan_spans-sent.result.taken x ≡ touched (plan_of (aim (start p.before))) x
+taken_is : (p : tie.After-plan_spans-sent) (x : ℕ) → has p.plan_spans-sent.result.true x ≡ touched (plan_of (aim (start p.before))) x
 taken_is p x =
     let m = p.before in
     let s = start m in
     let w = s.args.wanted.now in
     let maps = m.register_maps-maps.ensures s.args.limit in
-    (p.plan_spans-sent.ensures w (plannable s.args.board w s.args.fixed s.args.limit s.pre.change m.register_maps-maps.result maps)).0 x
+    (p.plan_spans-sent.ensures w (plannable s.args.board w s.args.fixed s.args.limit s.requires.change m.register_maps-maps.result maps)).0 x
     ∙ ap (λ (ts : List Transaction). touched ts x)
-    (plan-is s.args.board w s.args.fixed s.args.limit s.pre.change m.register_maps-maps.result maps)
+    (plan-is s.args.board w s.args.fixed s.args.limit s.requires.change m.register_maps-maps.result maps)
 
 -- the register is sent
 sent : (c : tie.Else-not-has) → (let s = start c.before.before.before in touched (plan_of (aim s)) s.args.register ≡ true)
@@ -64,7 +64,7 @@ known c = sym c.before.has-2.ensures ∙ not-false _ c.if-not-has-2.false
 
 -- ---- the answers
 
-returns : tie.Need-returns
+returns : tie.Need-returns-then-not-has
 returns c =
     let h = c.before in
     let s = start h.before.before in
@@ -84,7 +84,7 @@ known-reason-requires : tie.Need-known_reason-requires
 known-reason-requires c κs =
     let e = c.before.before.before in
     let s = start e.before.before.before in
-    plan-inside (aim s) s.pre.change s.args.register (sent e)
+    plan-inside (aim s) s.requires.change s.args.register (sent e)
 
 returns-3 : tie.Need-returns
 returns-3 c =
@@ -95,7 +95,7 @@ returns-3 c =
     c.known_reason.ensures
     ∙ ap (λ (P : ℕ → Bool). good (known_reason s.args.board.registers-1 s.args.wanted.now P s.args.register))
     (fun_ext (m.register_maps-maps.ensures s.args.limit).musts)
-    ∙ ap good (sym (is_known (aim s) (plan_of (aim s)) s.args.register (sent e) (known d) s.pre.answer))
+    ∙ ap good (sym (is_known (aim s) (plan_of (aim s)) s.args.register (sent e) (known d) s.requires.answer))
 
 pub reason_spec : {M : Type 1} → statement M
 reason_spec =

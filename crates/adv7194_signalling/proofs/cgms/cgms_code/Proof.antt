@@ -48,7 +48,7 @@ cgms-word-requires c κs =
 split-requires : tie.Need-split-requires
 split-requires c κs = rw c.cgms_word-word.ensures (cgms-lt _ _ _ _)
 
-returns : tie.Need-returns
+returns : tie.Need-returns-then-inside
 returns c =
     let t = c.before.before in
     let s = t.before.before.before.before.before in

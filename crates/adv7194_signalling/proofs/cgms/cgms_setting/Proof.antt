@@ -15,7 +15,7 @@ use Rattle.adv7194_signalling.proofs.HeldLaws.{made, cgms_both}
 use Rattle.adv7194_signalling.proofs.cgms.cgms_setting.Statement.{statement}
 use Rattle.adv7194_signalling.proofs.cgms.cgms_setting.Tie as tie
 
-returns : tie.Need-returns
+returns : tie.Need-returns-then-cgms_word-word
 returns c =
     let j = c.before.before in
     let r = j.before.args.registers in

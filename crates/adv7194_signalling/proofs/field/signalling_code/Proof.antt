@@ -43,7 +43,7 @@ wss c = is_same 2 (at3 c.before).kind (lit< tt) c.before.struct_told-3-1.given.0
 not-wss : (c : tie.Else-setting-eq-WSS) → is 2 (at3 c.before).kind ≡ false
 not-wss c = is_other 2 (at3 c.before).kind (lit< tt) c.before.struct_told-3-1.given.0.1 c.if-setting-eq-WSS.false
 
-returns : tie.Need-returns
+returns : tie.Need-returns-then-setting-eq-OFF
 returns c = sym (off_codes (numbers_of c.before.before.before.args.setting) (off c))
 
 returns-2 : tie.Need-returns-then-setting-eq-CGMS

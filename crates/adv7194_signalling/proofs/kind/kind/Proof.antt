@@ -22,7 +22,7 @@ by_tests b h =
     let fields = same (has b 6 || has b 5) (not (eqb (b / 32 % 4) 0)) (below_at (λ b. beq (has b 6 || has b 5) (not (eqb (b / 32 % 4) 0))) 256 tt b h) in
     rw (seven, fields)
 
-returns : tie.Need-returns
+returns : tie.Need-returns-then-fields-eq0
 returns c =
     let s = c.before.before in
     rw (by_tests s.args.r19 s.ranges.r19.fits, c.before.if-r19-eq1.true, c.if-fields-eq0.true)

@@ -10,7 +10,7 @@ use Rattle.adv7194_signalling.proofs.numbers.within.Tie as tie
 same : (c : tie.Start) → back w32 c.args.setting ≡ c.args.setting
 same c = to_z-of_z w32 c.args.setting c.ranges.setting
 
-returns : tie.Need-returns
+returns : tie.Need-returns-then-setting-lt0
 returns c = negative-outside c.before.args.top c.before.args.setting (rw (same c.before) at c.if-setting-lt0.true)
 
 cast-result : tie.Need-overflow_cast-result

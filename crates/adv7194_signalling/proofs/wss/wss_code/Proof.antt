@@ -30,7 +30,7 @@ add-split c = record { fits = omega (arith, (number c.before.before).most) }
 split-requires : tie.Need-split-requires
 split-requires c κs = omega (arith, (number c.before.before).most)
 
-returns : tie.Need-returns
+returns : tie.Need-returns-then-odd_ones
 returns c =
     let s = c.before.before.before.before.before in
     rw (same s) at

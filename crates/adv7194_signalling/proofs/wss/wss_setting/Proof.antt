@@ -20,7 +20,7 @@ use Rattle.adv7194_signalling.proofs.HeldLaws.{wss_both}
 use Rattle.adv7194_signalling.proofs.wss.wss_setting.Statement.{statement}
 use Rattle.adv7194_signalling.proofs.wss.wss_setting.Tie as tie
 
-returns : tie.Need-returns
+returns : tie.Need-returns-then-number-word
 returns c =
     let j = c.before.before in
     let r = j.before.args.registers in

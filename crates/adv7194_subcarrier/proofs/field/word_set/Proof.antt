@@ -7,7 +7,7 @@ use Rattle.adv7194_subcarrier.specs.Subcarrier.{word_of}
 use Rattle.adv7194_subcarrier.proofs.field.word_set.Statement.{statement}
 use Rattle.adv7194_subcarrier.proofs.field.word_set.Tie as tie
 
-returns : tie.Need-returns
+returns : tie.Need-returns-then-standard-eq-PAL
 returns c =
     let s = c.before.before in
     let pal = is_same 1 s.args.standard (lit< tt) s.ranges.standard.sfits c.before.if-standard-eq-PAL.true in

@@ -28,7 +28,7 @@ tested c =
     (c.word_set.ensures
     ∙ ap₂ (λ (x y : ℤ). word_of (is 1 x) (is 1 y)) (to_z-of_z w32 a.standard s.ranges.standard) (to_z-of_z w32 a.square s.ranges.square))
 
-returns : tie.Need-returns
+returns : tie.Need-returns-then-held-word_set
 returns c = rw (sym (tested c.before) ∙ eq-eqb _ _ c.if-held-word_set.true)
 
 returns-2 : tie.Need-returns

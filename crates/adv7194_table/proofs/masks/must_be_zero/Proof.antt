@@ -8,7 +8,7 @@ use Rattle.adv7194_table.specs.Masks.{zero_masks}
 use Rattle.adv7194_table.proofs.masks.must_be_zero.Statement.{statement}
 use Rattle.adv7194_table.proofs.masks.must_be_zero.Tie as tie
 
-returns : tie.Need-returns
+returns : tie.Need-returns-then-register
 unfolding zero_masks
 returns c = sym (get_or-eq_default zero_masks 0 c.if-register.true)
 

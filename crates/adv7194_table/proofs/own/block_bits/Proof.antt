@@ -9,7 +9,7 @@ use Rattle.adv7194_table.proofs.MaskLaws.{other_block, outside-block, in_block_l
 use Rattle.adv7194_table.proofs.own.block_bits.Statement.{statement}
 use Rattle.adv7194_table.proofs.own.block_bits.Tie as tie
 
-returns : tie.Need-returns
+returns : tie.Need-returns-then-block-field
 returns c = let s = c.before.before in (other_block _ _ s.Block-of.ensures c.if-block-field.true, omega arith)
 
 returns-2 : tie.Need-returns-then-register-block

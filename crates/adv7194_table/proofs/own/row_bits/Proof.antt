@@ -9,7 +9,7 @@ use Rattle.adv7194_table.proofs.MaskLaws.{other_field, other_register, own_bits_
 use Rattle.adv7194_table.proofs.own.row_bits.Statement.{statement}
 use Rattle.adv7194_table.proofs.own.row_bits.Tie as tie
 
-returns : tie.Need-returns
+returns : tie.Need-returns-then-row-field
 returns c = let s = c.before.before in (other_field _ _ s.row_of-row.ensures c.if-row-field.true, omega arith)
 
 returns-2 : tie.Need-returns-then-row-register

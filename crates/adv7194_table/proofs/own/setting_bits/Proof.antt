@@ -8,7 +8,7 @@ use Rattle.adv7194_table.specs.Masks.{setting_mask}
 use Rattle.adv7194_table.proofs.own.setting_bits.Statement.{statement}
 use Rattle.adv7194_table.proofs.own.setting_bits.Tie as tie
 
-returns : tie.Need-returns
+returns : tie.Need-returns-then-register-image
 returns c =
     let s = c.before.before.before.before in ap (bit_and (get_or s.args.image.now s.args.register 0)) c.setting_mask.ensures
 

@@ -9,7 +9,7 @@ use Rattle.adv7194_table.proofs.MaskLaws.{zero-mask-at}
 use Rattle.adv7194_table.proofs.own.zero_bits_lem.Statement.{statement}
 use Rattle.adv7194_table.proofs.own.zero_bits_lem.Tie as tie
 
-returns : tie.Need-returns
+returns : tie.Need-returns-then-register-image
 returns c =
     let s = c.before.before.before.before in
     ap (bit_and (get_or s.args.image.now s.args.register 0)) (c.must_be_zero.ensures ∙ zero-mask-at s.args.register s.requires)

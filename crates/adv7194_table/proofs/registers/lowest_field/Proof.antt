@@ -21,7 +21,7 @@ invariant-loop map fields field₀ field = Inv map fields field
 abbrev decreases-loop : tie.decreases-loop-field
 decreases-loop map fields field₀ field = field_count - field
 
-returns : tie.Need-returns invariant-loop decreases-loop
+returns : tie.Need-returns-then-map-eq0 invariant-loop decreases-loop
 returns c = sym (none_of_map c.before.args.map c.if-map-eq0.true)
 
 loop-holds : tie.Need-loop-field-init invariant-loop decreases-loop

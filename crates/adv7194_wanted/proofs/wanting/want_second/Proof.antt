@@ -92,7 +92,7 @@ returns : tie.Need-returns
 returns c =
     let o = c.before.before in
     let s = start (signal_of (picture_of (dnr_of (curve_of (curve2_of o))))) in
-    ((all o).verdict ∙ ap (after (checked_as s.args.before)) (sym (second_part_lem s.args.numbers.now s.pre)), (all o).registers)
+    ((all o).verdict ∙ ap (after (checked_as s.args.before)) (sym (second_part_lem s.args.numbers.now s.requires)), (all o).registers)
 
 pub want_second_spec : {M : Type 1} → statement M
 want_second_spec =

@@ -16,7 +16,7 @@ size c = one_shl c.args.a 64 (omega (arith, c.requires))
 sub-left : tie.Need-overflow_sub-left
 sub-left c = rw (size c) (pow_pos c.args.a)
 
-returns : tie.Need-returns
+returns : tie.Need-returns-then-restored
 returns c image wanted told i =
     let s = c.before in
     rw (size s) (beside-is image wanted s.args.changed s.ranges.changed.fits s.args.a s.requires s.args.restored 0x208

@@ -16,7 +16,7 @@ use Rattle.adv7195_settings.proofs.numbers.number.Tie as tie
 bytes : (s : tie.Start) → Three s.args.parts.now
 bytes s = three s.args.parts.now s.requires.1.1
 
-returns : tie.Need-returns
+returns : tie.Need-returns-then-i-lt-CGMS
 returns c =
     let a = c.before.before.args in
     to_z-of_z w32 (get_or a.parts.now a.i (pos 0)) (record { sfits = c.result-1.given })

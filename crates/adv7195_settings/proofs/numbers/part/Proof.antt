@@ -30,7 +30,7 @@ at_part : (c : tie.After-cgms-1) (lowest width k : ℕ) {x : ℤ} → x ≡ part
 at_part c lowest width k e p i =
     e ∙ ap (part_of lowest width) (same-data c) ∙ p ∙ sym (ap (λ (n : ℕ). get_or (parts_of (settings c)) n (pos 0)) i)
 
-returns : tie.Need-returns
+returns : tie.Need-returns-then-i-lt-CGMS
 returns c =
     let a = c.before.before.args in
     to_z-of_z w32 (get_or a.numbers.now a.i (pos 0)) (record { sfits = c.result-1.given })

@@ -13,7 +13,7 @@ use Rattle.adv7195_settings.proofs.numbers.part_of.Tie as tie
 same : (c : tie.Start) → back w32 c.args.cgms ≡ c.args.cgms
 same c = to_z-of_z w32 c.args.cgms c.ranges.cgms
 
-returns : tie.Need-returns
+returns : tie.Need-returns-then-cgms-lt0
 returns c = let s = c.before in part_negative s.args.lowest s.args.width s.args.cgms (rw (same s) at c.if-cgms-lt0.true)
 
 returns-2 : tie.Need-returns-then-cgms-ge-CGMS_END

@@ -19,7 +19,7 @@ even : (c : tie.Else-odd_ones) → with_parity c.before.before.args.width c.befo
     ≡ c.before.before.args.value + 2 ^ c.before.before.args.width
 even c = parity_set c.before.before.args.width c.before.before.args.value (sym c.before.odd_ones.ensures ∙ c.if-odd_ones.false)
 
-returns : tie.Need-returns
+returns : tie.Need-returns-then-odd_ones
 returns c =
     let a = c.before.before.args in
     sym (parity_clear a.width a.value (sym c.before.odd_ones.ensures ∙ c.if-odd_ones.true))

@@ -9,7 +9,7 @@ use Rattle.writing.specs.Ascii.{ascii}
 use Rattle.compare_fields.proofs.parts.put_mark.Statement.{statement}
 use Rattle.compare_fields.proofs.parts.put_mark.Tie as tie
 
-returns : tie.Need-returns
+returns : tie.Need-returns-then-readable
 returns c =
     let start = c.before.before in
     same_text (sym (ap (λ (b : Bool). cond b [] (ascii " raw")) c.if-readable.true))

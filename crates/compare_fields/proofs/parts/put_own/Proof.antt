@@ -6,7 +6,7 @@ use Rattle.compare_fields.proofs.PartLaws.{own_none, own_some}
 use Rattle.compare_fields.proofs.parts.put_own.Statement.{statement}
 use Rattle.compare_fields.proofs.parts.put_own.Tie as tie
 
-returns : tie.Need-returns
+returns : tie.Need-returns-then-own_mask-eq0
 returns c =
     let start = c.before.before.before.before in
     let a = start.args in

@@ -9,7 +9,7 @@ use Rattle.compare_fields.specs.Values.{side_of}
 use Rattle.compare_fields.proofs.parts.put_side.Statement.{statement}
 use Rattle.compare_fields.proofs.parts.put_side.Tie as tie
 
-returns : tie.Need-returns
+returns : tie.Need-returns-then-readable
 returns c =
     let v = c.before.before in
     let p = v.before.before.before.before in

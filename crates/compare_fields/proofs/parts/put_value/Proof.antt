@@ -22,7 +22,7 @@ put-curve-requires c κs = (omega arith, omega (arith, ap (λ (x : Block). x.ind
 put-curve-requires-2 : tie.Need-put_curve-requires-then-field-eq-CURVE_B_FIELD
 put-curve-requires-2 c κs = (omega arith, omega (arith, ap (λ (x : Block). x.index) c.block_of-then-field-eq-CURVE_B_FIELD.ensures))
 
-returns : tie.Need-returns
+returns : tie.Need-returns-then-field-eq-SIGNALLING_FIELD
 returns c =
     let p = c.before.before in
     let b = p.before.Block-of in

@@ -46,7 +46,7 @@ register-line-requires c κs =
     let l = t.before.loop-register in
     let k = kept l.invariant.written in
     let m = l.invariant.written.most in
-    let p = (start t.before).pre in
+    let p = (start t.before).requires in
     (omega (arith, t.loop-register-test.true), t.loop-register-test.true)
 
 loop-again : tie.Need-loop-register-preserved invariant-loop decreases-loop
@@ -65,7 +65,7 @@ loop-again c =
       text = l.invariant.text ++ cond (register_differs a b n) (f n) [];
       written =
           wider (register_width * (n + 1 - 0)) (omega (arith, l.invariant.from))
-          (more l.invariant.written p.register_line-place.ensures (omega (arith, s.pre, l.invariant.from, t.loop-register-test.true)));
+          (more l.invariant.written p.register_line-place.ensures (omega (arith, s.requires, l.invariant.from, t.loop-register-test.true)));
       rest =
           append_assoc l.invariant.text (cond (register_differs a b n) (f n) []) (lines_from (register_differs a b) f (n + 1) 54)
           ∙ ap (λ (x : List ℕ). l.invariant.text ++ x) (sym (lines_turn (register_differs a b) f n 54 (omega (arith, t.loop-register-test.true)))) ∙ l.invariant.rest;

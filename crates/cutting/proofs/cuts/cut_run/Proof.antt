@@ -12,7 +12,7 @@ use Rattle.cutting.proofs.cuts.cut_run.Statement.{statement}
 use Rattle.cutting.proofs.cuts.cut_run.Tie as tie
 
 abbrev invariant-loop : tie.invariant-loop-at
-invariant-loop needed held first end limit ends cut₀ at₀ cut at = Cut needed held limit first end cut₀.taken cut₀.starts cut.taken cut.starts at
+invariant-loop needed held first end limit ends cut₀ at₀ cut at = Cut needed held limit first end cut₀.true cut₀.starts cut.true cut.starts at
 
 abbrev decreases-loop : tie.decreases-loop-at
 decreases-loop needed held first end limit ends cut₀ at₀ cut at = end - at
@@ -46,7 +46,7 @@ inside c =
 loop-holds : tie.Need-loop-at-init invariant-loop decreases-loop
 loop-holds c =
     let a = c.before.args in
-    cut-none a.needed a.held a.limit a.first a.end a.spans.taken a.spans.starts c.before.requires.0.0 c.before.requires.1
+    cut-none a.needed a.held a.limit a.first a.end a.spans.true a.spans.starts c.before.requires.0.0 c.before.requires.1
 
 loop-again : tie.Need-loop-at-preserved invariant-loop decreases-loop
 loop-again c =
@@ -54,8 +54,8 @@ loop-again c =
     let a = (start i).args in
     let l = i.before.loop-at in
     let v = c.before.with_span-cut in
-    cut_round a.needed a.held a.limit a.first a.end a.spans.taken a.spans.starts l.cut.taken l.cut.starts
-    v.result.taken v.result.starts
+    cut_round a.needed a.held a.limit a.first a.end a.spans.true a.spans.starts l.cut.true l.cut.starts
+    v.result.true v.result.starts
     l.at (stop i) c.lowest.result (start i).ranges.needed.fits (start i).requires.0.1.0 i.loop-at-test.true (known i) c.lowest.ensures
     v.ensures.0 v.ensures.1 l.invariant
 

@@ -5,7 +5,7 @@ use borrow.Author.Rules.{rules}
 use Rattle.cutting.proofs.cuts.end_weight.Statement.{statement}
 use Rattle.cutting.proofs.cuts.end_weight.Tie as tie
 
-returns : tie.Need-returns
+returns : tie.Need-returns-then-has
 returns c = let e = sym c.before.has.ensures ∙ c.if-has.true in rw e (omega arith)
 
 returns-2 : tie.Need-returns

@@ -4,7 +4,7 @@ use borrow.Author.Rules.{rules}
 use Rattle.cutting.proofs.cuts.rest_weight.Statement.{statement}
 use Rattle.cutting.proofs.cuts.rest_weight.Tie as tie
 
-returns : tie.Need-returns
+returns : tie.Need-returns-then-has
 returns c = let e = sym c.before.has.ensures ∙ c.if-has.true in rw e
 
 returns-2 : tie.Need-returns

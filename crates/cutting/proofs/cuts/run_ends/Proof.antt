@@ -75,7 +75,7 @@ end-weight-requires-2 c κs =
     let b = c.before in
     let l = loop b in
     let a = (start l).args in
-    let r = rest_bound a.needed a.held a.limit a.end (small (start l)) l.loop-at.inv in (
+    let r = rest_bound a.needed a.held a.limit a.end (small (start l)) l.loop-at.invariant in (
       near l,
       rw c.rest_weight-rest.ensures (either (has a.needed (l.loop-at.at - 1)) _ l.loop-at.rest most_weight (omega (arith, (bound b).1)) (omega arith)),
     )
@@ -88,7 +88,7 @@ loop-again c =
     let a = (start l).args in
     round a.needed a.held a.limit a.end a.first l.loop-at.ends l.loop-at.weights-1 l.loop-at.rest l.loop-at.candidates l.loop-at.at
     b.best_end-stop.result w.before.rest_weight-rest.result w.end_weight-in-loop-at.result c.with_candidate-candidates.result (small (start l)) (omega arith) (omega arith)
-    l.loop-at.inv b.best_end-stop.ensures w.before.rest_weight-rest.ensures w.end_weight-in-loop-at.ensures c.with_candidate-candidates.ensures
+    l.loop-at.invariant b.best_end-stop.ensures w.before.rest_weight-rest.ensures w.end_weight-in-loop-at.ensures c.with_candidate-candidates.ensures
 
 returns : tie.Need-returns invariant-loop decreases-loop
 returns c i a b n =

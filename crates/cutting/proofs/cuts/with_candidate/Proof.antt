@@ -25,7 +25,7 @@ low c =
     first-is l.loop-kept.auto c.lowest-low.result (omega (arith, c.before.loop-kept-test.true))
     (omega (arith, l.loop-kept.invariant.small, l.before.ranges.candidates.fits)) c.lowest-low.ensures
 
-returns : tie.Need-returns invariant-loop decreases-loop
+returns : tie.Need-returns-then-weights-low invariant-loop decreases-loop
 returns c end h =
     let o = c.before.before.before in
     let l = o.before.before in

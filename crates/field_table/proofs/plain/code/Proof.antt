@@ -34,7 +34,7 @@ judged c =
 refusal-requires : tie.Need-refusal-requires
 refusal-requires c κs = omega (arith, (fits (start c.before)).bits)
 
-returns : tie.Need-returns
+returns : tie.Need-returns-then-outside
 returns c =
     let a = c.before.before in
     let s = start a in

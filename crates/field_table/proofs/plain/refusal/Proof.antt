@@ -18,7 +18,7 @@ use Rattle.field_table.proofs.plain.refusal.Tie as tie
 same : (c : tie.Start) → back w32 c.args.number ≡ c.args.number
 same c = to_z-of_z w32 c.args.number c.ranges.number
 
-returns : tie.Need-returns
+returns : tie.Need-returns-then-number-lt0
 returns c = refused-negative c.before.args.row c.before.args.number (rw (same c.before) at c.if-number-lt0.true)
 
 cast-if2 : tie.Need-overflow_cast-number

@@ -3,7 +3,7 @@ use borrow.Author.Tests.{eq-eqb, ne_eqb}
 use Rattle.field_table.proofs.plain.refusal_outside.Statement.{statement}
 use Rattle.field_table.proofs.plain.refusal_outside.Tie as tie
 
-returns : tie.Need-returns
+returns : tie.Need-returns-then-row-eq3
 returns c = rw (eq-eqb _ 3 c.if-row-eq3.true)
 
 returns-2 : tie.Need-returns

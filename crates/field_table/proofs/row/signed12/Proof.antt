@@ -19,7 +19,7 @@ less-all n h = rw (lt-ltb n 0x1000 h) (let e : 0x1000 - suc n ≡ 0xFFF - n = om
 small : (n : ℕ) → SFits w32 (negsuc (0xFFF - n))
 small n = record { sfits = omega arith }
 
-returns : tie.Need-returns
+returns : tie.Need-returns-then-n-lt2048
 returns c =
     let n = c.before.args.n in
     as_signed n (omega arith) ∙ sym (rw (lt-ltb n 0x800 c.if-n-lt2048.true))

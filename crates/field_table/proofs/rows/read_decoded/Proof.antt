@@ -22,7 +22,7 @@ given-setting : (c : tie.In-Setting)
     → back w32 c.before.decoded-1.given.0.0 ≡ value_or (pos 0) (decoded_as c.before.before.before.before.args.decoded-1)
 given-setting c = to_z-of_z w32 _ (record { sfits = c.known_told-1.given.0.1 }) ∙ ap (value_or (pos 0)) (sym (ap decoded_as c.before.decoded-1.given.1))
 
-returns : tie.Need-returns
+returns : tie.Need-returns-in_default
 returns c =
     let p = c.before.before.before in
     let t = p.before.before in

@@ -30,7 +30,7 @@ put-requires-2 c κs =
     let k = c.before.before.before.before in
     put-fits k.row_of-row.ensures (given-code c.before) (start k).requires.0 (start k).requires.1
 
-returns : tie.Need-returns
+returns : tie.Need-returns-in_default
 returns c =
     let p = c.before.before.before.before in
     let t = p.before.before in

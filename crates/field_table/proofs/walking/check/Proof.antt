@@ -67,7 +67,7 @@ due-next : (c : tie.In-loop-i invariant-loop decreases-loop) → check_of (setti
     ≡ after (coding_fault (settings c.before) (field_in c.before)) (from (table c.before) (settings c.before) (c.before.loop-i.i + 1))
 due-next c = c.before.loop-i.invariant.due ∙ check_next (table c.before) c.before.loop-i.i c.loop-i-test.true (settings c.before)
 
-returns : tie.Need-returns invariant-loop decreases-loop
+returns : tie.Need-returns-in_default invariant-loop decreases-loop
 returns c =
     let k = c.before.before.before in
     let f = (field_in (turn k).before).row.field in

@@ -24,7 +24,7 @@ start c = c.before.before.before.before.before.before
 
 -- the registers taken, the starts, and the registers that transactions go on over
 abbrev taken : tie.After-packed_length-length → ℕ
-taken c = c.before.before.before.plan_maps-found.result.taken
+taken c = c.before.before.before.plan_maps-found.result.true
 
 abbrev starts : tie.After-packed_length-length → ℕ
 starts c = c.before.before.before.plan_maps-found.result.starts
@@ -40,7 +40,7 @@ plan-of c = plan_by (start c).args.needed (start c).args.allowed (start c).args.
 known : (c : tie.After-packed_length-length)
     → Mapped (plan_by (start c).args.needed (start c).args.allowed (start c).args.held (start c).args.limit (start c).args.wanted.now)
     (start c).args.wanted.now (taken c) (starts c) (goes c)
-known c = let s = start c in c.before.before.before.plan_maps-found.ensures s.args.wanted.now s.pre
+known c = let s = start c in c.before.before.before.plan_maps-found.ensures s.args.wanted.now s.requires
 
 -- their list, and how many transactions it has
 abbrev list : tie.After-packed_length-length → List Transaction
@@ -72,7 +72,7 @@ plan-maps-requires c κs =
     let π = c.before.before.requires in
     record { writable = π.writable; small = λ i e. omega (arith, π.inside i e, π.small); some = π.some; most = π.most }
 
-returns : tie.Need-returns
+returns : tie.Need-returns-then-plan-length
 returns c =
     let p = c.before.before in
     let t = too_short (list p) (plan-of p) (start p).args.plan-1.now (known p).list (omega (arith, c.before.if-plan-length.true, long p)) in
@@ -90,7 +90,7 @@ pack-spans-requires c κs =
     record {
       inside = (known p).inside;
       over = (known p).over;
-      small = (start p).pre.small;
+      small = (start p).requires.small;
       sound = begun-sound (list p) w c.begin.result n (few p).0 (sym (counted p)) c.begin.ensures;
       room = begun-room (list p) w c.begin.result n (few p).0 (sym (counted p)) c.begin.ensures
           (omega (arith, c.before.before.if-plan-length.false, long p));

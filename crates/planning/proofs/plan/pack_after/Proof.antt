@@ -43,8 +43,8 @@ module _ (c : tie.After-count) where
 
   known : Mapped plan-of wanted taken starts goes
   known =
-      joined_mapped start.args.needed start.args.allowed taken starts wanted (search rules) (search rules) start.pre.writable
-      c.before.before.before.covered-taken.ensures c.before.before.starts-starts.ensures start.pre.inside
+      joined_mapped start.args.needed start.args.allowed taken starts wanted (search rules) (search rules) start.requires.writable
+      c.before.before.before.covered-taken.ensures c.before.before.starts-starts.ensures start.requires.inside
 
   -- the first transaction, the others, and all
   abbrev lead : Transaction
@@ -71,7 +71,7 @@ module _ (c : tie.After-count) where
   -- which are few
   few : (c.before.count-all.result + 1 ≤ 63) × (c.count.result ≤ 63)
   few =
-      let n = start.pre.small in
+      let n = start.requires.small in
       (omega (arith, known.few, c.before.count-all.ensures), omega (arith, known.short, c.count.ensures))
 
 -- the bytes of their packing
@@ -83,7 +83,7 @@ long c =
 cost : (c : tie.After-count) → cost_of (c.before.count-all.result + 1) (c.count.result + length (start c).args.bytes.now) ≡ bus_bytes (all c)
 cost c = ap₂ cost_of (counted c) (sym (bytes c)) ∙ sym (bytes_count (all c))
 
-returns : tie.Need-returns
+returns : tie.Need-returns-then-plan-size
 returns c =
     let p = c.before.before.before in
     let t = too_short (all p) (lead p ∷ plan-of p) (start p).args.plan-1.now (same p) (omega (arith, c.before.if-plan-size.true, long c.before.before)) in
@@ -103,8 +103,8 @@ pack-transaction-requires c κs =
     let n = p.before.count-all.result + 1 in
     let w = (start p).args.plan-1.now in (
       begun-sound (all p) w c.begin.result n (few p).0 (counted p) c.begin.ensures,
-      omega (arith, (start p).pre.start),
-      omega (arith, (start p).pre.short),
+      omega (arith, (start p).requires.start),
+      omega (arith, (start p).requires.short),
       first-room (lead p) (others p) w c.begin.result n (few p).0 (counted p) c.begin.ensures (fits c),
     )
 
@@ -118,7 +118,7 @@ pack-spans-requires c κs =
     record {
       inside = (known p).inside;
       over = (known p).over;
-      small = omega (arith, (start p).pre.small);
+      small = omega (arith, (start p).requires.small);
       sound = put.ensures.sound;
       room = later-room (lead p) (others p) (start p).args.plan-1.now g.begin.result n (few p).0 (counted p) g.begin.ensures (fits g)
           put.new.0 put.result put.auto.0 put.ensures;
@@ -131,12 +131,12 @@ packed-at c = c.before.before.before.before.before.before
 cast-t13 : tie.Need-overflow_cast-result
 cast-t13 c =
     let l = (packed-at c).before.before.before.before in
-    omega (arith, l.packed_length-size.ensures, (few l.before).0, (few l.before).1, (start l.before).pre.short)
+    omega (arith, l.packed_length-size.ensures, (few l.before).0, (few l.before).1, (start l.before).requires.short)
 
 cast-t15 : tie.Need-overflow_cast-result-2
 cast-t15 c =
     let p = counted-at (packed-at c.before).before in
-    omega (arith, c.bus_bytes.ensures, (few p).0, (few p).1, (start p).pre.short)
+    omega (arith, c.bus_bytes.ensures, (few p).0, (few p).1, (start p).requires.short)
 
 returns-2 : tie.Need-returns
 returns-2 c =

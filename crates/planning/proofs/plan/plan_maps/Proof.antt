@@ -10,7 +10,7 @@ use Rattle.planning.proofs.JoinedLaws.{joined_mapped, few-joined}
 use Rattle.planning.proofs.plan.plan_maps.Statement.{statement}
 use Rattle.planning.proofs.plan.plan_maps.Tie as tie
 
-returns : tie.Need-returns
+returns : tie.Need-returns-then-count-limit
 returns c w π =
     let n = c.before.before in
     let s = n.before.before in
@@ -28,7 +28,7 @@ returns-2 c w π =
     let s = c.before.before.before.before in
     let a = s.args in
     let e = c.plan_spans.ensures w π in
-    mapped a.needed a.allowed a.held a.limit w c.plan_spans.result.taken c.plan_spans.result.starts-starts π (search rules) (search rules)
+    mapped a.needed a.allowed a.held a.limit w c.plan_spans.result.true c.plan_spans.result.starts-starts π (search rules) (search rules)
     e.0 e.1
 
 pub plan_maps_spec : {M : Type 1} → statement M

@@ -14,7 +14,7 @@ use Rattle.planning.proofs.spans.plan_spans.Statement.{statement}
 use Rattle.planning.proofs.spans.plan_spans.Tie as tie
 
 abbrev invariant-loop : tie.invariant-loop-rest
-invariant-loop needed allowed held limit found₀ rest₀ from₀ found rest from = Found needed allowed held limit rest₀ found.taken found.starts rest from
+invariant-loop needed allowed held limit found₀ rest₀ from₀ found rest from = Found needed allowed held limit rest₀ found.true found.starts rest from
 
 abbrev decreases-loop : tie.decreases-loop-rest
 decreases-loop needed allowed held limit found₀ rest₀ from₀ found rest from = 64 - from
@@ -46,7 +46,7 @@ loop c = c.before.before.before
 turn : (c : tie.After-run-size invariant-loop decreases-loop) → Next (map (loop c)) (loop c).loop-rest.from (loop c).loop-rest.rest c.before.lowest-gap.result c.run-size.result
 turn c =
     let l = (loop c).loop-rest in
-    next-is (map (loop c)) l.from l.rest c.before.lowest-gap.result c.run-size.result (low (loop c)) l.inv.is
+    next-is (map (loop c)) l.from l.rest c.before.lowest-gap.result c.run-size.result (low (loop c)) l.invariant.is
     (omega (arith, c.before.before.loop-rest-test.true)) c.before.lowest-gap.ensures c.run-size.ensures
 
 -- it lies below register 63
@@ -54,8 +54,8 @@ ends : (c : tie.After-run-size invariant-loop decreases-loop) → (loop c).loop-
 ends c =
     let l = (loop c).loop-rest in
     let a = (start (loop c)).args in
-    run-low a.needed a.allowed a.held a.limit (map (loop c)) (loop c).before.covered-rest.ensures (start (loop c)).pre
-    l.found.taken l.found.starts l.rest l.from c.before.lowest-gap.result c.run-size.result l.inv (turn c)
+    run-low a.needed a.allowed a.held a.limit (map (loop c)) (loop c).before.covered-rest.ensures (start (loop c)).requires
+    l.found.true l.found.starts l.rest l.from c.before.lowest-gap.result c.run-size.result l.invariant (turn c)
 
 loop-holds : tie.Need-loop-rest-init invariant-loop decreases-loop
 loop-holds c =
@@ -74,8 +74,8 @@ more : (c : tie.After-run-size invariant-loop decreases-loop) (taken starts : �
 more c taken starts g =
     let l = (loop c).loop-rest in
     let a = (start (loop c)).args in
-    found-more a.needed a.allowed a.held a.limit (map (loop c)) (loop c).before.covered-rest.ensures (start (loop c)).pre
-    l.found.taken l.found.starts l.rest l.from c.before.lowest-gap.result c.run-size.result l.inv (turn c) taken starts g
+    found-more a.needed a.allowed a.held a.limit (map (loop c)) (loop c).before.covered-rest.ensures (start (loop c)).requires
+    l.found.true l.found.starts l.rest l.from c.before.lowest-gap.result c.run-size.result l.invariant (turn c) taken starts g
 
 loop-again : tie.Need-loop-rest-preserved-then-size-limit invariant-loop decreases-loop
 loop-again c =
@@ -83,20 +83,20 @@ loop-again c =
     let l = (loop r).loop-rest in
     let a = (start (loop r)).args in
     let v = c.with_span-found in
-    more r v.result.taken v.result.starts
-    (found-whole a.needed a.allowed a.held a.limit (map (loop r)) (loop r).before.covered-rest.ensures (start (loop r)).pre
-    l.found.taken l.found.starts l.rest l.from r.before.lowest-gap.result r.run-size.result l.inv (turn r)
-    v.result.taken v.result.starts c.before.if-size-limit.true v.ensures.0 v.ensures.1)
+    more r v.result.true v.result.starts
+    (found-whole a.needed a.allowed a.held a.limit (map (loop r)) (loop r).before.covered-rest.ensures (start (loop r)).requires
+    l.found.true l.found.starts l.rest l.from r.before.lowest-gap.result r.run-size.result l.invariant (turn r)
+    v.result.true v.result.starts c.before.if-size-limit.true v.ensures.0 v.ensures.1)
 
 cut-run-requires : tie.Need-cut_run-found-requires invariant-loop decreases-loop
 cut-run-requires c κs =
     let r = c.before in
     let l = (loop r).loop-rest in
     let a = (start (loop r)).args in
-    let β = (start (loop r)).pre in (
+    let β = (start (loop r)).requires in (
       (omega (arith, (turn r).some), (omega (arith, ends r), (β.some, β.most))),
-      (run-found a.needed a.allowed a.held a.limit (map (loop r)) (loop r).before.covered-rest.ensures β l.found.taken l.found.starts
-          l.rest l.from r.before.lowest-gap.result r.run-size.result l.inv (turn r)).first,
+      (run-found a.needed a.allowed a.held a.limit (map (loop r)) (loop r).before.covered-rest.ensures β l.found.true l.found.starts
+          l.rest l.from r.before.lowest-gap.result r.run-size.result l.invariant (turn r)).first,
     )
 
 loop-again-2 : tie.Need-loop-rest-preserved invariant-loop decreases-loop
@@ -105,10 +105,10 @@ loop-again-2 c =
     let l = (loop r).loop-rest in
     let a = (start (loop r)).args in
     let v = c.cut_run-found in
-    more r v.result.taken v.result.starts
-    (found-cut a.needed a.allowed a.held a.limit (map (loop r)) (loop r).before.covered-rest.ensures (start (loop r)).pre
-    l.found.taken l.found.starts l.rest l.from r.before.lowest-gap.result r.run-size.result l.inv (turn r)
-    v.result.taken v.result.starts v.ensures)
+    more r v.result.true v.result.starts
+    (found-cut a.needed a.allowed a.held a.limit (map (loop r)) (loop r).before.covered-rest.ensures (start (loop r)).requires
+    l.found.true l.found.starts l.rest l.from r.before.lowest-gap.result r.run-size.result l.invariant (turn r)
+    v.result.true v.result.starts v.ensures)
 
 returns : tie.Need-returns invariant-loop decreases-loop
 returns c w π =
@@ -116,7 +116,7 @@ returns c w π =
     let a = (start l).args in
     let z : l.loop-rest.rest ≡ 0 = c.loop-rest-test.false in
     found_all a.needed a.allowed a.held a.limit (map l) l.before.covered-rest.ensures (start l).requires
-    l.loop-rest.found.taken l.loop-rest.found.starts l.loop-rest.from (rw z at l.loop-rest.invariant) w π
+    l.loop-rest.found.true l.loop-rest.found.starts l.loop-rest.from (rw z at l.loop-rest.invariant) w π
 
 pub plan_spans_spec : {M : Type 1} → statement M
 plan_spans_spec =

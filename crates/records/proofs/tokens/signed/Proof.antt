@@ -25,7 +25,7 @@ low n h k = rw (le-ltb n negative h, lt-ltb 2147483647 (n % negative) k)
 below : (n : ℕ) → negative ≤ n → n % negative ≤ 2147483647 → neg_ℤ (pos (n % negative)) ≡ signed_of n
 below n h k = rw (le-ltb n negative h, le-ltb 2147483647 (n % negative) k)
 
-returns : tie.Need-returns
+returns : tie.Need-returns-then-magnitude-gt-HIGHEST_MAGNITUDE
 returns c = high c.before.before.args.number c.before.if-number-lt-NEGATIVE.true c.if-magnitude-gt-HIGHEST_MAGNITUDE.true
 
 returns-2 : tie.Need-returns-then-number-lt-NEGATIVE

@@ -35,7 +35,7 @@ whole : (table : List ℕ) (start at : ℕ) → Inv table start at → column_in
 whole table start at v e =
     sym (v.column ∙ ap (λ (r : List ℕ). take (at - start) (drop start table) ++ r) e ∙ append-nil (take (at - start) (drop start table)))
 
-returns : tie.Need-returns invariant-loop decreases-loop
+returns : tie.Need-returns-then-is_end invariant-loop decreases-loop
 returns c =
     let i = c.before.before.before in
     let l = i.before.loop-at in

@@ -50,7 +50,7 @@ digits c =
 part-append-end : tie.Need-slice_bounds-append-end
 part-append-end c = let k = digits c.before.before.before.before in simp length-set (omega (arith, k.long, k.inside))
 
-returns : tie.Need-returns
+returns : tie.Need-returns-then-n-lt0
 returns c =
     let p = c.before.before in
     let s = p.before.before.before.before.before.before in

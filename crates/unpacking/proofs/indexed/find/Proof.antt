@@ -34,7 +34,7 @@ abbrev invariant-loop : tie.invariant-loop-found
 invariant-loop plan index cursor₀ found₀ i₀ cursor found i = Inv plan cursor₀.order index cursor found i
 
 abbrev decreases-loop : tie.decreases-loop-found
-decreases-loop plan index cursor₀ found₀ i₀ cursor found i = cursor.left
+decreases-loop plan index cursor₀ found₀ i₀ cursor found i = cursor.false
 
 abbrev start : tie.At-loop-found invariant-loop decreases-loop → tie.Start invariant-loop decreases-loop
 start c = c.before.before.before
@@ -107,8 +107,8 @@ loop-again c =
       walked = walk_goes v.walked g;
       counts = ap (λ (n : ℕ). n + 1) v.counts ∙ sym (one_more v.done t);
       is = ⊎_elim
-          (λ w. ap (found_as plan) w.1 ∙ sym (ap accepted (ap (get_elem? (v.done ++ (t ∷ []))) (sym w.0.taken ∙ v.counts) ∙ last_index v.done t)))
-          (λ w. ap (found_as plan) w.1 ∙ v.is ∙ sym (ap accepted (other_index v.done t index (λ e. w.0.left (v.counts ∙ e)))))
+          (λ w. ap (found_as plan) w.1 ∙ sym (ap accepted (ap (get_elem? (v.done ++ (t ∷ []))) (sym w.0.true ∙ v.counts) ∙ last_index v.done t)))
+          (λ w. ap (found_as plan) w.1 ∙ v.is ∙ sym (ap accepted (other_index v.done t index (λ e. w.0.false (v.counts ∙ e)))))
           c.if-i-index.branch;
       placed = ⊎_elim (λ w. subst⁻¹ (FoundPlaced plan) w.1 (g.placed, g.room)) (λ w. subst⁻¹ (FoundPlaced plan) w.1 v.placed) c.if-i-index.branch;
     }
@@ -128,5 +128,5 @@ find_spec =
     returns-2
     (λ c. search rules)
     (λ c. let v = c.before.before.before.before.before.loop-found.invariant in record { fits = omega (arith, v.counts, v.walked.few) })
-    (λ c. omega (arith, (went c.before.before).left))
+    (λ c. omega (arith, (went c.before.before).false))
     loop-again)

@@ -24,7 +24,7 @@ shift-requires c κs =
     let s = start k in
     let p = s.args.place in
     let part = drop p.at s.args.plan.now in
-    (omega (arith, s.pre.2, length-take (p.at + s.args.count - p.at) part), s.pre.0.few)
+    (omega (arith, s.requires.2, length-take (p.at + s.args.count - p.at) part), s.requires.0.few)
 
 returns : tie.Need-returns
 returns c =
@@ -35,7 +35,7 @@ returns c =
     let n : p.at + a.count - p.at ≡ a.count = omega arith in
     c.before.before.shift.ensures.1
     ∙ ap (λ (m : ℕ). sets a.registers-1.now a.subaddress (shifted p.held (get_or a.plan.now (p.at - 1) 0) (take m (drop p.at a.plan.now)))) n
-    ∙ ap (sets a.registers-1.now a.subaddress) (sym (data_shifted a.count a.plan.now p s.pre.0 s.pre.1 (byte k)))
+    ∙ ap (sets a.registers-1.now a.subaddress) (sym (data_shifted a.count a.plan.now p s.requires.0 s.requires.1 (byte k)))
 
 pub copy_bytes_spec : {M : Type 1} → statement M
 copy_bytes_spec =

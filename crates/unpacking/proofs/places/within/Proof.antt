@@ -10,7 +10,7 @@ use borrow.Author.Tests.{lt-ltb, le-ltb, le-leb, lt-leb}
 use Rattle.unpacking.proofs.places.within.Statement.{statement}
 use Rattle.unpacking.proofs.places.within.Tie as tie
 
-returns : tie.Need-returns
+returns : tie.Need-returns-then-place-eq0
 returns c =
     let a = c.before.before.args in
     let n = length a.plan.now in

@@ -6,7 +6,7 @@ use Rattle.unpacking.proofs.PlaceLaws.{start-number, no_number_lem}
 use Rattle.unpacking.proofs.steps.begin.Statement.{statement}
 use Rattle.unpacking.proofs.steps.begin.Tie as tie
 
-returns : tie.Need-returns
+returns : tie.Need-returns-then-plan-eq0
 returns c = let plan = c.before.args.plan.now in rw (no_number_lem plan c.if-plan-eq0.true) refl
 
 returns-2 : tie.Need-returns

@@ -9,7 +9,7 @@ use Rattle.unpacking.proofs.PlaceLaws.{not_filling, last_filling}
 use Rattle.unpacking.proofs.steps.filling.Statement.{statement}
 use Rattle.unpacking.proofs.steps.filling.Tie as tie
 
-returns : tie.Need-returns
+returns : tie.Need-returns-then-at-plan
 returns c =
     let s = c.before in
     sym (not_filling s.args.plan.now s.args.place s.requires c.if-at-plan.true)

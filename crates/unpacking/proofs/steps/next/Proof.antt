@@ -32,7 +32,7 @@ bits_at w = left_at (plan-at w) (cursor-at w).place-1
 
 -- ---- the place
 
-returns : tie.Need-returns
+returns : tie.Need-returns-then-not-within
 returns c = let w = c.before in sym (outside (plan-at w) (cursor-at w) (sym w.within.ensures ∙ not-true _ c.if-not-within.true))
 
 right : (c : tie.Else-not-within) → inside (plan-at c.before) (cursor-at c.before).place-1 ≡ true
@@ -60,7 +60,7 @@ returns-3 c =
 -- ---- a transaction to come
 
 -- how many follow it
-turn : (c : tie.Else-left-eq0) → (cursor-at c.before.before).left ≡ suc ((cursor-at c.before.before).left - 1)
+turn : (c : tie.Else-left-eq0) → (cursor-at c.before.before).false ≡ suc ((cursor-at c.before.before).false - 1)
 turn c = let some = lt_of_le-ne zero-le (λ z. c.if-left-eq0.false (sym z)) in omega (arith, some)
 
 -- it isn't there
@@ -68,7 +68,7 @@ faulty : (c : tie.Else-left-eq0) → (Front (cursor-at c.before.before).free (bi
     → Fault ≡ next_of (plan-at c.before.before) (cursor-at c.before.before)
 faulty c f =
     let w = c.before.before in
-    sym (not_in_front (plan-at w) (cursor-at w) (right c.before) ((cursor-at w).left - 1) (turn c) f)
+    sym (not_in_front (plan-at w) (cursor-at w) (right c.before) ((cursor-at w).false - 1) (turn c) f)
 
 -- how many bits are left
 bits-length : (c : tie.Else-not-within) → length (bits_at c.before) ≡ (length (plan-at c.before) - (cursor-at c.before).place-1.at) * 8 + (cursor-at
@@ -135,7 +135,7 @@ front c =
     let e = h.header_at-header.ensures in
     let some = lt_of_le-ne zero-le (λ z. c.before.before.before.before.if-count-eq0.false (sym z)) in
     record {
-      long = omega (arith, h.before.if-plan-place-lt-HEADER_BYTES.left, bits-length (located h).before);
+      long = omega (arith, h.before.if-plan-place-lt-HEADER_BYTES.false, bits-length (located h).before);
       some = omega (arith, some, e.count);
       from = omega (arith, c.before.before.if-subaddress-cursor.false, e.subaddress);
       held = omega (arith, c.if-plan-data.false, e.count, data_length h);
@@ -154,7 +154,7 @@ returns-8 c =
     let s = c.before in
     let h = header s in
     let w = (located h).before.before in
-    let n = (cursor-at w).left - 1 in
+    let n = (cursor-at w).false - 1 in
     let there : in_front (cursor-at w).free (bits_at w) ≡ true =
     holds (in_front (cursor-at w).free (bits_at w)) (front_from (cursor-at w).free (bits_at w) (front s)) in
     c.found.ensures ∙ header_first (plan-at w) (cursor-at w).place-1 h.header_at-header.result n (cursor-at w).order h.header_at-header.ensures

@@ -25,7 +25,7 @@ abbrev invariant-loop : tie.invariant-loop-subaddress
 invariant-loop line₀ at image plan cursor₀ place₀ line cursor place = Listing (house_reason image) line₀ at plan line cursor place
 
 abbrev decreases-loop : tie.decreases-loop-subaddress
-decreases-loop line₀ at image plan cursor₀ place₀ line cursor place = cursor.left
+decreases-loop line₀ at image plan cursor₀ place₀ line cursor place = cursor.false
 
 -- where the function was entered
 abbrev start : tie.At-loop-subaddress invariant-loop decreases-loop → tie.Start invariant-loop decreases-loop
@@ -57,9 +57,9 @@ returns c =
     let l = n.before.loop-subaddress.invariant in
     let s = start n.before in
     let plan = plan-at n.before in
-    let all = all_passed l.walked s.pre.0 n.next.result c.in-Transaction.keys2 (said n n.next.result refl) in
+    let all = all_passed l.walked s.requires.0 n.next.result c.in-Transaction.keys2 (said n n.next.result refl) in
     same_text (ap (flat_map (transaction_text (why n.before))) (sym all))
-    (wider (byte_width * length plan) (omega (arith, plan-width plan s.pre.0, ap list_width all)) l.written)
+    (wider (byte_width * length plan) (omega (arith, plan-width plan s.requires.0, ap list_width all)) l.written)
 
 -- the transaction that was found
 went : (c : tie.In-Transaction-2 invariant-loop decreases-loop)
@@ -86,14 +86,14 @@ room : (c : tie.After-copy_data invariant-loop decreases-loop) → (let l = (fou
 room c =
     let a = (found c).before.before.before in
     let s = start a in
-    omega (arith, lines-room a.loop-subaddress.inv s.pre.0 s.pre.1.0 (went (found c)), kept a.loop-subaddress.inv.written)
+    omega (arith, lines-room a.loop-subaddress.invariant s.requires.0 s.requires.1.0 (went (found c)), kept a.loop-subaddress.invariant.written)
 
 transaction-lines-requires : tie.Need-transaction_lines-place-requires invariant-loop decreases-loop
 transaction-lines-requires c κs =
     let d = c.before.before.before.before in
     let g = went (found d) in
     let many = as_many d in
-    (omega (arith, room d), ((start (found d).before.before.before).pre.1.1, omega (arith, g.low, g.few)))
+    (omega (arith, room d), ((start (found d).before.before.before).requires.1.1, omega (arith, g.low, g.few)))
 
 loop-again : tie.Need-loop-subaddress-preserved invariant-loop decreases-loop
 loop-again c =
@@ -103,7 +103,7 @@ loop-again c =
     let a = f.before.before.before in
     let s = start a in
     let text : List ℕ → List ℕ = λ bs. transaction_text (why a) (record { subaddress = f.subaddress-1.given.0.0; bytes = bs }) in
-    listing_goes a.loop-subaddress.inv s.pre.0 s.pre.1.0 (went f)
+    listing_goes a.loop-subaddress.invariant s.requires.0 s.requires.1.0 (went f)
     (wider _ (omega (arith, as_many d)) (same_text (ap text (copied d).0) p.transaction_lines-place.ensures))
 
 pub plan_lines_spec : {M : Type 1} → statement M
@@ -125,5 +125,5 @@ plan_lines_spec =
     (λ c. omega arith)
     (λ c. (copied c.before.before.before).1)
     transaction-lines-requires
-    (λ c. omega (arith, (went (found c.before.before.before.before.before.before.before)).left))
+    (λ c. omega (arith, (went (found c.before.before.before.before.before.before.before)).false))
     loop-again)

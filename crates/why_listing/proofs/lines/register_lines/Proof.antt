@@ -48,7 +48,7 @@ register-line-requires c κs =
     let t = c.before in
     let w = t.before.loop-i.invariant.written in
     let s = start t.before in
-    (omega (arith, kept w, w.most, s.pre.0, t.loop-i-test.true), s.pre.1.0)
+    (omega (arith, kept w, w.most, s.requires.0, t.loop-i-test.true), s.requires.1.0)
 
 loop-again : tie.Need-loop-i-preserved invariant-loop decreases-loop
 loop-again c =
@@ -64,7 +64,7 @@ loop-again c =
       text = l.invariant.text ++ one;
       written =
           wider (register_width * (l.i + 1)) (omega arith)
-          (more l.invariant.written p.register_line-place.ensures (omega (arith, s.pre.0, t.loop-i-test.true)));
+          (more l.invariant.written p.register_line-place.ensures (omega (arith, s.requires.0, t.loop-i-test.true)));
       rest =
           append_assoc l.invariant.text one (lines_from (why t.before) a.first a.count (l.i + 1))
           ∙ ap (λ (x : List ℕ). l.invariant.text ++ x) (sym (lines_turn (why t.before) a.first a.count l.i t.loop-i-test.true)) ∙ l.invariant.rest;
@@ -85,9 +85,9 @@ register_lines_spec =
     invariant-loop
     decreases-loop
     loop-holds
-    (λ c. let t = c.before in record { fits = omega (arith, (start t.before).pre.1.1, t.loop-i-test.true) })
+    (λ c. let t = c.before in record { fits = omega (arith, (start t.before).requires.1.1, t.loop-i-test.true) })
     register-line-requires
-    (λ c. let t = c.before.before.before.before in record { fits = omega (arith, (start t.before).pre.1.1, t.loop-i-test.true) })
+    (λ c. let t = c.before.before.before.before in record { fits = omega (arith, (start t.before).requires.1.1, t.loop-i-test.true) })
     (λ c. omega (arith, c.before.before.before.before.loop-i-test.true))
     loop-again
     (λ c. kept c.before.loop-i.invariant.written)
