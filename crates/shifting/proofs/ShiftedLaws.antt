@@ -1,7 +1,7 @@
 -- Bytes shifted a part at a time. Assumes nothing.
 use mathlib.Core.Path.{◌≡◌, refl, sym, ap, ◌∙◌}
 use mathlib.Core.List.{List, [], ◌∷◌, ◌++◌}
-use Prim.Native.Nat.{ℕ, suc, ◌+◌, ◌-◌, ◌≤◌, ◌<◌}
+use Prim.Native.Nat.{ℕ, zero, suc, ◌+◌, ◌-◌, ◌≤◌, ◌<◌}
 use native.Mathlib.Nat.{add-zero}
 use native.Mathlib.Omega.{arith}
 use lib.ListN.{length, take, get_or, set}
@@ -41,6 +41,7 @@ more l at held before xs ys =
 
 -- the last of some bytes is the one before the next
 pub last_taken : (before : ℕ) (bs : List ℕ) (i : ℕ) → 0 < i → i ≤ length bs → last_from before (take i bs) ≡ get_or bs (i - 1) 0
+last_taken before bs zero some h = elim some [ ]
 last_taken before bs (suc k) some h =
     let e : k ≡ suc k - 1 = omega arith in
     ap (last_from before) (take-suc bs k 0 h) ∙ last_append before (take k bs) (get_or bs k 0 ∷ []) ∙ ap (λ (n : ℕ). get_or bs n 0) e

@@ -10,4 +10,6 @@ returns-2 : tie.Need-returns-else-limit-ge-LEAST_LIMIT
 returns-2 c = rw (lt-leb _ _ c.if-limit-ge-LEAST_LIMIT.false)
 
 pub limit_right_spec : {M : Type 1} → statement M
-limit_right_spec = tie.close (tie.spec returns returns-2)
+limit_right_spec = tie.close (tie.spec
+    returns
+    returns-2)

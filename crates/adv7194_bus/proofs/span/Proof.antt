@@ -21,4 +21,8 @@ returns c =
     rw (size c) (shl_exact count c.args.start 64 (ones_lt count) (omega arith))
 
 pub span_spec : {M : Type 1} → statement M
-span_spec = tie.close (tie.spec (λ c. search rules) sub-result (λ c. search rules) returns)
+span_spec = tie.close (tie.spec
+    (λ c. search rules)
+    sub-result
+    (λ c. search rules)
+    returns)

@@ -6,10 +6,13 @@ use Rattle.adv7194_c.proofs.adv7194_compare.Tie as tie
 
 returns : tie.Need-returns
 returns c =
-    let p = c.before in
-    let a = p.before.before.before.args in
+    let p = c in
+    let a = p.args in
     subst (Compares a.a.now a.b.now) (sym c.compare_answer.ensures)
     (compares a.a.now a.b.now p.compare.result p.compare.ensures)
 
 pub adv7194_compare_spec : {M : Type 1} → statement M
-adv7194_compare_spec = tie.close (tie.spec (λ c κs. tt) (λ c κs. tt) returns)
+adv7194_compare_spec = tie.close (tie.spec
+    (λ c κs. tt)
+    (λ c κs. tt)
+    returns)

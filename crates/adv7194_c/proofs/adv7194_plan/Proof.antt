@@ -8,11 +8,15 @@ use Rattle.adv7194_c.proofs.adv7194_plan.Tie as tie
 
 returns : tie.Need-returns
 returns c =
-    let p = c.before.before.before in
-    let a = p.before.before.before.before.args in
+    let p = c in
+    let a = p.args in
     let board = board_of a.image.now a.known in
     subst (Promises board a.settings.now a.address a.limit a.plan.now p.plan.new.1.1.1.1.1.0) (sym c.plan_answer.ensures)
     (promised board a.settings.now a.address a.limit a.plan.now p.plan.new.1.1.1.1.1.0 p.plan.result p.plan.ensures)
 
 pub adv7194_plan_spec : {M : Type 1} → statement M
-adv7194_plan_spec = tie.close (tie.spec (λ c κs. tt) (λ c κs. tt) (λ c. search rules) returns)
+adv7194_plan_spec = tie.close (tie.spec
+    (λ c κs. tt)
+    (λ c κs. tt)
+    (λ c. search rules)
+    returns)

@@ -7,12 +7,16 @@ use Rattle.adv7194_c.proofs.adv7194_plan_captions.Tie as tie
 
 returns : tie.Need-returns
 returns c =
-    let p = c.before.before.before in
-    let a = p.before.before.before.args in
-    subst (CaptionPromises a.extended.now a.ordinary.now a.address a.plan-1.now p.plan_captions.new.1.1.1.0)
+    let p = c in
+    let a = p.args in
+    subst (CaptionPromises a.extended.now a.ordinary.now a.address a.plan.now p.plan_captions.new.1.1.1.0)
     (sym c.plan_answer.ensures)
-    (captions_promised a.extended.now a.ordinary.now a.address a.plan-1.now p.plan_captions.new.1.1.1.0
+    (captions_promised a.extended.now a.ordinary.now a.address a.plan.now p.plan_captions.new.1.1.1.0
     p.plan_captions.result p.plan_captions.ensures)
 
 pub adv7194_plan_captions_spec : {M : Type 1} → statement M
-adv7194_plan_captions_spec = tie.close (tie.spec (λ c κs. tt) (λ c κs. tt) (λ c. search rules) returns)
+adv7194_plan_captions_spec = tie.close (tie.spec
+    (λ c κs. tt)
+    (λ c κs. tt)
+    (λ c. search rules)
+    returns)

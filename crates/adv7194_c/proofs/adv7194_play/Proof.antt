@@ -9,11 +9,15 @@ use Rattle.adv7194_c.proofs.adv7194_play.Tie as tie
 
 returns : tie.Need-returns
 returns c =
-    let p = c.before.before.before in
-    let a = p.before.before.before.before.args in
-    let board = board_of a.image-1.now a.known in
+    let p = c in
+    let a = p.args in
+    let board = board_of a.image.now a.known in
     subst (Plays Settings board a.used a.own a.plan.now p.play.new.0) (sym c.play_answer.ensures)
     (plays Settings board a.used a.own a.plan.now p.play.new.0 p.play.result (p.play.ensures.0, p.play.ensures.1.0))
 
 pub adv7194_play_spec : {M : Type 1} → statement M
-adv7194_play_spec = tie.close (tie.spec (λ c κs. tt) (λ c κs. tt) (λ c. search rules) returns)
+adv7194_play_spec = tie.close (tie.spec
+    (λ c κs. tt)
+    (λ c κs. tt)
+    (λ c. search rules)
+    returns)

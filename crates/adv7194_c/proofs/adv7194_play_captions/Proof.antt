@@ -9,12 +9,16 @@ use Rattle.adv7194_c.proofs.adv7194_play_captions.Tie as tie
 
 returns : tie.Need-returns
 returns c =
-    let p = c.before.before.before in
-    let a = p.before.before.before.before.args in
-    let board = board_of a.image-1.now a.known in
+    let p = c in
+    let a = p.args in
+    let board = board_of a.image.now a.known in
     subst (Plays Captions board a.used a.own a.plan.now p.play_captions.new.0) (sym c.play_answer.ensures)
     (plays Captions board a.used a.own a.plan.now p.play_captions.new.0 p.play_captions.result
     (p.play_captions.ensures.0, p.play_captions.ensures.1.0))
 
 pub adv7194_play_captions_spec : {M : Type 1} → statement M
-adv7194_play_captions_spec = tie.close (tie.spec (λ c κs. tt) (λ c κs. tt) (λ c. search rules) returns)
+adv7194_play_captions_spec = tie.close (tie.spec
+    (λ c κs. tt)
+    (λ c κs. tt)
+    (λ c. search rules)
+    returns)

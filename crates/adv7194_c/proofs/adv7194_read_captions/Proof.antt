@@ -5,7 +5,10 @@ use Rattle.adv7194_c.proofs.adv7194_read_captions.Statement.{statement}
 use Rattle.adv7194_c.proofs.adv7194_read_captions.Tie as tie
 
 returns : tie.Need-returns
-returns c = c.captions_answer.ensures ∙ ap captions_answer c.before.read_captions.ensures.0
+returns c = c.captions_answer.ensures ∙ ap captions_answer c.read_captions.ensures.0
 
 pub adv7194_read_captions_spec : {M : Type 1} → statement M
-adv7194_read_captions_spec = tie.close (tie.spec (λ c κs. tt) (λ c κs. tt) returns)
+adv7194_read_captions_spec = tie.close (tie.spec
+    (λ c κs. tt)
+    (λ c κs. tt)
+    returns)

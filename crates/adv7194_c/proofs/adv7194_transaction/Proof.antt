@@ -9,8 +9,12 @@ use Rattle.adv7194_c.proofs.adv7194_transaction.Tie as tie
 
 returns : tie.Need-returns
 returns c =
-    let p = c.before.before.before in
+    let p = c in
     (c.transaction_answer.ensures ∙ ap transaction_answer p.transaction.ensures.0, (p.transaction.ensures.1, judges behind _))
 
 pub adv7194_transaction_spec : {M : Type 1} → statement M
-adv7194_transaction_spec = tie.close (tie.spec (λ c κs. tt) (λ c κs. tt) (λ c. search rules) returns)
+adv7194_transaction_spec = tie.close (tie.spec
+    (λ c κs. tt)
+    (λ c κs. tt)
+    (λ c. search rules)
+    returns)

@@ -7,11 +7,14 @@ use Rattle.adv7194_c.proofs.adv7194_why.Tie as tie
 
 returns : tie.Need-returns
 returns c =
-    let p = c.before in
-    let a = p.before.before.args in
+    let p = c in
+    let a = p.args in
     let board = board_of a.image.now a.known in
     subst (Explains board a.settings.now a.limit a.subaddress) (sym c.why_answer.ensures)
     (explains board a.settings.now a.limit a.subaddress p.why.result p.why.ensures.0 p.why.ensures.1.0)
 
 pub adv7194_why_spec : {M : Type 1} → statement M
-adv7194_why_spec = tie.close (tie.spec (λ c κs. tt) (λ c κs. tt) returns)
+adv7194_why_spec = tie.close (tie.spec
+    (λ c κs. tt)
+    (λ c κs. tt)
+    returns)

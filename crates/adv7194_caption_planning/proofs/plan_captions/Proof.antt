@@ -16,47 +16,47 @@ use Rattle.adv7194_caption_planning.proofs.plan_captions.Tie as tie
 
 -- a refusal, with all that planning promises
 refused : (s : tie.Start) (n f : ℕ) → (let a = s.args in
-    caption_planning a.extended.now a.ordinary.now a.address (length a.plan-1.now) ≡ refused_at n f
-    → Clauses a.extended.now a.ordinary.now a.address a.plan-1.now a.plan-1.now (refused_at n f))
+    caption_planning a.extended.now a.ordinary.now a.address (length a.plan.now) ≡ refused_at n f
+    → Clauses a.extended.now a.ordinary.now a.address a.plan.now a.plan.now (refused_at n f))
 refused s n f e =
     let a = s.args in
-    clauses a.extended.now a.ordinary.now a.address a.plan-1.now a.plan-1.now (refused_at n f) (sym e)
-    (sym (refused_left a.extended.now a.ordinary.now a.address a.plan-1.now n f e))
+    clauses a.extended.now a.ordinary.now a.address a.plan.now a.plan.now (refused_at n f) (sym e)
+    (sym (refused_left a.extended.now a.ordinary.now a.address a.plan.now n f e))
 
 returns : tie.Need-returns-then-not-address_right
 returns c =
-    let r = c.before in
-    let s = r.before.before in
+    let r = c in
+    let s = c.before.before.before in
     let a = s.args in
     refused s 2 0
-    (wrong_address a.extended.now a.ordinary.now a.address (length a.plan-1.now) (sym r.address_right.ensures ∙ not-true _ c.if-not-address_right.true))
+    (wrong_address a.extended.now a.ordinary.now a.address (length a.plan.now) (sym r.address_right.ensures ∙ not-true _ c.if-not-address_right.true))
 
 -- the address is right
-right : (c : tie.Else-not-address_right) → address_right c.before.before.before.args.address ≡ true
-right c = sym c.before.address_right.ensures ∙ not-false _ c.if-not-address_right.false
+right : (c : tie.Else-not-address_right) → address_right c.args.address ≡ true
+right c = sym c.address_right.ensures ∙ not-false _ c.if-not-address_right.false
 
 returns-2 : tie.Need-returns-then-not-pairs_right
 returns-2 c =
-    let r = c.before in
-    let s = r.before.before.before.before in
+    let r = c in
+    let s = c.before.before.before.before.before in
     let a = s.args in
     refused s 3 caption_field
-    (wrong_pairs a.extended.now a.ordinary.now a.address (length a.plan-1.now) (right r.before)
+    (wrong_pairs a.extended.now a.ordinary.now a.address (length a.plan.now) (right c.before.before)
     (sym r.pairs_right.ensures ∙ not-true _ c.if-not-pairs_right.true))
 
 -- so are the pairs
-given : (c : tie.Else-not-pairs_right) → (let a = c.before.before.before.before.before.args in pairs_right a.extended.now a.ordinary.now ≡ true)
-given c = sym c.before.pairs_right.ensures ∙ not-false _ c.if-not-pairs_right.false
+given : (c : tie.Else-not-pairs_right) → (let a = c.args in pairs_right a.extended.now a.ordinary.now ≡ true)
+given c = sym c.pairs_right.ensures ∙ not-false _ c.if-not-pairs_right.false
 
 returns-3 : tie.Need-returns
 returns-3 c =
-    let p = c.before.before in
-    let e = p.before.before in
-    let x = e.before.before in
-    let a = x.before.before.before.args in
-    clauses a.extended.now a.ordinary.now a.address a.plan-1.now _ _
-    (p.plan_pairs.ensures.0 ∙ sym (right_pairs a.extended.now a.ordinary.now a.address (length a.plan-1.now) (right x) (given e)))
-    (p.plan_pairs.ensures.1 ∙ sym (packed_left_lem a.extended.now a.ordinary.now a.address a.plan-1.now (right x) (given e)))
+    let p = c in
+    let e = c.before.before.before.before in
+    let x = c.before.before.before.before.before.before in
+    let a = x.args in
+    clauses a.extended.now a.ordinary.now a.address a.plan.now _ _
+    (p.plan_pairs.ensures.0 ∙ sym (right_pairs a.extended.now a.ordinary.now a.address (length a.plan.now) (right x) (given e)))
+    (p.plan_pairs.ensures.1 ∙ sym (packed_left_lem a.extended.now a.ordinary.now a.address a.plan.now (right x) (given e)))
 
 pub plan_captions_spec : {M : Type 1} → statement M
 plan_captions_spec =

@@ -39,19 +39,19 @@ cost s = let k = known s in ap₂ cost_of (sym k.transactions) (sym k.bytes) ∙
 returns : tie.Need-returns-then-plan-length
 returns c =
     let p = c.before in
-    let s = p.before.before in
-    too_short (list s) (list s) s.args.plan-1.now refl (omega (arith, c.if-plan-length.true, long p))
+    let s = c.before.before.before in
+    too_short (list s) (list s) s.args.plan.now refl (omega (arith, c.if-plan-length.true, long p))
 
 pack-pairs-requires : tie.Need-pack_pairs-requires
 pack-pairs-requires c κs =
     let p = c.before.before in
-    let s = p.before.before in
-    record { right = s.requires; counted = sym (known s).transactions; fits = omega (arith, c.before.if-plan-length.false, long p) }
+    let s = c.before.before.before.before in
+    record { right = s.requires; counted = sym (known s).transactions; fits = omega (arith, c.if-plan-length.false, long p) }
 
 cast-t10 : tie.Need-overflow_cast-result
 cast-t10 c =
-    let p = c.before.before.before.before.before in
-    omega (arith, p.packed_length-length.ensures, (known p.before.before).few)
+    let p = c in
+    omega (arith, p.packed_length-length.ensures, (known c.before.before.before.before.before.before.before).few)
 
 cast-t18 : tie.Need-overflow_cast-result-2
 cast-t18 c =
@@ -60,11 +60,11 @@ cast-t18 c =
 
 returns-2 : tie.Need-returns
 returns-2 c =
-    let r = c.before.before.before in
-    let e = r.before.before in
-    let p = e.before in
-    let s = p.before.before in
-    has_room (list s) (list s) s.args.plan-1.now r.pack_pairs.new.0 p.packed_length-length.result (characters s / 2) c.bus_bytes.result
+    let r = c in
+    let e = c in
+    let p = c.before.before.before.before.before.before in
+    let s = c.before.before.before.before.before.before.before.before in
+    has_room (list s) (list s) s.args.plan.now r.pack_pairs.new.0 p.packed_length-length.result (characters s / 2) c.bus_bytes.result
     refl (omega (arith, e.if-plan-length.false, long p)) (long p) (sym (known s).transactions) (c.bus_bytes.ensures ∙ cost s) r.pack_pairs.ensures
 
 pub plan_pairs_spec : {M : Type 1} → statement M

@@ -29,7 +29,7 @@ returns c = let s = c.before.before in answers (board s) (pair s) (wrong_length 
 returns-2 : tie.Need-returns-then-pair-ge-PAIRS
 returns-2 c =
     let s = c.before.before.before in
-    answers (board s) (pair s) (wrong_pair (board s) (pair s) c.before.if-image.false c.if-pair-ge-PAIRS.true)
+    answers (board s) (pair s) (wrong_pair (board s) (pair s) c.if-image.false c.if-pair-ge-PAIRS.true)
 
 -- where the function was entered, from where both flags are known
 abbrev start : tie.After-has-2 → tie.Start
@@ -40,17 +40,17 @@ abbrev tests : tie.After-has-2 → tie.Else-pair-ge-PAIRS
 tests c = c.before.before
 
 -- whether both registers are known
-known : (c : tie.After-has-2) → (c.before.has.result && c.has-2.result) ≡ both_known (board (start c)) (pair (start c))
+known : (c : tie.After-has-2) → (c.has.result && c.has-2.result) ≡ both_known (board (start c)) (pair (start c))
 known c =
     let s = start c in
-    ap₂ ◌&&◌ c.before.has.ensures (c.has-2.ensures ∙ ap (knows (board s)) (add-one (pair_register (pair s))))
+    ap₂ ◌&&◌ c.has.ensures (c.has-2.ensures ∙ ap (knows (board s)) (add-one (pair_register (pair s))))
 
 returns-3 : tie.Need-returns-then-not-has
 returns-3 c =
     let k = c.before in
     let s = start k in
     let t = tests k in
-    answers (board s) (pair s) (unknown-pair (board s) (pair s) t.before.if-image.false t.if-pair-ge-PAIRS.false (sym (known k) ∙ not-true _ c.if-not-has.true))
+    answers (board s) (pair s) (unknown-pair (board s) (pair s) t.if-image.false t.if-pair-ge-PAIRS.false (sym (known k) ∙ not-true _ c.if-not-has.true))
 
 -- they are, past that test
 are-known : (c : tie.Else-not-has) → both_known (board (start c.before)) (pair (start c.before)) ≡ true
@@ -61,11 +61,11 @@ abbrev passed : tie.After-is_odd-2 → tie.Else-not-has
 passed c = c.before.before.before.before
 
 -- whether both bytes have an odd count of ones
-odd : (c : tie.After-is_odd-2) → (let s = start (passed c).before in (c.before.is_odd.result && c.is_odd-2.result) ≡ both_odd (board s).registers (pair s))
+odd : (c : tie.After-is_odd-2) → (let s = start (passed c).before in (c.is_odd.result && c.is_odd-2.result) ≡ both_odd (board s).registers (pair s))
 odd c =
     let s = start (passed c).before in
     let r = pair_register (pair s) in
-    ap₂ ◌&&◌ c.before.is_odd.ensures (c.is_odd-2.ensures ∙ ap (λ (k : ℕ). is_odd (get_or (board s).registers k 0)) (add-one r))
+    ap₂ ◌&&◌ c.is_odd.ensures (c.is_odd-2.ensures ∙ ap (λ (k : ℕ). is_odd (get_or (board s).registers k 0)) (add-one r))
 
 returns-4 : tie.Need-returns-then-not-is_odd
 returns-4 c =
@@ -74,7 +74,7 @@ returns-4 c =
     let s = start p.before in
     let t = tests p.before in
     answers (board s) (pair s)
-    (even_ones (board s) (pair s) t.before.if-image.false t.if-pair-ge-PAIRS.false (are-known p) (sym (odd o) ∙ not-true _ c.if-not-is_odd.true))
+    (even_ones (board s) (pair s) t.if-image.false t.if-pair-ge-PAIRS.false (are-known p) (sym (odd o) ∙ not-true _ c.if-not-is_odd.true))
 
 returns-5 : tie.Need-returns
 returns-5 c =
@@ -85,7 +85,7 @@ returns-5 c =
     let i = (board s).registers in
     let r = pair_register (pair s) in
     answers (board s) (pair s)
-    (odd_ones_lem (board s) (pair s) t.before.if-image.false t.if-pair-ge-PAIRS.false (are-known p) (sym (odd o) ∙ not-false _ c.if-not-is_odd.false)
+    (odd_ones_lem (board s) (pair s) t.if-image.false t.if-pair-ge-PAIRS.false (are-known p) (sym (odd o) ∙ not-false _ c.if-not-is_odd.false)
     ∙ ap (λ (k : ℕ). good (record { first = character_in (get_or i r 0); second = character_in (get_or i k 0) })) (sym (add-one r)))
 
 pub read_captions_spec : {M : Type 1} → statement M

@@ -23,4 +23,7 @@ returns : tie.Need-returns
 returns c = c.with_parity.ensures ∙ ap caption_byte (same c.before)
 
 pub caption_byte_spec : {M : Type 1} → statement M
-caption_byte_spec = tie.close (tie.spec cast-with-parity with-parity-requires returns)
+caption_byte_spec = tie.close (tie.spec
+    cast-with-parity
+    with-parity-requires
+    returns)

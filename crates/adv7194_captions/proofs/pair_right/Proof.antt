@@ -15,10 +15,10 @@ use Rattle.adv7194_captions.proofs.pair_right.Statement.{statement}
 use Rattle.adv7194_captions.proofs.pair_right.Tie as tie
 
 returns : tie.Need-returns-then-pair-eq0
-returns c = sym (none_right c.before.args.pair.now c.if-pair-eq0.true)
+returns c = sym (none_right c.args.pair.now c.if-pair-eq0.true)
 
 returns-2 : tie.Need-returns-then-pair-ne-PAIR
-returns-2 c = sym (length_wrong c.before.before.args.pair.now c.before.if-pair-eq0.false c.if-pair-ne-PAIR.true)
+returns-2 c = sym (length_wrong c.args.pair.now c.if-pair-eq0.false c.if-pair-ne-PAIR.true)
 
 -- the machine's number is the pair's
 same : (z : ℤ) → mag z < 2 ^ 31 → is_character (to_z w32 (of_z w32 z)) ≡ is_character z
@@ -26,11 +26,11 @@ same z h = ap is_character (to_z-of_z w32 z (record { sfits = h }))
 
 returns-3 : tie.Need-returns
 returns-3 c =
-    let b = c.before.before in
-    let e = b.before.before in
-    let zs = e.before.before.args.pair.now in
-    ap₂ ◌&&◌ (b.is_character.ensures ∙ same (get_or zs 0 (pos 0)) b.before.is_character-arg-1.given)
-    (c.is_character-2.ensures ∙ same (get_or zs 1 (pos 0)) c.before.is_character-arg-2-1.given)
+    let b = c in
+    let e = c in
+    let zs = e.args.pair.now in
+    ap₂ ◌&&◌ (b.is_character.ensures ∙ same (get_or zs 0 (pos 0)) b.is_character-arg-1.given)
+    (c.is_character-2.ensures ∙ same (get_or zs 1 (pos 0)) c.is_character-arg-2-1.given)
     ∙ sym (two_right zs e.if-pair-ne-PAIR.false)
 
 pub pair_right_spec : {M : Type 1} → statement M

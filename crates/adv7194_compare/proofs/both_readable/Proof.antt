@@ -13,10 +13,14 @@ first_fails : {s p : Bool} (q : Bool) → s ≡ p → s ≡ false → false ≡ 
 first_fails {s} {p} q e h = let g : p ≡ false = sym e ∙ h in rw g
 
 returns : tie.Need-returns-then-can_be_read
-returns c = first_holds c.before.before.can_be_read.ensures c.before.if-can_be_read.true c.can_be_read-then-can_be_read.ensures
+returns c = first_holds c.can_be_read.ensures c.if-can_be_read.true c.can_be_read-then-can_be_read.ensures
 
 returns-2 : tie.Need-returns
-returns-2 c = first_fails _ c.before.can_be_read.ensures c.if-can_be_read.false
+returns-2 c = first_fails _ c.can_be_read.ensures c.if-can_be_read.false
 
 pub both_readable_spec : {M : Type 1} → statement M
-both_readable_spec = tie.close (tie.spec (λ c κs. search rules) (λ c κs. search rules) returns returns-2)
+both_readable_spec = tie.close (tie.spec
+    (λ c κs. search rules)
+    (λ c κs. search rules)
+    returns
+    returns-2)

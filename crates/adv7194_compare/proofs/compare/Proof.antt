@@ -8,9 +8,12 @@ use Rattle.adv7194_compare.proofs.compare.Tie as tie
 
 returns : tie.Need-returns
 returns c =
-    let b = c.before in
-    let s = b.before.before.before.args in
+    let b = c in
+    let s = b.args in
     (c.compare_by.ensures.0 ∙ ap (λ (t : Bool). compare_by t s.a.now s.b.now) b.both_readable.ensures, c.compare_by.ensures.1)
 
 pub compare_spec : {M : Type 1} → statement M
-compare_spec = tie.close (tie.spec (λ c κs. search rules) (λ c κs. search rules) returns)
+compare_spec = tie.close (tie.spec
+    (λ c κs. search rules)
+    (λ c κs. search rules)
+    returns)

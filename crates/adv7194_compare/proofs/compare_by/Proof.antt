@@ -10,35 +10,35 @@ use Rattle.adv7194_compare.proofs.compare_by.Tie as tie
 
 -- the images' bytes are bytes
 bytes : (c : tie.After-shared_slice_known-2-1) (r : ℕ)
-    → (get_or c.before.before.args.a.now r 0 < 2 ^ 8) × (get_or c.before.before.args.b.now r 0 < 2 ^ 8)
-bytes c r = ((c.before.shared_slice_known-1.given r).fits, (c.shared_slice_known-2-1.given r).fits)
+    → (get_or c.args.a.now r 0 < 2 ^ 8) × (get_or c.args.b.now r 0 < 2 ^ 8)
+bytes c r = ((c.shared_slice_known-1.given r).fits, (c.shared_slice_known-2-1.given r).fits)
 
 returns : tie.Need-returns-then-not-whole
 returns c =
-    let w = c.before in
-    let s = w.before.before.before.args in
+    let w = c in
+    let s = w.args in
     let e = first_short s.readable s.a.now s.b.now (sym w.whole.ensures ∙ not-true _ c.if-not-whole.true) in
-    (e, list-empty s.readable s.a.now s.b.now (bytes w.before) e)
+    (e, list-empty s.readable s.a.now s.b.now (bytes c.before.before) e)
 
 returns-2 : tie.Need-returns-then-not-whole-2
 returns-2 c =
-    let w = c.before.before.before in
-    let s = w.before.before.before.args in
+    let w = c in
+    let s = w.args in
     let e =
-    second_short s.readable s.a.now s.b.now (sym w.whole.ensures ∙ not-false _ c.before.before.if-not-whole.false)
-    (sym c.before.whole-2.ensures ∙ not-true _ c.if-not-whole-2.true) in
-    (e, list-empty s.readable s.a.now s.b.now (bytes w.before) e)
+    second_short s.readable s.a.now s.b.now (sym w.whole.ensures ∙ not-false _ c.if-not-whole.false)
+    (sym c.whole-2.ensures ∙ not-true _ c.if-not-whole-2.true) in
+    (e, list-empty s.readable s.a.now s.b.now (bytes c.before.before.before.before) e)
 
 returns-3 : tie.Need-returns
 returns-3 c =
-    let f = c.before in
-    let v = f.before.before in
-    let w = v.before.before in
-    let s = w.before.before.before.args in
+    let f = c in
+    let v = c in
+    let w = c in
+    let s = w.args in
     let e =
-    both_whole s.readable s.a.now s.b.now (sym w.whole.ensures ∙ not-false _ v.before.if-not-whole.false)
-    (sym v.whole-2.ensures ∙ not-false _ f.before.if-not-whole-2.false) f.fields_differing.ensures c.registers_differing.ensures in
-    (e, list-empty s.readable s.a.now s.b.now (bytes w.before) e)
+    both_whole s.readable s.a.now s.b.now (sym w.whole.ensures ∙ not-false _ v.if-not-whole.false)
+    (sym v.whole-2.ensures ∙ not-false _ f.if-not-whole-2.false) f.fields_differing.ensures c.registers_differing.ensures in
+    (e, list-empty s.readable s.a.now s.b.now (bytes c.before.before.before.before.before.before) e)
 
 pub compare_by_spec : {M : Type 1} → statement M
 compare_by_spec =

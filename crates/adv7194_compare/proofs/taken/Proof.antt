@@ -11,20 +11,20 @@ use Rattle.adv7194_compare.proofs.taken.Tie as tie
 
 returns : tie.Need-returns-in_default
 returns c =
-    let r = c.before.before.before.read-answer in
-    let a = c.before.before.before.before.before.before.args in (
-      sym (ap (λ (x : Checked). is_good (checked_as x)) c.enum_told-in_default-1.given.1) ∙ ap is_good r.ensures.0
-          ∙ taken-good a.image.now (length a.numbers-1.now),
-      r.ensures.1.0 ∙ taken_left a.image.now a.numbers-1.now,
+    let r = c.read-answer in
+    let a = c.args in (
+      sym (ap (λ (x : Checked). is_good (checked_as x)) c.in_default.is) ∙ ap is_good r.ensures.0
+          ∙ taken-good a.image.now (length a.numbers.now),
+      r.ensures.1.0 ∙ taken_left a.image.now a.numbers.now,
     )
 
 returns-2 : tie.Need-returns
 returns-2 c =
-    let r = c.before.before.before.read-answer in
-    let a = c.before.before.before.before.before.before.args in (
-      sym (ap (λ (x : Checked). is_good (checked_as x)) c.enum_told-1.given.1) ∙ ap is_good r.ensures.0
-          ∙ taken-good a.image.now (length a.numbers-1.now),
-      r.ensures.1.0 ∙ taken_left a.image.now a.numbers-1.now,
+    let r = c.read-answer in
+    let a = c.args in (
+      sym (ap (λ (x : Checked). is_good (checked_as x)) c.in-Good.is) ∙ ap is_good r.ensures.0
+          ∙ taken-good a.image.now (length a.numbers.now),
+      r.ensures.1.0 ∙ taken_left a.image.now a.numbers.now,
     )
 
 pub taken_spec : {M : Type 1} → statement M

@@ -24,33 +24,33 @@ same-q s = to_z-of_z w32 s.args.q s.ranges.q
 
 -- the flags are those of the arguments
 flags : (c : tie.After-inside-2)
-    → (c.before.inside.result && c.inside-2.result) ≡ (between 1 3 c.before.before.args.p && between 1 3 c.before.before.args.q)
+    → (c.inside.result && c.inside-2.result) ≡ (between 1 3 c.args.p && between 1 3 c.args.q)
 flags c =
     let s = c.before.before in
-    ap₂ ◌&&◌ (c.before.inside.ensures ∙ ap (between 1 3) (same-p s)) (c.inside-2.ensures ∙ ap (between 1 3) (same-q s))
+    ap₂ ◌&&◌ (c.inside.ensures ∙ ap (between 1 3) (same-p s)) (c.inside-2.ensures ∙ ap (between 1 3) (same-q s))
 
 -- where the test passes, p and q are 1 to 3
-both : (c : tie.Then-inside) → (between 1 3 c.before.before.before.args.p && between 1 3 c.before.before.before.args.q) ≡ true
+both : (c : tie.Then-inside) → (between 1 3 c.args.p && between 1 3 c.args.q) ≡ true
 both c = sym (flags c.before) ∙ c.if-inside.true
 
-in_p : (c : tie.Then-inside) → Inside c.before.before.before.args.p
-in_p c = p_inside c.before.before.before.args.p c.before.before.before.args.q (both c)
+in_p : (c : tie.Then-inside) → Inside c.args.p
+in_p c = p_inside c.args.p c.args.q (both c)
 
-in-q : (c : tie.Then-inside) → Inside c.before.before.before.args.q
-in-q c = q_inside c.before.before.before.args.p c.before.before.before.args.q (both c)
+in-q : (c : tie.Then-inside) → Inside c.args.q
+in-q c = q_inside c.args.p c.args.q (both c)
 
 -- a number of 1 to 3 is cast as it is
 cast-inside : (z : ℤ) → Inside z → T (non_neg z) × Fits w32 (nat_abs z)
 cast-inside z i = (i.sign, record { fits = omega arith })
 
 cast-of-pair : tie.Need-overflow_cast-p
-cast-of-pair c = rw (same-p c.before.before.before) (cast-inside c.before.before.before.args.p (in_p c))
+cast-of-pair c = rw (same-p c.before.before.before) (cast-inside c.args.p (in_p c))
 
 mul-of-pair : tie.Need-overflow_mul-p
 mul-of-pair c = rw (same-p c.before.before.before) (record { fits = omega (arith, (in_p c).high) })
 
 cast-of-pair-2 : tie.Need-overflow_cast-q
-cast-of-pair-2 c = rw (same-q c.before.before.before) (cast-inside c.before.before.before.args.q (in-q c))
+cast-of-pair-2 c = rw (same-q c.before.before.before) (cast-inside c.args.q (in-q c))
 
 add-of-pair : tie.Need-overflow_add-p
 add-of-pair c = rw (same-p c.before.before.before, same-q c.before.before.before) (record { fits = omega (arith, (in_p c).high, (in-q c).high) })

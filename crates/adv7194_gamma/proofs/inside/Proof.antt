@@ -8,4 +8,5 @@ returns : tie.Need-returns
 returns c = rw (to_z-of_z w32 c.args.n c.ranges.n)
 
 pub inside_spec : {M : Type 1} → statement M
-inside_spec = tie.close (tie.spec returns)
+inside_spec = tie.close (tie.spec
+    returns)

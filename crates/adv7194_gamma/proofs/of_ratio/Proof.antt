@@ -7,15 +7,15 @@ use Rattle.adv7194_gamma.proofs.of_ratio.Tie as tie
 returns : tie.Need-returns
 unfolding bytes_of
 returns c =
-    let four = c.before.before.before in
-    let three = four.before in
+    let four = c in
+    let three = c in
     rw (
-      three.before.before.byte_at-b0.ensures,
-      three.before.byte_at-b1.ensures,
+      three.byte_at-b0.ensures,
+      three.byte_at-b1.ensures,
       three.byte_at-b2.ensures,
       four.byte_at-b3.ensures,
-      c.before.before.byte_at-b4.ensures,
-      c.before.byte_at-b5.ensures,
+      c.byte_at-b4.ensures,
+      c.byte_at-b5.ensures,
       c.byte_at-b6.ensures,
     )
 

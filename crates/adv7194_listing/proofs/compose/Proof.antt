@@ -12,22 +12,22 @@ use Rattle.adv7194_listing.proofs.compose.Tie as tie
 
 returns : tie.Need-returns-in-Good
 returns c =
-    let s = c.before.before in
-    let t = s.before.before.before in
-    let r = t.before.before.before in
-    let a = r.before.before.before.before.args in
+    let s = c in
+    let t = c in
+    let r = c in
+    let a = r.args in
     let b = board_of a.image.now a.known in
-    let e = text_read b (replicate 49 (pos 0)) refl (sym (ap checked_as t.enum_told-1.given.1) ∙ r.read-answer.ensures.0) r.read-answer.ensures.1.0 in
+    let e = text_read b (replicate 49 (pos 0)) refl (sym (ap checked_as t.in-Good.is) ∙ r.read-answer.ensures.0) r.read-answer.ensures.1.0 in
     same_text e s.setting_lines.ensures
 
 returns-2 : tie.Need-returns-in-Refused
 returns-2 c =
-    let s = c.before.before in
-    let t = s.before.before.before in
-    let r = t.before.before.before in
-    let a = r.before.before.before.before.args in
+    let s = c in
+    let t = c in
+    let r = c in
+    let a = r.args in
     let b = board_of a.image.now a.known in
-    let e = text_refused b (replicate 49 (pos 0)) refl _ _ (sym (ap checked_as t.answer-1.given.1) ∙ r.read-answer.ensures.0) in
+    let e = text_refused b (replicate 49 (pos 0)) refl _ _ (sym (ap checked_as t.in-Refused.is) ∙ r.read-answer.ensures.0) in
     same_text e s.refused_text.ensures
 
 pub compose_spec : {M : Type 1} → statement M

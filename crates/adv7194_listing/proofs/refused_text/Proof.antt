@@ -16,45 +16,45 @@ use Rattle.adv7194_listing.proofs.refused_text.Statement.{statement}
 use Rattle.adv7194_listing.proofs.refused_text.Tie as tie
 
 -- the first line
-first : (c : tie.After-refused_line-first) → (let start = c.before.before.before.before in
+first : (c : tie.After-refused_line-first) → (let start = c in
     c.refused_line-first.result ≡ line_of (refused_line (number_of start.args.refusal) start.args.field))
 first c =
-    let f = c.before.before.before.before.args.field in
-    c.refused_line-first.ensures ∙ ap (λ (n : ℕ). line_of (refused_line n f)) c.before.number.ensures
+    let f = c.args.field in
+    c.refused_line-first.ensures ∙ ap (λ (n : ℕ). line_of (refused_line n f)) c.number.ensures
 
 -- its text
-text : (c : tie.After-refused_line-first) → (let start = c.before.before.before.before in
-    take (c.refused_line-first.result.length - 0) c.refused_line-first.result.bytes-1 ≡ refused_line (number_of start.args.refusal) start.args.field)
+text : (c : tie.After-refused_line-first) → (let start = c in
+    take (c.refused_line-first.result.length - 0) c.refused_line-first.result.bytes ≡ refused_line (number_of start.args.refusal) start.args.field)
 text c = line_part c.refused_line-first.result _ (first c)
 
 -- its length
-short : (c : tie.After-refused_line-first) → length (take (c.refused_line-first.result.length - 0) c.refused_line-first.result.bytes-1) ≤ 16
+short : (c : tie.After-refused_line-first) → length (take (c.refused_line-first.result.length - 0) c.refused_line-first.result.bytes) ≤ 16
 short c =
-    let start = c.before.before.before.before in
+    let start = c in
     let a = start.args in
     omega (arith, ap length (text c), refused-most (number_of a.refusal) a.field (number_small a.refusal) (omega (arith, start.ranges.field.fits)))
 
 part-put-end : tie.Need-slice_bounds-put-end
-part-put-end c = let l = c.before.before.before in line_long l.refused_line-first.result _ l.refused_line-first.ensures
+part-put-end c = let l = c in line_long l.refused_line-first.result _ l.refused_line-first.ensures
 
 put-requires : tie.Need-put-second-requires
 put-requires c κs =
-    let l = c.before.before.before.before in
-    omega (arith, short l, l.before.before.before.before.requires)
+    let l = c.before.before.before in
+    omega (arith, short l, l.requires)
 
 fault-line-requires : tie.Need-fault_line-requires
 fault-line-requires c κs =
-    let p = c.before.before.before in
-    let l = p.before.before.before.before.before in
+    let p = c in
+    let l = c.before.before.before.before.before.before.before in
     let w = put p.put-second.ensures.0 p.put-second.ensures.1 in
-    omega (arith, short l, w.answer, kept w, l.before.before.before.before.requires)
+    omega (arith, short l, w.answer, kept w, l.requires)
 
 returns : tie.Need-returns
 returns c =
-    let q = c.before.before in
-    let p = q.before.before.before.before in
-    let l = p.before.before.before.before.before in
-    let start = l.before.before.before.before in
+    let q = c in
+    let p = c in
+    let l = c.before.before.before.before.before.before.before.before.before.before in
+    let start = c in
     let w = same_text (text l) (wider 16 (short l) (put p.put-second.ensures.0 p.put-second.ensures.1)) in
     wider text_width (omega arith) (more w q.fault_line.ensures (omega (arith, start.requires)))
 

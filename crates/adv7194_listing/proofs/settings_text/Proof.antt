@@ -9,11 +9,11 @@ use Rattle.adv7194_listing.proofs.settings_text.Tie as tie
 
 returns : tie.Need-returns
 returns c =
-    let p = c.before.before in
-    let w = p.before.before.before.before.before.compose-end.ensures in
-    let a = p.before.before.before.before.before.before.before.before.before.args in
+    let p = c in
+    let w = p.compose-end.ensures in
+    let a = p.args in
     let e = part w (search rules) in
-    (p.append.ensures.0 ∙ ap (place_after a.out-1.now 0) e, (p.append.ensures.1 ∙ ap (appended a.out-1.now 0) e, omega (arith, w.answer, w.most)))
+    (p.append.ensures.0 ∙ ap (place_after a.out.now 0) e, (p.append.ensures.1 ∙ ap (appended a.out.now 0) e, omega (arith, w.answer, w.most)))
 
 pub settings_text_spec : {M : Type 1} → statement M
 settings_text_spec =

@@ -51,8 +51,8 @@ abbrev board : tie.Start → Board
 board c = board_of c.args.image.now c.args.known
 
 -- the image's bytes are bytes
-bytes : (c : tie.After-slice_known-1) (r : ℕ) → get_or c.before.before.args.image.now r 0 < 2 ^ 8
-bytes c r = (c.before.shared_slice_known-1.given r).fits
+bytes : (c : tie.After-slice_known-1) (r : ℕ) → get_or c.args.image.now r 0 < 2 ^ 8
+bytes c r = (c.shared_slice_known-1.given r).fits
 
 -- the image has a byte a register
 long : (c : tie.Else-image) → length (start1 c).args.image.now ≡ register_count
@@ -60,7 +60,7 @@ long c = c.if-image.false
 
 -- the address is right
 right : (c : tie.Else-not-address_right) → address_right (start2 c).args.address ≡ true
-right c = sym c.before.address_right.ensures ∙ not-false _ c.if-not-address_right.false
+right c = sym c.address_right.ensures ∙ not-false _ c.if-not-address_right.false
 
 module _ (k : tie.After-check) where
   abbrev s : tie.Start
@@ -70,8 +70,8 @@ module _ (k : tie.After-check) where
   zs = s.args.numbers.now
 
   -- the record that was made is the board
-  board-is : k.before.before.before.board_of-board.result ≡ board s
-  board-is = k.before.before.before.board_of-board.ensures
+  board-is : k.before.before.before.board-of.result ≡ board s
+  board-is = k.before.before.before.board-of.ensures
 
   -- what was checked decides
   checked : (address room : ℕ) → checked_as k.check.result ≡ verdict (board s) zs address s.args.limit room
@@ -80,10 +80,10 @@ module _ (k : tie.After-check) where
       ∙ ap (λ (b : Board). verdict (board_of b.registers s.args.known) zs address s.args.limit room) board-is
 
   -- so does packing after it
-  planned : planning_of (board s) zs s.args.address s.args.limit (length s.args.plan-1.now)
-      ≡ after (checked_as k.check.result) (packing_of (list_of (board s) zs s.args.limit) (length s.args.plan-1.now))
+  planned : planning_of (board s) zs s.args.address s.args.limit (length s.args.plan.now)
+      ≡ after (checked_as k.check.result) (packing_of (list_of (board s) zs s.args.limit) (length s.args.plan.now))
   planned =
-      let room = length s.args.plan-1.now in
+      let room = length s.args.plan.now in
       planning_is (board s) zs s.args.address s.args.limit room (long (right-at k).before.before) (right (right-at k))
       ∙ ap (λ (v : Verdict (Unit {0})). after v (packing_of (list_of (board s) zs s.args.limit) room)) (sym (checked s.args.address room))
 
@@ -100,15 +100,15 @@ module _ (k : tie.After-check) where
         ∙ image-is s.args.image.now zs s.args.limit passed.limited passed.passing.size
 
 -- the settings are accepted
-accepted : (c : tie.In-Good) → checked_as c.before.before.before.check.result ≡ good tt
-accepted c = ap checked_as c.enum_told-1.given.1
+accepted : (c : tie.In-Good) → checked_as c.check.result ≡ good tt
+accepted c = ap checked_as c.in-Good.is
 
 -- the aim of the map of fixed registers is the settings'
-aim-is : (c : tie.After-fixed_registers) → (let k = c.before.before.before.before in
-    aim_by k.before.before.before.board_of-board.result k.check.new.1.1.1.0 c.fixed_registers.result (s k).args.limit
+aim-is : (c : tie.After-fixed_registers) → (let k = c in
+    aim_by k.board_of-board.result k.check.new.1.1.1.0 c.fixed_registers.result (s k).args.limit
     ≡ aim_of (board (s k)) (zs k) (s k).args.limit)
 aim-is c =
-    let k = c.before.before.before.before in
+    let k = c in
     ap (λ (b : Board). aim_by b k.check.new.1.1.1.0 c.fixed_registers.result (s k).args.limit) (board-is k)
     ∙ same_aim (board (s k)) (zs k) k.check.new.1.1.1.0 c.fixed_registers.result (s k).args.limit (wanted-is k (accepted c.before))
     c.fixed_registers.ensures
@@ -116,64 +116,64 @@ aim-is c =
 -- ---- the answers
 
 -- a refusal, with all that planning promises
-refused : (c : tie.After-slice_known-1) (n f : ℕ) → (let a = c.before.before.args in
-    planning_of (board c.before.before) a.numbers.now a.address a.limit (length a.plan-1.now) ≡ refused_at n f
-    → Clauses (board c.before.before) a.numbers.now a.address a.limit a.plan-1.now a.plan-1.now (refused_at n f))
+refused : (c : tie.After-slice_known-1) (n f : ℕ) → (let a = c.args in
+    planning_of (board c.before.before) a.numbers.now a.address a.limit (length a.plan.now) ≡ refused_at n f
+    → Clauses (board c.before.before) a.numbers.now a.address a.limit a.plan.now a.plan.now (refused_at n f))
 refused c n f e =
-    let a = c.before.before.args in
+    let a = c.args in
     let b = board c.before.before in
-    clauses b a.numbers.now a.limit (bytes c) a.address a.plan-1.now a.plan-1.now (refused_at n f) (sym e)
-    (refuse b a.numbers.now a.address a.limit a.plan-1.now n f e)
+    clauses b a.numbers.now a.limit (bytes c) a.address a.plan.now a.plan.now (refused_at n f) (sym e)
+    (refuse b a.numbers.now a.address a.limit a.plan.now n f e)
 
 returns : tie.Need-returns-then-image
 returns c =
     let s = c.before.before.before in
     let a = s.args in
-    refused c.before 1 0 (wrong_length (board s) a.numbers.now a.address a.limit (length a.plan-1.now) c.if-image.true)
+    refused c.before 1 0 (wrong_length (board s) a.numbers.now a.address a.limit (length a.plan.now) c.if-image.true)
 
 returns-2 : tie.Need-returns-then-not-address_right
 returns-2 c =
-    let r = c.before in
-    let s = start1 r.before in
+    let r = c in
+    let s = start1 c.before.before in
     let a = s.args in
-    refused r.before.before 2 0
-    (wrong_address (board s) a.numbers.now a.address a.limit (length a.plan-1.now) (long r.before)
+    refused c.before.before.before 2 0
+    (wrong_address (board s) a.numbers.now a.address a.limit (length a.plan.now) (long c.before.before)
     (sym r.address_right.ensures ∙ not-true _ c.if-not-address_right.true))
 
 plan-change-requires : tie.Need-plan_change-requires
 plan-change-requires c κs =
     let f = c.before.before in
-    let k = f.before.before.before.before in
+    let k = c.before.before.before.before.before in
     let e = (right-at k).before.before in
     subst Change (sym (aim-is f))
     (settings_change (board (s k)) (zs k) (s k).args.limit (record { size = long e; bytes = bytes e.before })
-    (passed k (accepted f.before)).limited)
+    (passed k (accepted c.before.before.before)).limited)
 
 returns-3 : tie.Need-returns-in-Refused
 returns-3 c =
-    let r = c.before in
-    let k = r.before.before.before in
-    let n = number_of r.refusal-1.given.0.0 in
+    let r = c in
+    let k = c.before.before in
+    let n = number_of r.in-Refused.refusal in
     let f = r.refusal-1.given.0.1.0 in
     let a = (s k).args in
     refused (right-at k).before.before.before n f
-    (planned k ∙ ap (λ (v : Verdict (Unit {0})). after v (packing_of (list_of (board (s k)) (zs k) a.limit) (length a.plan-1.now)))
-    (ap checked_as r.refusal-1.given.1))
+    (planned k ∙ ap (λ (v : Verdict (Unit {0})). after v (packing_of (list_of (board (s k)) (zs k) a.limit) (length a.plan.now)))
+    (ap checked_as r.in-Refused.is))
 
 returns-4 : tie.Need-returns-in-Good
 unfolding list_of
 returns-4 c =
-    let p = c.before.before in
-    let f = p.before.before.before in
-    let k = f.before.before.before.before in
+    let p = c in
+    let f = c.before.before.before.before.before in
+    let k = c.before.before.before.before.before.before.before.before in
     let a = (s k).args in
-    let plan = a.plan-1.now in
+    let plan = a.plan.now in
     let list = ap plan_of (aim-is f) in
     let answer =
     p.plan_change.ensures.0
     ∙ ap (λ (ts : List Transaction). packing_of ts (length plan)) list
     ∙ sym
-    (planned k ∙ ap (λ (v : Verdict (Unit {0})). after v (packing_of (list_of (board (s k)) (zs k) a.limit) (length plan))) (accepted f.before)) in
+    (planned k ∙ ap (λ (v : Verdict (Unit {0})). after v (packing_of (list_of (board (s k)) (zs k) a.limit) (length plan))) (accepted c.before.before.before.before.before.before)) in
     let packed = p.plan_change.ensures.0 ∙ ap (λ (ts : List Transaction). packing_of ts (length plan)) list in
     clauses (board (s k)) (zs k) a.limit (bytes (right-at k).before.before.before) a.address plan _ _ answer
     (p.plan_change.ensures.1

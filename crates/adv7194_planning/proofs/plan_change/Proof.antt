@@ -18,7 +18,7 @@ start c = c.before.before.before
 
 register-maps-requires : tie.Need-register_maps-maps-requires
 register-maps-requires c κs =
-    let s = c.before.before in
+    let s = c in
     comparable s.args.board s.args.wanted.now s.args.fixed s.args.limit s.requires
 
 pack-requires : tie.Need-pack-requires
@@ -40,12 +40,16 @@ same m =
 -- what packing answers and leaves is what it does of that plan
 returns : tie.Need-returns
 returns c =
-    let p = c.before.before in
-    let m = p.before.before in
-    let plan = (start m).args.plan-1.now in (
+    let p = c in
+    let m = c.before.before.before.before in
+    let plan = (start m).args.plan.now in (
       p.pack.ensures.0 ∙ ap (λ (ts : List Transaction). packing_of ts (length plan)) (same m),
       p.pack.ensures.1 ∙ ap (λ (ts : List Transaction). plan_after ts plan) (same m),
     )
 
 pub plan_change_spec : {M : Type 1} → statement M
-plan_change_spec = tie.close (tie.spec register-maps-requires pack-requires (λ c. search rules) returns)
+plan_change_spec = tie.close (tie.spec
+    register-maps-requires
+    pack-requires
+    (λ c. search rules)
+    returns)

@@ -25,7 +25,7 @@ use Rattle.adv7194_playing.proofs.play_checked.Tie as tie
 
 -- where the function was entered
 abbrev start : tie.After-write_plan → tie.Start
-start w = w.before.before.before.before.before.before
+start w = w.before.before.before.before.before
 
 -- the judgement of the plan
 abbrev judgement : tie.After-write_plan → Judged (List Transaction)
@@ -37,25 +37,25 @@ answered w r e = sym w.write_plan.ensures.0 ∙ ap count_of e
 
 -- the board that was found, and the call
 abbrev board : tie.After-write_plan → Board
-board w = board_of (start w).args.image-1.now (start w).args.known
+board w = board_of (start w).args.image.now (start w).args.known
 
 abbrev call : tie.After-write_plan → Call
 call w = let a = (start w).args in call_of (takes a.kind) (board w) a.used a.own a.plan.now
 
 returns : tie.Need-returns-then-used-own
 returns c =
-    let t = c.before.before in
-    let w = t.before.before.before in
+    let t = c in
+    let w = c.before.before.before in
     let p = (start w).requires in
-    as_left (played_elsewhere (call w) (start w).args.known p.0 p.1 p.2 c.if-used-own.true _ (answered w _ t.transactions-1.given.1))
+    as_left (played_elsewhere (call w) (start w).args.known p.0 p.1 p.2 c.if-used-own.true _ (answered w _ t.in-Taken.is))
 
 returns-2 : tie.Need-returns-in-Refused
 returns-2 c =
-    let t = c.before in
-    let w = t.before.before.before in
+    let t = c in
+    let w = c.before.before in
     let p = (start w).requires in
-    let n = number_of t.refusal-1.given.0.0 in
-    as_left (plan_fault (call w) (start w).args.known p.0 p.1 p.2 n (refused-list (judgement w) n (answered w _ t.refusal-1.given.1)))
+    let n = number_of t.in-Refused.refusal in
+    as_left (plan_fault (call w) (start w).args.known p.0 p.1 p.2 n (refused-list (judgement w) n (answered w _ t.in-Refused.is)))
 
 -- the one that the walk left
 abbrev left : tie.After-write_plan → Walk → Board
@@ -65,7 +65,7 @@ left w r = board_of w.write_plan.new.1.1.0 (map_of (start w).args.known r)
 wrote : (w : tie.After-write_plan) (r : Walk) → w.write_plan.result ≡ r → Written (judgement w) (board w) (left w r)
 wrote w r e =
     subst (λ (x : Walk). Written (judgement w) (board w) (left w x)) e
-    (subst (λ (l : List ℕ). Written (judgement w) (board_of l (start w).args.known) (left w w.write_plan.result)) w.before.before.copied-registers.ensures
+    (subst (λ (l : List ℕ). Written (judgement w) (board_of l (start w).args.known) (left w w.write_plan.result)) w.copied-registers.ensures
     w.write_plan.ensures.1)
 
 -- where the plan was written at the chip's own address
@@ -73,29 +73,29 @@ abbrev written_at : tie.After-copy → tie.After-write_plan
 written_at k = k.before.before.before.before.before.before.before.before
 
 -- its registers are as many
-still : (w : tie.After-write_plan) → length w.write_plan.new.1.1.0 ≡ length (start w).args.image-1.now
+still : (w : tie.After-write_plan) → length w.write_plan.new.1.1.0 ≡ length (start w).args.image.now
 still w = left_as_many (judgement w) (board w) (left w w.write_plan.result) (wrote w w.write_plan.result refl)
 
 -- the image became those registers
-became : (k : tie.After-copy) → k.copy.new.1.0 ≡ (written_at k).write_plan.new.1.1.0
+became : (k : tie.After-copy) → k.copy.new.1.0 ≡ (written_at k).write-plan.new.1.1.0
 became k =
     let w = written_at k in
-    k.copy.ensures.1 ∙ all_copied w.write_plan.last.1.1.0 (start w).args.image-1.now (search (rules, still w))
+    k.copy.ensures.1 ∙ all_copied w.write-plan.last.1.1.0 (start w).args.image.now (search (rules, still w))
 
 returns-3 : tie.Need-returns-else-used-own
 returns-3 c =
-    let k = c.before.before in
-    let o = k.before.before.before in
-    let t = o.before.before in
+    let k = c in
+    let o = c in
+    let t = c in
     let w = written_at k in
     let a = (start w).args in
-    let e = t.transactions-1.given.1 in
+    let e = t.in-Taken.is in
     let r = (start w).requires in
     let p = own_played a.kind (board w) a.used a.own o.if-used-own.false a.plan.now r.0 r.1 r.2 _ _ (answered w _ e) (wrote w _ e) in
     (p.0, ap (λ (l : List ℕ). board_of l t.transactions-1.given.0.1.0) (became k) ∙ p.1)
 
 same-length-3 : tie.Need-shape_of-image-else-used-own
-same-length-3 c = let k = c.before.before in ap length (became k) ∙ still (written_at k)
+same-length-3 c = let k = c in ap length (became k) ∙ still (written_at k)
 
 pub play_checked_spec : {M : Type 1} → statement M
 play_checked_spec =

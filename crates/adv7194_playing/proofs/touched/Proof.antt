@@ -19,30 +19,38 @@ asked s k = cond (takes_header k s.args.subaddress s.args.count) (marks 0 s.args
 
 -- of a pair
 captions : (c : tie.After-at_pair) (b : Bool) → c.at_pair.result ≡ b
-    → asked c.before.before.before c.before.before.before.args.kind
-    ≡ cond b (marks 0 c.before.before.before.args.subaddress c.before.before.before.args.count) 0
+    → asked c.before.before c.args.kind
+    ≡ cond b (marks 0 c.args.subaddress c.args.count) 0
 captions c b e =
-    let s = c.before.before.before in
-    ap (asked s) c.before.enum_told-in-Captions-1.given.1
+    let s = c.before.before in
+    ap (asked s) c.in-Captions.is
     ∙ ap (λ (x : Bool). cond x (marks 0 s.args.subaddress s.args.count) 0) (sym c.at_pair.ensures ∙ e)
 
 -- it was found
-pair : (c : tie.Then-at_pair) → T (at_pair c.before.before.before.before.args.subaddress c.before.before.before.before.args.count)
-pair c = subst⁻¹ T (sym c.before.at_pair.ensures ∙ c.if-at_pair.true) tt
+pair : (c : tie.Then-at_pair) → T (at_pair c.args.subaddress c.args.count)
+pair c = subst⁻¹ T (sym c.at_pair.ensures ∙ c.if-at_pair.true) tt
 
 shl-result : tie.Need-overflow_shl-result
-shl-result c = let a = c.before.before.before.before.args in omega (arith, (pair-at a.subaddress a.count (pair c)).0)
+shl-result c = let a = c.args in omega (arith, (pair-at a.subaddress a.count (pair c)).0)
 
 returns : tie.Need-returns-then-at_pair
 returns c =
-    let a = c.before.before.before.before.args in
+    let a = c.args in
     sym (captions c.before true c.if-at_pair.true ∙ pair-marks a.subaddress a.count (pair c))
 
 returns-2 : tie.Need-returns-in-Settings
-returns-2 c = c.touched.ensures ∙ sym (ap (asked c.before.before.before) c.before.enum_told-1.given.1)
+returns-2 c = c.touched.ensures ∙ sym (ap (asked c.before.before) c.in-Settings.is)
 
 returns-3 : tie.Need-returns-else-at_pair
 returns-3 c = sym (captions c.before false c.if-at_pair.false)
 
 pub touched_spec : {M : Type 1} → statement M
-touched_spec = tie.close (tie.spec (λ c. search rules) (λ c κs. tt) (λ c. search rules) (λ c κs. tt) shl-result returns returns-2 returns-3)
+touched_spec = tie.close (tie.spec
+    (λ c. search rules)
+    (λ c κs. tt)
+    (λ c. search rules)
+    (λ c κs. tt)
+    shl-result
+    returns
+    returns-2
+    returns-3)

@@ -26,7 +26,7 @@ invariant-loop kind plan registers₀ known cursor₀ transactions₀ map₀ reg
     Passed kind plan known registers₀ map registers cursor transactions
 
 abbrev decreases-loop : tie.decreases-loop-subaddress
-decreases-loop kind plan registers₀ known cursor₀ transactions₀ map₀ registers cursor transactions map = cursor.false
+decreases-loop kind plan registers₀ known cursor₀ transactions₀ map₀ registers cursor transactions map = cursor.left
 
 -- where the function was entered
 abbrev start : tie.At-loop-subaddress invariant-loop decreases-loop → tie.Start invariant-loop decreases-loop
@@ -37,53 +37,53 @@ plan-at c = (start c).args.plan.now
 
 loop-holds : tie.Need-loop-subaddress-init invariant-loop decreases-loop
 loop-holds c =
-    let k = c.before.before in
-    let a = k.before.args in
-    writing_begins (turns a.kind) a.plan.now Ascending a.known a.registers-1.now c.begin-cursor.result c.begin-cursor.ensures
+    let k = c in
+    let a = k.args in
+    writing_begins (turns a.kind) a.plan.now Ascending a.known a.registers.now c.begin-cursor.result c.begin-cursor.ensures
     (λ i. (k.shared_slice_known-1.given i).fits)
 
 -- what the step says
-said : (c : tie.After-next invariant-loop decreases-loop) (r : Step) → c.next.result ≡ r → Stepped (plan-at c.before) c.before.loop-subaddress.cursor r
-said c r e = subst (Stepped (plan-at c.before) c.before.loop-subaddress.cursor) (sym c.next.ensures ∙ e)
-    (stepped (plan-at c.before) c.before.loop-subaddress.cursor)
+said : (c : tie.After-next invariant-loop decreases-loop) (r : Step) → c.next.result ≡ r → Stepped (plan-at c.before) c.loop-subaddress.cursor r
+said c r e = subst (Stepped (plan-at c.before) c.loop-subaddress.cursor) (sym c.next.ensures ∙ e)
+    (stepped (plan-at c.before) c.loop-subaddress.cursor)
 
 returns : tie.Need-returns-in-Fault invariant-loop decreases-loop
 returns c =
-    let n = c.before.before in
-    let a = (start n.before).args in
-    fault_answered a.kind n.before.loop-subaddress.invariant a.known (said n _ c.enum_told-1.given.1)
+    let n = c.before in
+    let a = (start c.before.before).args in
+    fault_answered a.kind n.loop-subaddress.invariant a.known (said n _ c.in-Fault.is)
 
 -- whether there are enough transactions, as the end tests it
 tested : (c : tie.After-needs_transaction invariant-loop decreases-loop) (b : Bool)
-    → eqb c.before.before.before.before.loop-subaddress.transactions 0 && c.needs_transaction.result ≡ b
-    → enough (start c.before.before.before.before).args.kind c.before.before.before.before.loop-subaddress.transactions ≡ not b
+    → eqb c.loop-subaddress.transactions 0 && c.needs_transaction.result ≡ b
+    → enough (start c.before.before.before).args.kind c.loop-subaddress.transactions ≡ not b
 tested c b e =
-    ap not (sym (ap (λ (x : Bool). eqb c.before.before.before.before.loop-subaddress.transactions 0 && x) c.needs_transaction.ensures) ∙ e)
+    ap not (sym (ap (λ (x : Bool). eqb c.loop-subaddress.transactions 0 && x) c.needs_transaction.ensures) ∙ e)
 
 returns-2 : tie.Need-returns-then-transactions-needs_transaction invariant-loop decreases-loop
 returns-2 c =
-    let e = c.before.before in
-    let n = e.before.before in
-    let a = (start n.before).args in
-    empty_answered a.kind n.before.loop-subaddress.invariant a.known (said n _ e.enum_told-in-End-1.given.1) (tested c.before true c.if-transactions-needs_transaction.true)
+    let e = c in
+    let n = c.before.before.before in
+    let a = (start c.before.before.before.before).args in
+    empty_answered a.kind n.loop-subaddress.invariant a.known (said n _ e.in-End.is) (tested c.before true c.if-transactions-needs_transaction.true)
 
 returns-3 : tie.Need-returns-in-End invariant-loop decreases-loop
 returns-3 c =
-    let e = c.before.before in
-    let n = e.before.before in
-    end_answered (start n.before).args.kind n.before.loop-subaddress.invariant (said n _ e.enum_told-in-End-1.given.1) (tested c.before false c.if-transactions-needs_transaction.false)
+    let e = c in
+    let n = c.before.before.before in
+    end_answered (start c.before.before.before.before).args.kind n.loop-subaddress.invariant (said n _ e.in-End.is) (tested c.before false c.if-transactions-needs_transaction.false)
 
 -- the transaction that was found
 went : (c : tie.In-Transaction-2 invariant-loop decreases-loop)
-    → Went (plan-at c.before.before.before) c.before.before.before.loop-subaddress.cursor c.subaddress-1.given.0.0 c.subaddress-1.given.0.1.0
+    → Went (plan-at c.before.before) c.loop-subaddress.cursor c.in-Transaction.subaddress c.subaddress-1.given.0.1.0
     c.subaddress-1.given.0.1.1.0 c.subaddress-1.given.0.1.1.1.0
-went c = said c.before.before _ c.subaddress-1.given.1
+went c = said c.before _ c.in-Transaction.is
 
 returns-4 : tie.Need-returns-then-written-eq-NONE invariant-loop decreases-loop
 returns-4 c =
-    let k = c.before in
-    let s = k.before.before in
-    let l = s.before.before.before in
+    let k = c in
+    let s = c in
+    let l = c.before.before.before.before in
     header_answered (start l).args.kind l.loop-subaddress.invariant (went s) (start l).args.known
     (not_touched _ _ _ (went s).some (sym k.touched-written.ensures ∙ c.if-written-eq-NONE.true))
 
@@ -92,49 +92,49 @@ abbrev found : tie.After-takes-data-arg invariant-loop decreases-loop → tie.In
 found c = c.before.before.before.before.before.before.before.before
 
 header : (c : tie.After-takes-data-arg invariant-loop decreases-loop)
-    → takes_header (start (found c).before.before.before).args.kind (found c).subaddress-1.given.0.0 (found c).subaddress-1.given.0.1.0 ≡ true
+    → takes_header (start (found c).before.before.before).args.kind (found c).subaddress.given.0.0 (found c).subaddress.given.0.1.0 ≡ true
 header c =
     let e = c.before.before.before.before.before in
-    is-touched _ (found c).subaddress-1.given.0.0 (found c).subaddress-1.given.0.1.0 (λ z. e.if-written-eq-NONE.false (e.before.touched-written.ensures ∙ z))
+    is-touched _ (found c).subaddress.given.0.0 (found c).subaddress.given.0.1.0 (λ z. e.if2.false (e.before.touched.ensures ∙ z))
 
 returns-5 : tie.Need-returns-then-not-takes_data invariant-loop decreases-loop
 returns-5 c =
-    let a = c.before.before in
+    let a = c in
     let l = (found a).before.before.before in
-    data_answered (start l).args.kind l.loop-subaddress.invariant (went (found a)) (start l).requires (header a) a.before.before.before.copy_data.ensures
-    (start l).args.known (sym c.before.takes_data.ensures ∙ not-true _ c.if-not-takes_data.true)
+    data_answered (start l).args.kind l.loop.invariant (went (found a)) (start l).requires (header a) a.copy_data.ensures
+    (start l).args.known (sym c.takes_data.ensures ∙ not-true _ c.if-not-takes_data.true)
 
 add-transactions : tie.Need-overflow_add-transactions invariant-loop decreases-loop
-add-transactions c = let v = (found c.before.before).before.before.before.loop-subaddress.invariant in record { fits = omega (arith, v.counts, v.walked.few) }
+add-transactions c = let v = (found c.before.before).before.before.before.loop.invariant in record { fits = omega (arith, v.counts, v.walked.few) }
 
 -- its registers are joined to those known
 joined : (c : tie.After-takes-data-arg invariant-loop decreases-loop) (map : ℕ)
-    → bit_or map c.before.before.before.before.before.before.touched-written.result
-    ≡ marks map (found c).subaddress-1.given.0.0 (found c).subaddress-1.given.0.1.0
+    → bit_or map c.touched-written.result
+    ≡ marks map (found c).subaddress.given.0.0 (found c).subaddress.given.0.1.0
 joined c map =
-    let subaddress = (found c).subaddress-1.given.0.0 in
-    let count = (found c).subaddress-1.given.0.1.0 in
+    let subaddress = (found c).subaddress.given.0.0 in
+    let count = (found c).subaddress.given.0.1.0 in
     ap (bit_or map)
-    (c.before.before.before.before.before.before.touched-written.ensures ∙ ap (λ (b : Bool). cond b (marks 0 subaddress count) 0) (header c))
+    (c.before.before.before.before.before.before.touched.ensures ∙ ap (λ (b : Bool). cond b (marks 0 subaddress count) 0) (header c))
     ∙ sym (marks-joined count subaddress map)
 
 loop-again : tie.Need-loop-subaddress-preserved invariant-loop decreases-loop
 loop-again c =
-    let a = c.before.before in
+    let a = c in
     let l = (found a).before.before.before in
-    written_on (start l).args.kind l.loop-subaddress.invariant (went (found a)) (start l).requires (header a) a.before.before.before.copy_data.ensures
-    (sym c.before.takes_data.ensures ∙ not-false _ c.if-not-takes_data.false) (joined a l.loop-subaddress.map)
+    written_on (start l).args.kind l.loop.invariant (went (found a)) (start l).requires (header a) a.copy_data.ensures
+    (sym c.takes_data.ensures ∙ not-false _ c.if-not-takes_data.false) (joined a l.loop.map)
 
 same-length-5 : tie.Need-shape_of-registers-then-not-takes_data invariant-loop decreases-loop
 same-length-5 c =
-    let a = c.before.before in
+    let a = c in
     let l = (found a).before.before.before in
-    still_as_many (start l).args.kind l.loop-subaddress.invariant (went (found a)) (start l).requires (header a) a.before.before.before.copy_data.ensures
+    still_as_many (start l).args.kind l.loop.invariant (went (found a)) (start l).requires (header a) a.copy_data.ensures
 
 takes-data-requires : tie.Need-takes_data-requires invariant-loop decreases-loop
 takes-data-requires c κs =
     let l = (found c).before.before.before in
-    data_there (start l).args.kind l.loop-subaddress.invariant (went (found c)) (start l).requires (header c) c.before.before.before.copy_data.ensures
+    data_there (start l).args.kind l.loop.invariant (went (found c)) (start l).requires (header c) c.copy_data.ensures
 
 pub write_plan_spec : {M : Type 1} → statement M
 write_plan_spec =
@@ -146,22 +146,22 @@ write_plan_spec =
     loop-holds
     (λ c κs. tt)
     (λ c. search rules)
-    (λ c. as_many c.before.before.before.loop-subaddress.invariant)
+    (λ c. as_many c.loop-subaddress.invariant)
     returns
     (λ c. search rules)
     (λ c κs. tt)
-    (λ c. as_many c.before.before.before.before.before.loop-subaddress.invariant)
+    (λ c. as_many c.loop-subaddress.invariant)
     returns-2
-    (λ c. as_many c.before.before.before.before.before.loop-subaddress.invariant)
+    (λ c. as_many c.loop-subaddress.invariant)
     returns-3
     (λ c. search rules)
     (λ c κs. tt)
-    (λ c. as_many c.before.before.before.before.before.before.loop-subaddress.invariant)
+    (λ c. as_many c.loop-subaddress.invariant)
     returns-4
     (λ c κs. tt)
     takes-data-requires
     same-length-5
     returns-5
     add-transactions
-    (λ c. omega (arith, (went (found c.before.before)).false))
+    (λ c. omega (arith, (went (found c.before.before)).left))
     loop-again)

@@ -21,15 +21,15 @@ loop-holds c = (refl, fill_none (sym c.requires))
 
 loop-again : tie.Need-loop-i-preserved invariant-loop decreases-loop
 loop-again c =
-    let l = c.before.before.loop-i in
-    let e = to_z-of_z w32 (get_or c.before.before.before.args.from.now l.i (pos 0)) (record { sfits = c.number-1.given }) in
+    let l = c.loop-i in
+    let e = to_z-of_z w32 (get_or c.args.from.now l.i (pos 0)) (record { sfits = c.number-1.given }) in
     (length-set l.to l.i _ ∙ l.invariant.0, fill_next (omega arith) e l.invariant.1)
 
 same_length : tie.Need-shape_of-to invariant-loop decreases-loop
-same_length c = c.before.loop-i.invariant.0
+same_length c = c.loop-i.invariant.0
 
 returns : tie.Need-returns invariant-loop decreases-loop
-returns c = fill_all (omega arith) c.before.loop-i.invariant.1
+returns c = fill_all (omega arith) c.loop-i.invariant.1
 
 pub copy_spec : {M : Type 1} → statement M
 copy_spec =

@@ -27,47 +27,47 @@ image-judged : (c : tie.After-read_last-last) → checked_as c.read_last-last.re
 image-judged c =
     let image = (start c).args.image.now in
     c.read_last-last.ensures.0
-    ∙ ap (λ (v : Verdict (Unit {0})). after v (fault_in image last_fields)) c.before.before.before.read_first-first.ensures.0
+    ∙ ap (λ (v : Verdict (Unit {0})). after v (fault_in image last_fields)) c.read_first-first.ensures.0
     ∙ sym (judged_parts image)
 
 -- the verdict, with row 11, is the answer due
 judged : (c : tie.After-with_unknown-judged) → (let s = start c.before.before.before in
-    checked_as c.with_unknown-judged.result ≡ read_of (board s) (length s.args.numbers-1.now))
+    checked_as c.with_unknown-judged.result ≡ read_of (board s) (length s.args.numbers.now))
 judged c =
     let r = c.before.before.before in
     let s = start r in
-    let lengths = r.before.before.before.before.before in
+    let lengths = c in
     c.with_unknown-judged.ensures
-    ∙ ap₂ with_unknown (c.before.lowest_field.ensures ∙ lowest_unknown (board s) s.fits.known.fits) (image-judged r)
-    ∙ judged_read (board s) (length s.args.numbers-1.now) lengths.before.if-image.false lengths.if-numbers-ne-NUMBERS.false
+    ∙ ap₂ with_unknown (c.lowest_field.ensures ∙ lowest_unknown (board s) s.ranges.known.fits) (image-judged r)
+    ∙ judged_read (board s) (length s.args.numbers.now) lengths.if-image.false lengths.if-numbers-ne-NUMBERS.false
 
 returns : tie.Need-returns-then-image
 returns c =
     let s = c.before.before in
     let a = s.args in
-    answered (board s) a.numbers-1.now (image-length (board s) (length a.numbers-1.now) c.if-image.true) refl
+    answered (board s) a.numbers.now (image-length (board s) (length a.numbers.now) c.if-image.true) refl
 
 returns-2 : tie.Need-returns-then-numbers-ne-NUMBERS
 returns-2 c =
     let s = c.before.before.before in
     let a = s.args in
-    answered (board s) a.numbers-1.now (numbers-length (board s) (length a.numbers-1.now) c.before.if-image.false c.if-numbers-ne-NUMBERS.true) refl
+    answered (board s) a.numbers.now (numbers-length (board s) (length a.numbers.now) c.if-image.false c.if-numbers-ne-NUMBERS.true) refl
 
 returns-3 : tie.Need-returns-in_default
 returns-3 c =
-    let w = c.before.before in
-    let s = start w.before.before.before in
+    let w = c.before in
+    let s = start c.before.before.before.before in
     let a = s.args in
-    answered (board s) a.numbers-1.now (judged w)
-    (sym (ap (λ r. left_by a.numbers-1.now (settings_held a.image.now) (checked_as r)) c.enum_told-in_default-1.given.1))
+    answered (board s) a.numbers.now (judged w)
+    (sym (ap (λ r. left_by a.numbers.now (settings_held a.image.now) (checked_as r)) c.in_default.is))
 
 returns-4 : tie.Need-returns
 returns-4 c =
-    let t = c.before.before.before.before in
-    let w = t.before.before in
-    let r = w.before.before.before in
+    let t = c in
+    let w = c.before.before.before.before.before in
+    let r = c.before.before.before.before.before.before.before.before in
     let s = start r in
-    answered (board s) s.args.numbers-1.now (sym (ap checked_as t.enum_told-1.given.1) ∙ judged w) (c.before.copy.ensures ∙ r.read_last-last.ensures.1)
+    answered (board s) s.args.numbers.now (sym (ap checked_as t.in-Good.is) ∙ judged w) (c.copy.ensures ∙ r.read_last-last.ensures.1)
 
 pub read_spec : {M : Type 1} → statement M
 read_spec =

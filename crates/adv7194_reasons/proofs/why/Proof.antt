@@ -40,7 +40,7 @@ abbrev board : tie.Start → Board
 board c = board_of c.args.image.now c.args.known
 
 -- the image's bytes are bytes
-bytes : (c : tie.After-shared_slice_known-1) (r : ℕ) → get_or c.before.args.image.now r 0 < 2 ^ 8
+bytes : (c : tie.After-shared_slice_known-1) (r : ℕ) → get_or c.args.image.now r 0 < 2 ^ 8
 bytes c r = (c.shared_slice_known-1.given r).fits
 
 module _ (k : tie.After-check) where
@@ -52,11 +52,11 @@ module _ (k : tie.After-check) where
 
   -- the image is one
   image : Image s.args.image.now
-  image = record { size = (right-at k).if-image.false; bytes = bytes (right-at k).before }
+  image = record { size = (right-at k).if1.left; bytes = bytes (right-at k).before }
 
   -- the record that was made is the board
-  board-is : k.before.before.before.board_of-board.result ≡ board s
-  board-is = k.before.before.before.board_of-board.ensures
+  board-is : k.before.before.before.board-of.result ≡ board s
+  board-is = k.before.before.before.board-of.ensures
 
   -- what was checked decides
   checked : checked_as k.check.result ≡ verdict (board s) zs board_address s.args.limit 0
@@ -85,15 +85,15 @@ module _ (k : tie.After-check) where
         ∙ image-is s.args.image.now zs s.args.limit passed.limited passed.passing.size
 
 -- the settings are accepted
-accepted : (c : tie.In-Good) → checked_as c.before.before.before.check.result ≡ good tt
-accepted c = ap checked_as c.enum_told-1.given.1
+accepted : (c : tie.In-Good) → checked_as c.check.result ≡ good tt
+accepted c = ap checked_as c.in-Good.is
 
 -- the aim of the map of fixed registers is the settings'
-aim-is : (c : tie.After-fixed_registers) → (let k = c.before.before.before.before in
-    aim_by k.before.before.before.board_of-board.result k.check.new.1.1.1.0 c.fixed_registers.result (s k).args.limit
+aim-is : (c : tie.After-fixed_registers) → (let k = c in
+    aim_by k.board_of-board.result k.check.new.1.1.1.0 c.fixed_registers.result (s k).args.limit
     ≡ aim_of (board (s k)) (zs k) (s k).args.limit)
 aim-is c =
-    let k = c.before.before.before.before in
+    let k = c in
     ap (λ (b : Board). aim_by b k.check.new.1.1.1.0 c.fixed_registers.result (s k).args.limit) (board-is k)
     ∙ same_aim (board (s k)) (zs k) k.check.new.1.1.1.0 c.fixed_registers.result (s k).args.limit (wanted-is k (accepted c.before))
     c.fixed_registers.ensures
@@ -110,9 +110,9 @@ returns c =
 reason-requires : tie.Need-reason-requires
 reason-requires c κs =
     let f = c.before in
-    let k = f.before.before.before.before in
+    let k = c in
     let a = (s k).args in
-    let limited = (passed k (accepted f.before)).limited in
+    let limited = (passed k (accepted c.before.before)).limited in
     subst (λ (x : Aim). Answered x a.register) (sym (aim-is f))
     (record {
       change = settings_change (board (s k)) (zs k) a.limit (image k) limited;
@@ -121,19 +121,19 @@ reason-requires c κs =
 
 returns-2 : tie.Need-returns-in-Refused
 returns-2 c =
-    let r = c.before in
-    let k = r.before.before.before in
+    let r = c in
+    let k = c.before.before in
     let a = (s k).args in
-    clauses (board (s k)) (zs k) a.limit a.register (bytes (right-at k).before) (answered k _ (ap checked_as r.refusal-1.given.1))
+    clauses (board (s k)) (zs k) a.limit a.register (bytes (right-at k).before) (answered k _ (ap checked_as r.in-Refused.is))
 
 returns-3 : tie.Need-returns-in-Good
 unfolding list_of
 returns-3 c =
     let f = c.before.before in
-    let k = f.before.before.before.before in
+    let k = c.before.before.before.before.before in
     let a = (s k).args in
     clauses (board (s k)) (zs k) a.limit a.register (bytes (right-at k).before)
-    (c.reason.ensures ∙ ap (λ (x : Aim). good (reason_of x (plan_of x) a.register)) (aim-is f) ∙ answered k (good tt) (accepted f.before))
+    (c.reason.ensures ∙ ap (λ (x : Aim). good (reason_of x (plan_of x) a.register)) (aim-is f) ∙ answered k (good tt) (accepted c.before.before.before))
 
 pub why_spec : {M : Type 1} → statement M
 why_spec =

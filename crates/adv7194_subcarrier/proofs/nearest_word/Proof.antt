@@ -14,13 +14,13 @@ use Rattle.adv7194_subcarrier.proofs.nearest_word.Tie as tie
 
 -- the arguments, where the clocks are known
 abbrev pal : tie.After-clocks_per_line → Bool
-pal c = is_pal c.before.before.before.args.standard
+pal c = is_pal c.args.standard
 
 abbrev sq : tie.After-clocks_per_line → Bool
-sq c = c.before.before.before.args.square
+sq c = c.args.square
 
 -- the code's clocks are the fraction's denominator
-clocks-are : (c : tie.After-clocks_per_line) → c.before.divisor.result * c.clocks_per_line.result ≡ denominator (pal c) (sq c)
+clocks-are : (c : tie.After-clocks_per_line) → c.divisor.result * c.clocks_per_line.result ≡ denominator (pal c) (sq c)
 clocks-are c = cc
 
 -- what the code answers is what the search finds
@@ -32,7 +32,7 @@ is-nearest : (c : tie.After-nearest) → Nearest (numerator (pal c.before)) (den
 is-nearest c = rw (found c) (nearest-is _ _ (sized (pal c.before) (sq c.before)).positive)
 
 mul-steps : tie.Need-overflow_mul-steps
-mul-steps c = omega (arith, c.cycles-steps.ensures, (sized (is_pal c.before.args.standard) c.before.args.square).high)
+mul-steps c = omega (arith, c.cycles-steps.ensures, (sized (is_pal c.args.standard) c.args.square).high)
 
 mul-clocks : tie.Need-overflow_mul-clocks
 mul-clocks c = omega (arith, clocks-are c, (sized (pal c) (sq c)).low)
@@ -40,7 +40,7 @@ mul-clocks c = omega (arith, clocks-are c, (sized (pal c) (sq c)).low)
 nearest-requires : tie.Need-nearest-requires
 nearest-requires c κs =
     let s = sized (pal c) (sq c) in
-    rw (c.before.before.cycles-steps.ensures, clocks-are c) (s.positive, s.low, s.high)
+    rw (c.cycles-steps.ensures, clocks-are c) (s.positive, s.low, s.high)
 
 cast-result : tie.Need-overflow_cast-result
 cast-result c = record { fits = in_word_lem _ _ _ (sized (pal c.before) (sq c.before)) (is-nearest c) }

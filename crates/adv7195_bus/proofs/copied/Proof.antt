@@ -6,7 +6,10 @@ use Rattle.adv7195_bus.proofs.copied.Statement.{statement}
 use Rattle.adv7195_bus.proofs.copied.Tie as tie
 
 returns : tie.Need-returns
-returns c = c.before.copy.ensures.1 ∙ all_copied _ _ (search rules)
+returns c = c.copy.ensures.1 ∙ all_copied _ _ (search rules)
 
 pub copied_spec : {M : Type 1} → statement M
-copied_spec = tie.close (tie.spec (λ c. search rules) (λ c κs. search rules) returns)
+copied_spec = tie.close (tie.spec
+    (λ c. search rules)
+    (λ c κs. search rules)
+    returns)

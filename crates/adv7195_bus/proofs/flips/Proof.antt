@@ -38,4 +38,5 @@ returns : tie.Need-returns
 returns c = differ c.args.before c.args.after
 
 pub flips_spec : {M : Type 1} → statement M
-flips_spec = tie.close (tie.spec returns)
+flips_spec = tie.close (tie.spec
+    returns)

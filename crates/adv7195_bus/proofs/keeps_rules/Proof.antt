@@ -14,14 +14,18 @@ returns c = rw (eq-eqb _ _ c.if-count-eq0.true)
 returns-2 : tie.Need-returns-then-end-gt-REGISTERS
 unfolding keeps_rules
 returns-2 c =
-    let a = c.before.before.args in
-    rw (ne_eqb _ _ c.before.if-count-eq0.false, lt-leb (a.subaddress + a.count) register_count c.if-end-gt-REGISTERS.true)
+    let a = c.args in
+    rw (ne_eqb _ _ c.if-count-eq0.false, lt-leb (a.subaddress + a.count) register_count c.if-end-gt-REGISTERS.true)
 
 returns-3 : tie.Need-returns
 unfolding keeps_rules
 returns-3 c =
-    let a = c.before.before.args in
-    rw (ne_eqb _ _ c.before.if-count-eq0.false, le-leb (a.subaddress + a.count) register_count c.if-end-gt-REGISTERS.false)
+    let a = c.args in
+    rw (ne_eqb _ _ c.if-count-eq0.false, le-leb (a.subaddress + a.count) register_count c.if-end-gt-REGISTERS.false)
 
 pub keeps_rules_spec : {M : Type 1} → statement M
-keeps_rules_spec = tie.close (tie.spec returns (λ c. search rules) returns-2 returns-3)
+keeps_rules_spec = tie.close (tie.spec
+    returns
+    (λ c. search rules)
+    returns-2
+    returns-3)

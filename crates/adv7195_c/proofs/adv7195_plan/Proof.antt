@@ -7,10 +7,14 @@ use Rattle.adv7195_c.proofs.adv7195_plan.Tie as tie
 
 returns : tie.Need-returns
 returns c =
-    let p = c.before.before.before in
-    let a = p.before.before.before.before.args in
+    let p = c in
+    let a = p.args in
     subst (Promises a.image.now a.settings.now a.address a.plan.now p.plan.new.1.1.1.0) (sym c.plan_answer.ensures)
     (promised a.image.now a.settings.now a.address a.plan.now p.plan.new.1.1.1.0 p.plan.result p.plan.ensures)
 
 pub adv7195_plan_spec : {M : Type 1} → statement M
-adv7195_plan_spec = tie.close (tie.spec (λ c κs. tt) (λ c κs. tt) (λ c. search rules) returns)
+adv7195_plan_spec = tie.close (tie.spec
+    (λ c κs. tt)
+    (λ c κs. tt)
+    (λ c. search rules)
+    returns)

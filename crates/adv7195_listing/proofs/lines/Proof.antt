@@ -9,4 +9,5 @@ unfolding lines
 returns c = refl
 
 pub lines_spec : {M : Type 1} → statement M
-lines_spec = tie.close (tie.spec returns)
+lines_spec = tie.close (tie.spec
+    returns)

@@ -13,25 +13,25 @@ use Rattle.adv7195_listing.proofs.list_refusal.Statement.{statement}
 use Rattle.adv7195_listing.proofs.list_refusal.Tie as tie
 
 -- the line that was made
-made : (c : tie.After-refused_line-line) → (let a = c.before.before.before.args in
+made : (c : tie.After-refused_line-line) → (let a = c.args in
     c.refused_line-line.result ≡ line_of (refused_line (number_of a.refusal) a.field))
 made c =
-    let f = c.before.before.before.args.field in
-    c.refused_line-line.ensures ∙ ap (λ (n : ℕ). line_of (refused_line n f)) c.before.number.ensures
+    let f = c.args.field in
+    c.refused_line-line.ensures ∙ ap (λ (n : ℕ). line_of (refused_line n f)) c.number.ensures
 
 part-append-end : tie.Need-slice_bounds-append-end
-part-append-end c = let l = c.before.before.before in line_long l.refused_line-line.result _ (made l)
+part-append-end c = let l = c.before.before in line_long l.refused_line-line.result _ (made l)
 
 returns : tie.Need-returns
 returns c =
-    let p = c.before.before in
-    let l = p.before.before.before.before.before in
-    let n = l.before.number in
-    let start = l.before.before.before in
-    let out = start.args.out-1.now in
+    let p = c in
+    let l = c.before.before.before.before.before.before in
+    let n = l.number in
+    let start = c in
+    let out = start.args.out.now in
     let e = line_part l.refused_line-line.result _ (made l) in (
       p.append.ensures.0 ∙ ap (place_after out 0) e,
-      (p.append.ensures.1 ∙ ap (appended out 0) e, refusal-room _ _ (omega (arith, n.type-inv, n.ensures)) (omega (arith, start.ranges.field.fits))),
+      (p.append.ensures.1 ∙ ap (appended out 0) e, refusal-room _ _ (omega (arith, n.type_inv, n.ensures)) (omega (arith, start.ranges.field.fits))),
     )
 
 pub list_refusal_spec : {M : Type 1} → statement M

@@ -21,19 +21,19 @@ fill-requires c κs = (omega (arith, wide c.before.before), omega arith)
 
 part-append-end : tie.Need-slice_bounds-append-end
 part-append-end c =
-    let f = c.before.before.before in
-    omega (arith, f.fill-end.ensures.most, kept f.fill-end.ensures, wide f.before.before.before)
+    let f = c in
+    omega (arith, f.fill-end.ensures.most, kept f.fill-end.ensures, wide c.before.before.before.before.before)
 
 returns : tie.Need-returns
 returns c =
-    let p = c.before.before in
-    let f = p.before.before.before.before.before in
-    let l = f.before.before.before in
-    let a = l.before.before.args in
+    let p = c in
+    let f = c in
+    let l = c.before.before.before.before.before.before.before.before.before in
+    let a = l.args in
     let w = same_text (ap (λ (t : List ℕ). filled t a.numbers.now) l.lines-lines.ensures) f.fill-end.ensures in
     let e = part w (omega (arith, wide l)) in (
-      p.append.ensures.0 ∙ ap (place_after a.out-1.now 0) e,
-      (p.append.ensures.1 ∙ ap (appended a.out-1.now 0) e, omega (arith, w.answer, w.most, wide l)),
+      p.append.ensures.0 ∙ ap (place_after a.out.now 0) e,
+      (p.append.ensures.1 ∙ ap (appended a.out.now 0) e, omega (arith, w.answer, w.most, wide l)),
     )
 
 pub list_settings_spec : {M : Type 1} → statement M

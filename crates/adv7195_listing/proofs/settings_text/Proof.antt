@@ -21,22 +21,22 @@ listed out e p l m = (p ∙ ap (place_after out 0) e, (l ∙ ap (appended out 0)
 
 returns : tie.Need-returns-in-Good
 returns c =
-    let s = c.before.before in
-    let t = s.before.before.before in
-    let r = t.before.before.before in
-    let a = r.before.before.before.before.args in
-    let good = sym (ap checked_as t.enum_told-1.given.1) ∙ r.read-answer.ensures.0 in
+    let s = c in
+    let t = c in
+    let r = c in
+    let a = r.args in
+    let good = sym (ap checked_as t.in-Good.is) ∙ r.read-answer.ensures.0 in
     let e = text_read a.image.now (replicate number_count (pos 0)) refl good r.read-answer.ensures.1.0 in
-    listed a.out-1.now e s.list_settings.ensures.0 s.list_settings.ensures.1.0 s.list_settings.ensures.1.1
+    listed a.out.now e s.list_settings.ensures.0 s.list_settings.ensures.1.0 s.list_settings.ensures.1.1
 
 returns-2 : tie.Need-returns-in-Refused
 returns-2 c =
-    let s = c.before.before in
-    let t = s.before.before.before in
-    let r = t.before.before.before in
-    let a = r.before.before.before.before.args in
-    let e = text_refused a.image.now (replicate number_count (pos 0)) refl _ _ (sym (ap checked_as t.answer-1.given.1) ∙ r.read-answer.ensures.0) in
-    listed a.out-1.now e s.list_refusal.ensures.0 s.list_refusal.ensures.1.0 s.list_refusal.ensures.1.1
+    let s = c in
+    let t = c in
+    let r = c in
+    let a = r.args in
+    let e = text_refused a.image.now (replicate number_count (pos 0)) refl _ _ (sym (ap checked_as t.in-Refused.is) ∙ r.read-answer.ensures.0) in
+    listed a.out.now e s.list_refusal.ensures.0 s.list_refusal.ensures.1.0 s.list_refusal.ensures.1.1
 
 pub settings_text_spec : {M : Type 1} → statement M
 settings_text_spec =

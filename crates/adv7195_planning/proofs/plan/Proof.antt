@@ -34,8 +34,8 @@ abbrev start2 : tie.Else-not-address_right → tie.Start
 start2 c = start1 c.before.before
 
 -- the image's bytes are bytes
-bytes : (c : tie.After-slice_known-1) (r : ℕ) → get_or c.before.before.args.image.now r 0 < 2 ^ 8
-bytes c r = (c.before.shared_slice_known-1.given r).fits
+bytes : (c : tie.After-slice_known-1) (r : ℕ) → get_or c.args.image.now r 0 < 2 ^ 8
+bytes c r = (c.shared_slice_known-1.given r).fits
 
 -- the image has a byte a register
 long : (c : tie.Else-image) → length (start1 c).args.image.now ≡ register_count
@@ -43,7 +43,7 @@ long c = c.if-image.false
 
 -- the address is right
 right : (c : tie.Else-not-address_right) → address_right (start2 c).args.address ≡ true
-right c = sym c.before.address_right.ensures ∙ not-false _ c.if-not-address_right.false
+right c = sym c.address_right.ensures ∙ not-false _ c.if-not-address_right.false
 
 module _ (k : tie.After-want) where
   -- where the numbers were found to be 58
@@ -60,73 +60,73 @@ module _ (k : tie.After-want) where
   zs = s.args.numbers.now
 
   abbrev plan : List ℕ
-  plan = s.args.plan-1.now
+  plan = s.args.plan.now
 
   -- what was checked decides, and packing after it
   planned : planning_of image zs s.args.address (length plan) ≡ after (checked_as k.want.result) (packing_of (list_of image zs) (length plan))
   planned =
-      right-count image zs s.args.address (length plan) (long counted.before.before.before) (right counted.before) counted.if-numbers-ne-NUMBERS.false
+      right-count image zs s.args.address (length plan) (long counted.before.before.before) (right counted.before) counted.if3.left
       ∙ ap (λ (v : Verdict (Unit {0})). after v (packing_of (list_of image zs) (length plan))) (sym k.want.ensures.0)
 
   -- the wanted image stands where the copy was
   wanted-is : k.want.last.1.0 ≡ wanted_by image zs
-  wanted-is = k.want.ensures.1 ∙ ap (λ (l : List ℕ). wanted_by l zs) k.before.before.copied-wanted.ensures
+  wanted-is = k.want.ensures.1 ∙ ap (λ (l : List ℕ). wanted_by l zs) k.before.before.copied.ensures
 
 -- ---- the answers
 
 -- a refusal, with all that planning promises
-refused : (c : tie.After-slice_known-1) (n f : ℕ) → (let a = c.before.before.args in
-    planning_of a.image.now a.numbers.now a.address (length a.plan-1.now) ≡ refused_at n f
-    → Clauses a.image.now a.numbers.now a.address a.plan-1.now a.plan-1.now (refused_at n f))
+refused : (c : tie.After-slice_known-1) (n f : ℕ) → (let a = c.args in
+    planning_of a.image.now a.numbers.now a.address (length a.plan.now) ≡ refused_at n f
+    → Clauses a.image.now a.numbers.now a.address a.plan.now a.plan.now (refused_at n f))
 refused c n f e =
-    let a = c.before.before.args in
+    let a = c.args in
     let list = list_of a.image.now a.numbers.now in
-    clauses a.image.now a.numbers.now (bytes c) a.address a.plan-1.now a.plan-1.now (refused_at n f) (sym e)
-    (sym (ap (packed_left list a.plan-1.now) e))
+    clauses a.image.now a.numbers.now (bytes c) a.address a.plan.now a.plan.now (refused_at n f) (sym e)
+    (sym (ap (packed_left list a.plan.now) e))
 
 returns : tie.Need-returns-then-image
 returns c =
-    let a = c.before.before.before.args in
-    refused c.before 1 0 (wrong_length a.image.now a.numbers.now a.address (length a.plan-1.now) c.if-image.true)
+    let a = c.args in
+    refused c.before 1 0 (wrong_length a.image.now a.numbers.now a.address (length a.plan.now) c.if-image.true)
 
 returns-2 : tie.Need-returns-then-not-address_right
 returns-2 c =
-    let r = c.before in
-    let a = (start1 r.before).args in
-    refused r.before.before 2 0
-    (wrong_address a.image.now a.numbers.now a.address (length a.plan-1.now) (long r.before)
+    let r = c in
+    let a = (start1 c.before.before).args in
+    refused c.before.before.before 2 0
+    (wrong_address a.image.now a.numbers.now a.address (length a.plan.now) (long c.before.before)
     (sym r.address_right.ensures ∙ not-true _ c.if-not-address_right.true))
 
 returns-3 : tie.Need-returns-then-numbers-ne-NUMBERS
 returns-3 c =
     let r = c.before in
-    let e = r.before.before in
+    let e = c.before.before.before in
     let a = (start2 r).args in
-    refused e.before 3 0
-    (wrong_count a.image.now a.numbers.now a.address (length a.plan-1.now) (long e) (right r) c.if-numbers-ne-NUMBERS.true)
+    refused c.before.before.before.before 3 0
+    (wrong_count a.image.now a.numbers.now a.address (length a.plan.now) (long e) (right r) c.if-numbers-ne-NUMBERS.true)
 
 plan-change-requires : tie.Need-plan_change-requires
 plan-change-requires c κs =
-    let k = c.before.before.before.before.before in
+    let k = c in
     let e = (counted k).before.before.before in
     subst (Change (image k)) (sym (wanted-is k)) (change (image k) (zs k) (bytes e.before) (long e))
 
 returns-4 : tie.Need-returns-in-Refused
 returns-4 c =
-    let r = c.before in
-    let k = r.before.before.before in
-    refused (counted k).before.before.before.before (number_of r.refusal-1.given.0.0) r.refusal-1.given.0.1.0
-    (planned k ∙ ap (λ (v : Verdict (Unit {0})). after v (packing_of (list_of (image k) (zs k)) (length (plan k)))) (ap checked_as r.refusal-1.given.1))
+    let r = c in
+    let k = c in
+    refused (counted k).before.before.before.before (number_of r.in-Refused.refusal) r.refusal-1.given.0.1.0
+    (planned k ∙ ap (λ (v : Verdict (Unit {0})). after v (packing_of (list_of (image k) (zs k)) (length (plan k)))) (ap checked_as r.in-Refused.is))
 
 returns-5 : tie.Need-returns-in-Good
 unfolding list_of
 returns-5 c =
-    let p = c.before.before in
-    let t = p.before.before.before in
-    let k = t.before.before.before in
+    let p = c in
+    let t = c in
+    let k = c in
     let list = ap (plan_of (image k)) (wanted-is k) in
     let packed = p.plan_change.ensures.0 ∙ ap (λ (ts : List Transaction). packing_of ts (length (plan k))) list in
-    let passed : checked_as k.want.result ≡ good tt = ap checked_as t.enum_told-1.given.1 in
+    let passed : checked_as k.want.result ≡ good tt = ap checked_as t.in-Good.is in
     let answer =
     packed ∙ sym (planned k ∙ ap (λ (v : Verdict (Unit {0})). after v (packing_of (list_of (image k) (zs k)) (length (plan k)))) passed) in
     clauses (image k) (zs k) (bytes (counted k).before.before.before.before) (s k).args.address (plan k) _ _ answer

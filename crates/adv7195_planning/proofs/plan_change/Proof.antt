@@ -43,17 +43,17 @@ stays t = sym (flips-is t.before) ∙ not-true _ t.if-not-flips.true
 pack-requires : tie.Need-pack-requires
 pack-requires c κs =
     let t = c.before in
-    let f = t.before in
-    (plan_stays (image f) (wanted f) (start f).requires (found f).changed_registers-changed.result (found f).changed_registers-changed.ensures (stays t)).0
+    let f = c in
+    (plan_stays (image f) (wanted f) (start f).requires (found f).changed-registers.result (found f).changed-registers.ensures (stays t)).0
 
 returns : tie.Need-returns-then-not-flips
 returns c =
-    let k = c.before.before in
-    let t = k.before.before in
-    let f = t.before in
-    let plan = (start f).args.plan-1.now in
+    let k = c in
+    let t = c.before.before.before.before in
+    let f = c in
+    let plan = (start f).args.plan.now in
     let same =
-    (plan_stays (image f) (wanted f) (start f).requires (found f).changed_registers-changed.result (found f).changed_registers-changed.ensures (stays t)).1 in (
+    (plan_stays (image f) (wanted f) (start f).requires (found f).changed-registers.result (found f).changed-registers.ensures (stays t)).1 in (
       k.pack.ensures.0 ∙ ap (λ (ts : List Transaction). packing_of ts (length plan)) same,
       k.pack.ensures.1 ∙ ap (λ (ts : List Transaction). plan_after ts plan) same,
     )
@@ -69,42 +69,42 @@ module _ (c : tie.After-copied-bytes) where
   at = turn.before
 
   abbrev first : ℕ
-  first = c.before.before.preparing_start-start.result
+  first = c.before.before.preparing-start.result
 
   -- what is known of both images
-  told : Told (image at) (wanted at) (found at).changed_registers-changed.result (restores (wanted at))
-  told = record { change = (start at).requires; differ = (found at).changed_registers-changed.ensures; back = refl }
+  told : Told (image at) (wanted at) (found at).changed-registers.result (restores (wanted at))
+  told = record { change = (start at).requires; differ = (found at).changed-registers.ensures; back = refl }
 
   -- the wanted bytes with 3E for 09
   abbrev bytes : List ℕ
-  bytes = set c.copied-bytes.result 0x09 0x3e
+  bytes = set c.copied.result 0x09 0x3e
 
   bytes_are : bytes ≡ set (wanted at) 0x09 0x3e
-  bytes_are = ap (λ (l : List ℕ). set l 0x09 0x3e) c.copied-bytes.ensures
+  bytes_are = ap (λ (l : List ℕ). set l 0x09 0x3e) c.copied.ensures
 
 part-pack-after-end : tie.Need-slice_bounds-pack_after-end
 part-pack-after-end c =
-    let k = c.before.before in
+    let k = c in
     let f = at k in
     omega (arith, ap length (bytes_are k), length-set (wanted f) 0x09 0x3e, (start f).requires.wants)
 
 pack-after-requires : tie.Need-pack_after-requires
 pack-after-requires c κs =
-    let k = c.before.before.before in
+    let k = c in
     let f = at k in
-    flip_joinable (image f) (wanted f) (start f).requires (first k) k.before.beside-needed.result k.before.before.preparing_start-start.ensures.0.1
-    (k.before.beside-needed.ensures (image f) (wanted f) (told k)) (bytes k) (bytes_are k)
+    flip_joinable (image f) (wanted f) (start f).requires (first k) k.beside-needed.result k.preparing_start-start.ensures.0.1
+    (k.beside-needed.ensures (image f) (wanted f) (told k)) (bytes k) (bytes_are k)
 
 returns-2 : tie.Need-returns
 returns-2 c =
-    let p = c.before.before in
-    let k = p.before.before.before.before in
+    let p = c in
+    let k = c in
     let f = at k in
-    let plan = (start f).args.plan-1.now in
+    let plan = (start f).args.plan.now in
     let same =
-    plan_flips (image f) (wanted f) (start f).requires (first k) k.before.beside-needed.result k.before.before.preparing_start-start.ensures.0.1
-    (k.before.beside-needed.ensures (image f) (wanted f) (told k)) (bytes k) (bytes_are k)
-    (k.before.before.preparing_start-start.ensures.1 (image f) (wanted f) (told k)) (sym (flips-is f) ∙ not-false _ (turn k).if-not-flips.false) in (
+    plan_flips (image f) (wanted f) (start f).requires (first k) k.beside-needed.result k.preparing_start-start.ensures.0.1
+    (k.beside-needed.ensures (image f) (wanted f) (told k)) (bytes k) (bytes_are k)
+    (k.preparing_start-start.ensures.1 (image f) (wanted f) (told k)) (sym (flips-is f) ∙ not-false _ (turn k).if1.false) in (
       p.pack_after.ensures.0 ∙ ap (λ (ts : List Transaction). packing_of ts (length plan)) same,
       p.pack_after.ensures.1 ∙ ap (λ (ts : List Transaction). plan_after ts plan) same,
     )
@@ -113,7 +113,7 @@ pub plan_change_spec : {M : Type 1} → statement M
 plan_change_spec =
     tie.close
     (tie.spec
-    (λ c κs. c.before.before.before.requires)
+    (λ c κs. c.requires)
     (λ c. search rules)
     (λ c. search rules)
     (λ c κs. tt)

@@ -21,14 +21,14 @@ use Rattle.adv7195_playing.proofs.play.Tie as tie
 
 -- the call, from where the function was entered
 abbrev call : tie.Start → Call
-call s = let a = s.args in call_of a.image-1.now a.used a.own a.plan.now
+call s = let a = s.args in call_of a.image.now a.used a.own a.plan.now
 
 -- how its plan is judged, where the image has a byte a register
 abbrev Taken : tie.Start → Type 0
-Taken s = length s.args.image-1.now ≡ register_count → JudgedBy (Takes s.args.own s.args.image-1.now) (call s)
+Taken s = length s.args.image.now ≡ register_count → JudgedBy (Takes s.args.own s.args.image.now) (call s)
 
 taken : (s : tie.Start) → Taken s
-taken s = plan-judged s.args.image-1.now s.args.used s.args.own s.args.plan.now
+taken s = plan-judged s.args.image.now s.args.used s.args.own s.args.plan.now
 
 -- all that playing promises of an answer and of the registers that are left
 promised : (s : tie.Start) {v : Verdict Bool} {registers : List ℕ} {map : ℕ} → Left (call s) no_map v registers map
@@ -40,17 +40,17 @@ returns c = let s = c.before.before.before in promised s (image_fault (call s) n
 
 returns-2 : tie.Need-returns-then-not-address_right
 returns-2 c =
-    let r = c.before in
-    let s = r.before.before.before.before in
-    promised s (used_fault (call s) no_map r.before.if-image.false (sym r.address_right.ensures ∙ not-true _ c.if-not-address_right.true))
+    let r = c in
+    let s = c.before.before.before.before.before in
+    promised s (used_fault (call s) no_map r.if-image.false (sym r.address_right.ensures ∙ not-true _ c.if-not-address_right.true))
 
 returns-3 : tie.Need-returns-then-not-address_right-2
 returns-3 c =
-    let q = c.before in
-    let r = q.before.before in
-    let s = r.before.before.before.before in
+    let q = c in
+    let r = c in
+    let s = c.before.before.before.before.before.before.before in
     promised s
-    (own_fault (call s) no_map r.before.if-image.false (sym r.address_right.ensures ∙ not-false _ q.before.if-not-address_right.false)
+    (own_fault (call s) no_map r.if-image.false (sym r.address_right.ensures ∙ not-false _ q.if-not-address_right.false)
     (sym q.address_right-2.ensures ∙ not-true _ c.if-not-address_right-2.true))
 
 -- where the function was entered, from where both addresses were judged right
@@ -58,20 +58,20 @@ abbrev start : tie.Else-not-address_right-2 → tie.Start
 start c = c.before.before.before.before.before.before.before
 
 -- the image has a byte a register, and both addresses are right
-long : (c : tie.Else-not-address_right-2) → length (start c).args.image-1.now ≡ register_count
-long c = c.before.before.before.before.if-image.false
+long : (c : tie.Else-not-address_right-2) → length (start c).args.image.now ≡ register_count
+long c = c.if-image.false
 
 used-right : (c : tie.Else-not-address_right-2) → address_right (start c).args.used ≡ true
-used-right c = sym c.before.before.before.address_right.ensures ∙ not-false _ c.before.before.if-not-address_right.false
+used-right c = sym c.address_right.ensures ∙ not-false _ c.if-not-address_right.false
 
 own-right : (c : tie.Else-not-address_right-2) → address_right (start c).args.own ≡ true
-own-right c = sym c.before.address_right-2.ensures ∙ not-false _ c.if-not-address_right-2.false
+own-right c = sym c.address_right-2.ensures ∙ not-false _ c.if-not-address_right-2.false
 
 returns-4 : tie.Need-returns
 returns-4 c =
-    let p = c.before.before in
+    let p = c in
     let a = p.play_checked.ensures in
-    let s = start p.before.before in
+    let s = start c.before.before.before.before in
     (a.0, (a.1, (exactly_played (call s) a.0, taken s)))
 
 pub play_spec : {M : Type 1} → statement M

@@ -23,11 +23,11 @@ use Rattle.adv7195_playing.proofs.play_checked.Tie as tie
 
 -- where the function was entered
 abbrev start : tie.After-write_plan → tie.Start
-start w = w.before.before.before.before.before.before
+start w = w.before.before.before.before.before
 
 -- the image that was found, and the registers that the walk left
 abbrev image : tie.After-write_plan → List ℕ
-image w = (start w).args.image-1.now
+image w = (start w).args.image.now
 
 abbrev left : tie.After-write_plan → List ℕ
 left w = w.write_plan.new.1.0
@@ -42,11 +42,11 @@ judgement w = judged_for w (image w)
 -- as it was answered, and what was written
 answered : (w : tie.After-write_plan) (r : Walk) → w.write_plan.result ≡ r → counted (judgement w) ≡ count_of r
 answered w r e =
-    sym (w.write_plan.ensures.0 ∙ ap (λ (l : List ℕ). counted (judged_for w l)) w.before.before.copied-registers.ensures) ∙ ap count_of e
+    sym (w.write_plan.ensures.0 ∙ ap (λ (l : List ℕ). counted (judged_for w l)) w.copied-registers.ensures) ∙ ap count_of e
 
 wrote : (w : tie.After-write_plan) → Written (judgement w) (image w) (left w)
 wrote w =
-    subst (λ (l : List ℕ). Written (judged_for w l) l (left w)) w.before.before.copied-registers.ensures w.write_plan.ensures.1
+    subst (λ (l : List ℕ). Written (judged_for w l) l (left w)) w.copied-registers.ensures w.write_plan.ensures.1
 
 -- the call
 abbrev call : tie.After-write_plan → Call
@@ -54,18 +54,18 @@ call w = let a = (start w).args in call_of (image w) a.used a.own a.plan.now
 
 returns : tie.Need-returns-then-used-own
 returns c =
-    let t = c.before.before in
-    let w = t.before.before.before in
+    let t = c in
+    let w = c.before.before.before in
     let p = (start w).requires in
-    as_left (played_elsewhere (call w) no_map p.0 p.1 p.2 c.if-used-own.true _ (answered w _ t.transactions-1.given.1))
+    as_left (played_elsewhere (call w) no_map p.0 p.1 p.2 c.if-used-own.true _ (answered w _ t.in-Taken.is))
 
 returns-2 : tie.Need-returns-in-Refused
 returns-2 c =
-    let t = c.before in
-    let w = t.before.before.before in
+    let t = c in
+    let w = c.before.before in
     let p = (start w).requires in
-    let n = number_of t.refusal-1.given.0.0 in
-    as_left (plan_fault (call w) no_map p.0 p.1 p.2 n (refused-list (judgement w) n (answered w _ t.refusal-1.given.1)))
+    let n = number_of t.in-Refused.refusal in
+    as_left (plan_fault (call w) no_map p.0 p.1 p.2 n (refused-list (judgement w) n (answered w _ t.in-Refused.is)))
 
 -- where the plan was written at the chip's own address
 abbrev written_at : tie.After-copy → tie.After-write_plan
@@ -81,18 +81,18 @@ became k = let w = written_at k in k.copy.ensures.1 ∙ all_copied (left w) (ima
 
 returns-3 : tie.Need-returns-else-used-own
 returns-3 c =
-    let k = c.before.before in
-    let o = k.before.before.before in
-    let t = o.before.before in
+    let k = c in
+    let o = c in
+    let t = c in
     let w = written_at k in
     let a = (start w).args in
     let r = (start w).requires in
     let p =
-    own_played (image w) a.used a.own o.if-used-own.false a.plan.now r.0 r.1 r.2 _ _ (answered w _ t.transactions-1.given.1) (wrote w) in
+    own_played (image w) a.used a.own o.if-used-own.false a.plan.now r.0 r.1 r.2 _ _ (answered w _ t.in-Taken.is) (wrote w) in
     (p.0, became k ∙ p.1)
 
 same-length-3 : tie.Need-shape_of-image-else-used-own
-same-length-3 c = let k = c.before.before in ap length (became k) ∙ still (written_at k)
+same-length-3 c = let k = c in ap length (became k) ∙ still (written_at k)
 
 pub play_checked_spec : {M : Type 1} → statement M
 play_checked_spec =

@@ -21,7 +21,7 @@ abbrev invariant-loop : tie.invariant-loop-subaddress
 invariant-loop plan registers₀ cursor₀ transactions₀ prepared₀ registers cursor transactions prepared = Passed plan registers₀ prepared registers cursor transactions
 
 abbrev decreases-loop : tie.decreases-loop-subaddress
-decreases-loop plan registers₀ cursor₀ transactions₀ prepared₀ registers cursor transactions prepared = cursor.false
+decreases-loop plan registers₀ cursor₀ transactions₀ prepared₀ registers cursor transactions prepared = cursor.left
 
 -- where the function was entered
 abbrev start : tie.At-loop-subaddress invariant-loop decreases-loop → tie.Start invariant-loop decreases-loop
@@ -32,32 +32,32 @@ plan-at c = (start c).args.plan.now
 
 loop-holds : tie.Need-loop-subaddress-init invariant-loop decreases-loop
 loop-holds c =
-    let k = c.before.before in
-    let a = k.before.args in
-    writing_begins turns a.plan.now Any false a.registers-1.now c.begin-cursor.result c.begin-cursor.ensures (λ i. (k.shared_slice_known-1.given i).fits)
+    let k = c in
+    let a = k.args in
+    writing_begins turns a.plan.now Any false a.registers.now c.begin-cursor.result c.begin-cursor.ensures (λ i. (k.shared_slice_known-1.given i).fits)
 
 -- what the step says
-said : (c : tie.After-next invariant-loop decreases-loop) (r : Step) → c.next.result ≡ r → Stepped (plan-at c.before) c.before.loop-subaddress.cursor r
-said c r e = subst (Stepped (plan-at c.before) c.before.loop-subaddress.cursor) (sym c.next.ensures ∙ e)
-    (stepped (plan-at c.before) c.before.loop-subaddress.cursor)
+said : (c : tie.After-next invariant-loop decreases-loop) (r : Step) → c.next.result ≡ r → Stepped (plan-at c.before) c.loop-subaddress.cursor r
+said c r e = subst (Stepped (plan-at c.before) c.loop-subaddress.cursor) (sym c.next.ensures ∙ e)
+    (stepped (plan-at c.before) c.loop-subaddress.cursor)
 
 returns : tie.Need-returns-in-Fault invariant-loop decreases-loop
-returns c = let n = c.before.before in fault_answered n.before.loop-subaddress.invariant (said n _ c.enum_told-1.given.1)
+returns c = let n = c.before in fault_answered n.loop-subaddress.invariant (said n _ c.in-Fault.is)
 
 returns-2 : tie.Need-returns-in-End invariant-loop decreases-loop
-returns-2 c = let n = c.before.before in end_answered n.before.loop-subaddress.invariant (start n.before).requires (said n _ c.enum_told-in-End-1.given.1)
+returns-2 c = let n = c.before in end_answered n.loop-subaddress.invariant (start c.before.before).requires (said n _ c.in-End.is)
 
 -- the transaction that was found
 went : (c : tie.In-Transaction-2 invariant-loop decreases-loop)
-    → Went (plan-at c.before.before.before) c.before.before.before.loop-subaddress.cursor c.subaddress-1.given.0.0 c.subaddress-1.given.0.1.0
+    → Went (plan-at c.before.before) c.loop-subaddress.cursor c.in-Transaction.subaddress c.subaddress-1.given.0.1.0
     c.subaddress-1.given.0.1.1.0 c.subaddress-1.given.0.1.1.1.0
-went c = said c.before.before _ c.subaddress-1.given.1
+went c = said c.before _ c.in-Transaction.is
 
 returns-3 : tie.Need-returns-then-not-keeps_rules invariant-loop decreases-loop
 returns-3 c =
-    let k = c.before in
-    let s = k.before.before in
-    let l = s.before.before.before in
+    let k = c in
+    let s = c in
+    let l = c.before.before.before.before in
     rule_answered l.loop-subaddress.invariant (start l).requires (went s) (sym k.keeps_rules.ensures ∙ not-true _ c.if-not-keeps_rules.true)
 
 -- it keeps the rule, and its data were written
@@ -67,11 +67,11 @@ found d = d.before.before.before.before.before.before
 abbrev loop-at : tie.After-copy_data invariant-loop decreases-loop → tie.At-loop-subaddress invariant-loop decreases-loop
 loop-at d = (found d).before.before.before
 
-kept : (d : tie.After-copy_data invariant-loop decreases-loop) → keeps_rules (found d).subaddress-1.given.0.0 (found d).subaddress-1.given.0.1.0 ≡ true
-kept d = let e = d.before.before.before in sym e.before.keeps_rules.ensures ∙ not-false _ e.if-not-keeps_rules.false
+kept : (d : tie.After-copy_data invariant-loop decreases-loop) → keeps_rules (found d).in-Transaction.subaddress (found d).subaddress-1.given.0.1.0 ≡ true
+kept d = let e = d in sym e.keeps_rules.ensures ∙ not-false _ e.if-not-keeps_rules.false
 
 -- the registers are as many
-still : (d : tie.After-copy_data invariant-loop decreases-loop) → length d.copy_data.new.1.1.0 ≡ length (start (loop-at d)).args.registers-1.now
+still : (d : tie.After-copy_data invariant-loop decreases-loop) → length d.copy_data.new.1.1.0 ≡ length (start (loop-at d)).args.registers.now
 still d = let l = loop-at d in still_as_many l.loop-subaddress.invariant (start l).requires (went (found d)) (kept d) d.copy_data.ensures
 
 -- where they were written, from where the flip was tested
@@ -80,23 +80,23 @@ copied_at f = f.before.before.before.before
 
 returns-4 : tie.Need-returns-then-flipped-prepared invariant-loop decreases-loop
 returns-4 c =
-    let f = c.before.before.before in
+    let f = c.before.before in
     let d = copied_at f in
     let l = loop-at d in
     order_answered l.loop-subaddress.invariant (start l).requires (went (found d)) (kept d) d.copy_data.ensures f.flips-flipped.ensures c.if-flipped-prepared.true
 
 add-transactions : tie.Need-overflow_add-transactions invariant-loop decreases-loop
 add-transactions c =
-    let v = (loop-at (copied_at c.before.before.before)).loop-subaddress.invariant in
+    let v = (loop-at (copied_at c.before.before)).loop-subaddress.invariant in
     record { fits = omega (arith, v.counts, v.walked.few) }
 
 loop-again : tie.Need-loop-subaddress-preserved invariant-loop decreases-loop
 loop-again c =
-    let f = c.before.before.before in
+    let f = c.before.before in
     let d = copied_at f in
     let l = loop-at d in
     written_on l.loop-subaddress.invariant (start l).requires (went (found d)) (kept d) d.copy_data.ensures f.flips-flipped.ensures c.if-flipped-prepared.false
-    c.before.prepared_after-prepared_now.ensures
+    c.prepared_after-prepared_now.ensures
 
 pub write_plan_spec : {M : Type 1} → statement M
 write_plan_spec =
@@ -108,22 +108,22 @@ write_plan_spec =
     loop-holds
     (λ c κs. tt)
     (λ c. search rules)
-    (λ c. as_many c.before.before.before.loop-subaddress.invariant)
+    (λ c. as_many c.loop-subaddress.invariant)
     returns
     (λ c. search rules)
-    (λ c. as_many c.before.before.before.loop-subaddress.invariant)
+    (λ c. as_many c.loop-subaddress.invariant)
     returns-2
     (λ c. search rules)
     (λ c κs. tt)
-    (λ c. as_many c.before.before.before.before.before.before.loop-subaddress.invariant)
+    (λ c. as_many c.loop-subaddress.invariant)
     returns-3
-    (λ c. let l = c.before.before.before.before.before.before.before in omega (arith, as_many l.loop-subaddress.invariant, (start l).requires))
+    (λ c. let l = c.before.before.before.before.before in omega (arith, as_many l.loop-subaddress.invariant, (start l).requires))
     (λ c κs. tt)
     (λ c. let d = c.before.before.before in omega (arith, still d, (start (loop-at d)).requires))
     (λ c κs. tt)
-    (λ c κs. let d = copied_at c.before in still d ∙ (start (loop-at d)).requires)
-    (λ c. still (copied_at c.before.before.before))
+    (λ c κs. let d = copied_at c in still d ∙ (start (loop-at d)).requires)
+    (λ c. still (copied_at c.before.before))
     returns-4
     add-transactions
-    (λ c. omega (arith, (went (found (copied_at c.before.before.before))).false))
+    (λ c. omega (arith, (went (found (copied_at c.before.before))).left))
     loop-again)

@@ -25,49 +25,49 @@ lengths c = c.before.before.before.before
 
 returns : tie.Need-returns-then-image
 returns c =
-    let a = c.before.before.args in
-    answered a.image.now a.numbers-1.now (image-length a.image.now (length a.numbers-1.now) c.if-image.true) refl
+    let a = c.args in
+    answered a.image.now a.numbers.now (image-length a.image.now (length a.numbers.now) c.if-image.true) refl
 
 returns-2 : tie.Need-returns-then-numbers-ne-NUMBERS
 returns-2 c =
-    let a = c.before.before.before.args in
-    answered a.image.now a.numbers-1.now (numbers-length a.image.now (length a.numbers-1.now) c.before.if-image.false c.if-numbers-ne-NUMBERS.true) refl
+    let a = c.args in
+    answered a.image.now a.numbers.now (numbers-length a.image.now (length a.numbers.now) c.if-image.false c.if-numbers-ne-NUMBERS.true) refl
 
 read-requires : tie.Need-read-judged-requires
-read-requires c κs = rows_fit _ c.before.before.rows.ensures
+read-requires c κs = rows_fit _ c.rows.ensures
 
 -- the verdict is the answer due
-judged : (c : tie.After-read-judged) → (let a = (start c).args in checked_as c.read-judged.result ≡ read_of a.image.now (length a.numbers-1.now))
+judged : (c : tie.After-read-judged) → (let a = (start c).args in checked_as c.read-judged.result ≡ read_of a.image.now (length a.numbers.now))
 judged c =
     let image = (start c).args.image.now in
-    c.read-judged.ensures.0 ∙ ap (table.judge_of image) c.before.before.before.rows.ensures ∙ judge_walk image
-    ∙ judged_read image _ (lengths c).before.if-image.false (lengths c).if-numbers-ne-NUMBERS.false
+    c.read-judged.ensures.0 ∙ ap (table.judge_of image) c.rows.ensures ∙ judge_walk image
+    ∙ judged_read image _ (lengths c).if-image.false (lengths c).if-numbers-ne-NUMBERS.false
 
 -- the table's numbers are those that the image holds
 parts_held_lem : (c : tie.After-read-judged) → c.read-judged.new.1.1.0 ≡ parts_held (start c).args.image.now
-parts_held_lem c = c.read-judged.ensures.1 ∙ ap (table.numbers_of (start c).args.image.now _) c.before.before.before.rows.ensures
+parts_held_lem c = c.read-judged.ensures.1 ∙ ap (table.numbers_of (start c).args.image.now _) c.rows.ensures
 
 returns-3 : tie.Need-returns-in_default
 returns-3 c =
-    let r = c.before.before.before in
+    let r = c.before.before in
     let a = (start r).args in
-    answered a.image.now a.numbers-1.now (judged r)
-    (sym (ap (left_by a.numbers-1.now (settings_held a.image.now)) (ap checked_as c.enum_told-in_default-1.given.1)))
+    answered a.image.now a.numbers.now (judged r)
+    (sym (ap (left_by a.numbers.now (settings_held a.image.now)) (ap checked_as c.in_default.is)))
 
 numbers-of-requires : tie.Need-numbers_of-requires
 numbers-of-requires c κs =
-    let r = c.before.before.before.before.before in
+    let r = c.before.before.before.before in
     let image = (start r).args.image.now in
     (ap length (parts_held_lem r) ∙ held_parts_length image, ((lengths r).if-numbers-ne-NUMBERS.false, subst (λ (ps : List ℤ). T (joins ps)) (sym (parts_held_lem r)) (held-joins image)))
 
 returns-4 : tie.Need-returns
 unfolding settings_held
 returns-4 c =
-    let t = c.before.before.before.before in
-    let r = t.before.before.before in
+    let t = c in
+    let r = c.before.before.before.before.before.before in
     let a = (start r).args in
-    let answer = sym (ap checked_as t.enum_told-1.given.1) ∙ judged r in
-    answered a.image.now a.numbers-1.now answer (c.before.Numbers-of.ensures ∙ ap numbers_of (parts_held_lem r))
+    let answer = sym (ap checked_as t.in-Good.is) ∙ judged r in
+    answered a.image.now a.numbers.now answer (c.Numbers-of.ensures ∙ ap numbers_of (parts_held_lem r))
 
 pub read_spec : {M : Type 1} → statement M
 read_spec =

@@ -12,18 +12,18 @@ use Rattle.adv7195_settings.proofs.want.Statement.{statement}
 use Rattle.adv7195_settings.proofs.want.Tie as tie
 
 want-requires : tie.Need-want-requires
-want-requires c κs = rows_fit _ c.before.before.before.rows.ensures
+want-requires c κs = rows_fit _ c.rows.ensures
 
 returns : tie.Need-returns
 unfolding wanted_by
 returns c =
-    let w = c.before.before in
-    let r = w.before.before.before.before in
-    let s = r.before.before.before in
-    let parts = r.before.parts_of-parts.ensures in
+    let w = c in
+    let r = c in
+    let s = c in
+    let parts = r.parts_of-parts.ensures in
     let rows = r.rows.ensures in (
       w.want.ensures.0 ∙ ap₂ (λ (zs : List ℤ) (fs : List Field). check_of zs fs) parts rows ∙ check_walk s.args.numbers.now,
-      w.want.ensures.1 ∙ ap₂ (λ (zs : List ℤ) (fs : List Field). puts s.args.image-1.now (writes_of zs fs)) parts rows,
+      w.want.ensures.1 ∙ ap₂ (λ (zs : List ℤ) (fs : List Field). puts s.args.image.now (writes_of zs fs)) parts rows,
     )
 
 pub want_spec : {M : Type 1} → statement M

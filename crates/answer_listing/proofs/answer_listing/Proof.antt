@@ -25,38 +25,38 @@ abbrev verdict : tie.After-first_line-line → Verdict Counts
 verdict c = answer_of (start c).args.planned
 
 -- the part of the first line that holds its text
-first_part_lem : (c : tie.After-first_line-line) → take (c.first_line-line.result.length - 0) c.first_line-line.result.bytes-1 ≡ first_line (verdict c)
+first_part_lem : (c : tie.After-first_line-line) → take (c.first_line-line.result.length - 0) c.first_line-line.result.bytes ≡ first_line (verdict c)
 first_part_lem c = line_part c.first_line-line.result (first_line (verdict c)) c.first_line-line.ensures
 
 -- how many bytes were packed
-packed-part : (c : tie.After-first_line-line) → c.before.packed_bytes-packed.result - 0 ≡ packed_bytes (verdict c)
-packed-part c = sub-zero c.before.packed_bytes-packed.result ∙ c.before.packed_bytes-packed.ensures
+packed-part : (c : tie.After-first_line-line) → c.packed_bytes-packed.result - 0 ≡ packed_bytes (verdict c)
+packed-part c = sub-zero c.packed_bytes-packed.result ∙ c.packed_bytes-packed.ensures
 
 part-list-answer-end : tie.Need-slice_bounds-list_answer-end
 part-list-answer-end c =
-    let f = c.before.before.before in
+    let f = c.before.before in
     line_long f.first_line-line.result (first_line (verdict f)) f.first_line-line.ensures
 
 part-list-answer-end-2 : tie.Need-slice_bounds-list_answer-end-2
 part-list-answer-end-2 c =
-    let f = c.before.before.before.before in
+    let f = c.before.before.before in
     let plan = (start f).args.plan.now in
-    subst⁻¹ (λ (n : ℕ). n ≤ length plan) f.before.packed_bytes-packed.ensures (within plan (verdict f) (start f).requires)
+    subst⁻¹ (λ (n : ℕ). n ≤ length plan) f.packed_bytes-packed.ensures (within plan (verdict f) (start f).requires)
 
 list-answer-requires : tie.Need-list_answer-requires
 list-answer-requires c κs =
-    let f = c.before.before.before.before.before in
+    let f = c.before.before.before.before in
     let plan = (start f).args.plan.now in
     λ e. subst⁻¹ (λ (n : ℕ). Accepted (take n plan)) (packed-part f) (well_formed_lem plan (verdict f) (start f).requires (ap word_of (sym (first_part_lem f)) ∙ e))
 
 returns : tie.Need-returns
 returns c =
-    let k = c.before.before in
-    let f = k.before.before.before.before.before.before in
+    let k = c in
+    let f = c.before.before.before.before.before.before.before in
     let a = (start f).args in
     let plan = a.plan.now in
     let t = ap₂ (λ (l : List ℕ) (n : ℕ). text_below l (listed (unpack (take n plan)))) (first_part_lem f) (packed-part f) ∙ text plan (verdict f) (start f).requires in
-    (k.list_answer.ensures.0 ∙ ap (place_after a.out-1.now 0) t, k.list_answer.ensures.1 ∙ ap (appended a.out-1.now 0) t)
+    (k.list_answer.ensures.0 ∙ ap (place_after a.out.now 0) t, k.list_answer.ensures.1 ∙ ap (appended a.out.now 0) t)
 
 pub answer_listing_spec : {M : Type 1} → statement M
 answer_listing_spec =

@@ -10,12 +10,12 @@ use Rattle.board_compare.proofs.print_text.Tie as tie
 
 part-write-all-end : tie.Need-slice_bounds-write_all-end
 part-write-all-end c =
-    let e = c.before.before in
-    let p = e.before.before.before.before in
-    let a = p.before.before.before.before.before.args in
+    let e = c in
+    let p = c in
+    let a = p.args in
     let text = compare_text a.a.now a.b.now in
-    let fits = after-fits a.out-1.now 0 text e.end-1.given.0.0 (sym p.compare_listing.ensures.0 ∙ e.end-1.given.1) in
-    omega (arith, fits.0, fits.1, ap length p.compare_listing.ensures.1, length-appended a.out-1.now 0 text)
+    let fits = after-fits a.out.now 0 text e.in-After.end (sym p.compare_listing.ensures.0 ∙ e.in-After.is) in
+    omega (arith, fits.0, fits.1, ap length p.compare_listing.ensures.1, length-appended a.out.now 0 text)
 
 pub print_text_spec : {M : Type 1} → statement M
 print_text_spec =

@@ -6,8 +6,8 @@ use Rattle.board_settings.proofs.print_settings.Tie as tie
 
 part-write-all-end : tie.Need-slice_bounds-write_all-end
 part-write-all-end c =
-    let w = c.before.before.before.before.before in
-    let p = c.before.before.place-1.given in
+    let w = c in
+    let p = c.place-1.given in
     within _ _ _ _ _ w.settings_text-place.ensures.0 w.settings_text-place.ensures.1.0 p.1
 
 pub print_settings_spec : {M : Type 1} → statement M

@@ -11,34 +11,34 @@ use Rattle.caption_listing.proofs.caption_listing.Tie as tie
 -- two bytes
 returns : tie.Need-returns-then-input-eq-PAIR
 returns c =
-    let k = c.before.before in
-    let p = k.before.before.before.before in
-    let t = p.before.before.before in
-    let a = t.before.before.before.args in
+    let k = c in
+    let p = c in
+    let t = c in
+    let a = t.args in
     let e : pairs_text [] p.pair_of-ordinary.result ≡ caption_text a.input.now =
     ap (pairs_text []) p.pair_of-ordinary.ensures ∙ sym (two_bytes a.input.now t.if-input-eq-PAIR.true) in
-    (k.list_pairs.ensures.0 ∙ ap (place_after a.out-1.now 0) e, k.list_pairs.ensures.1 ∙ ap (appended a.out-1.now 0) e)
+    (k.list_pairs.ensures.0 ∙ ap (place_after a.out.now 0) e, k.list_pairs.ensures.1 ∙ ap (appended a.out.now 0) e)
 
 -- four
 returns-2 : tie.Need-returns-then-input-eq-BOTH
 returns-2 c =
-    let k = c.before.before in
-    let o = k.before.before.before.before in
-    let x = o.before.before.before in
-    let t = x.before.before.before in
-    let a = t.before.before.before.before.args in
+    let k = c in
+    let o = c in
+    let x = c in
+    let t = c in
+    let a = t.args in
     let e : pairs_text x.pair_of-extended.result o.pair_of-ordinary-then-input-eq-BOTH.result ≡ caption_text a.input.now =
     ap₂ pairs_text x.pair_of-extended.ensures o.pair_of-ordinary-then-input-eq-BOTH.ensures ∙ sym (four_bytes a.input.now t.if-input-eq-BOTH.true) in
-    (k.list_pairs-then-input-eq-BOTH.ensures.0 ∙ ap (place_after a.out-1.now 0) e, k.list_pairs-then-input-eq-BOTH.ensures.1 ∙ ap (appended a.out-1.now 0) e)
+    (k.list_pairs-then-input-eq-BOTH.ensures.0 ∙ ap (place_after a.out.now 0) e, k.list_pairs-then-input-eq-BOTH.ensures.1 ∙ ap (appended a.out.now 0) e)
 
 -- another count
 returns-3 : tie.Need-returns
 returns-3 c =
-    let k = c.before.before in
-    let t = k.before.before in
-    let a = t.before.before.before.before.args in
-    let e = sym (other_count a.input.now t.before.if-input-eq-PAIR.false t.if-input-eq-BOTH.false) in
-    (k.answer_listing.ensures.0 ∙ ap (place_after a.out-1.now 0) e, k.answer_listing.ensures.1 ∙ ap (appended a.out-1.now 0) e)
+    let k = c in
+    let t = c in
+    let a = t.args in
+    let e = sym (other_count a.input.now t.if-input-eq-PAIR.false t.if-input-eq-BOTH.false) in
+    (k.answer_listing.ensures.0 ∙ ap (place_after a.out.now 0) e, k.answer_listing.ensures.1 ∙ ap (appended a.out.now 0) e)
 
 pub caption_listing_spec : {M : Type 1} → statement M
 caption_listing_spec =

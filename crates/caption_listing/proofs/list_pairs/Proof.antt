@@ -50,9 +50,9 @@ text c =
 
 returns : tie.Need-returns
 returns c =
-    let k = c.before.before in
-    let p = k.before.before.before.before in
-    let out = (start p).args.out-1.now in
+    let k = c in
+    let p = c.before.before.before.before.before.before in
+    let out = (start p).args.out.now in
     (k.answer_listing.ensures.0 ∙ ap (place_after out 0) (text p), k.answer_listing.ensures.1 ∙ ap (appended out 0) (text p))
 
 pub list_pairs_spec : {M : Type 1} → statement M

@@ -14,4 +14,7 @@ returns c =
     ap₂ (λ (x y : ℤ). x ∷ y ∷ []) (to_z_pos w32 a.first (search rules)) (to_z_pos w32 a.second (search rules))
 
 pub pair_of_spec : {M : Type 1} → statement M
-pair_of_spec = tie.close (tie.spec (λ c. search rules) (λ c. search rules) returns)
+pair_of_spec = tie.close (tie.spec
+    (λ c. search rules)
+    (λ c. search rules)
+    returns)

@@ -21,26 +21,26 @@ abbrev start : tie.At-loop-field invariant-loop decreases-loop → tie.Start inv
 start c = c.before.before.before.before
 
 loop-holds : tie.Need-loop-field-init invariant-loop decreases-loop
-loop-holds c = let s = c.before.before.before in lining_begins _ _ 1 29 field_width s.args.line-1.now s.args.at (omega arith) (omega (arith, s.requires))
+loop-holds c = let s = c in lining_begins _ _ 1 29 field_width s.args.line.now s.args.at (omega arith) (omega (arith, s.requires))
 
 -- a field is one of those
-inside : (c : tie.In-loop-field invariant-loop decreases-loop) → c.before.loop-field.field < 29
+inside : (c : tie.In-loop-field invariant-loop decreases-loop) → c.loop-field.field < 29
 inside c = omega (arith, c.loop-field-test.true)
 
 field-line-requires : tie.Need-field_line-place-requires invariant-loop decreases-loop
 field-line-requires c κs =
     let t = c.before in
-    let g = t.before.loop-field.invariant in
-    (line_room g (inside t) (start t.before).requires, omega (arith, g.from), omega (arith, inside t))
+    let g = t.loop-field.invariant in
+    (line_room g (inside t) (start c.before.before).requires, omega (arith, g.from), omega (arith, inside t))
 
 loop-again : tie.Need-loop-field-preserved invariant-loop decreases-loop
 loop-again c =
-    let p = c.before.before in
-    let t = p.before.before in
-    line_put t.before.loop-field.invariant (inside t) (start t.before).requires p.field_line-place.ensures
+    let p = c in
+    let t = c.before.before.before.before in
+    line_put t.loop-field.invariant (inside t) (start c.before.before.before.before.before).requires p.field_line-place.ensures
 
 returns : tie.Need-returns invariant-loop decreases-loop
-returns c = same_text (field-lines-all _ _ _) (all-put c.before.loop-field.invariant (omega (arith, c.loop-field-test.false)))
+returns c = same_text (field-lines-all _ _ _) (all-put c.loop-field.invariant (omega (arith, c.loop-field-test.false)))
 
 pub field_lines_spec : {M : Type 1} → statement M
 field_lines_spec =
@@ -53,5 +53,5 @@ field_lines_spec =
     (λ c. search rules)
     (λ c. search rules)
     loop-again
-    (λ c. kept c.before.loop-field.invariant.written)
+    (λ c. kept c.loop-field.invariant.written)
     returns)

@@ -10,13 +10,13 @@ use Rattle.compare_fields.proofs.field_text.Tie as tie
 returns : tie.Need-returns
 unfolding field_line
 returns c =
-    let e = c.before.before in
-    let s = e.before.before.before.before.before in
-    let b = s.before.before.before.before in
-    let f = b.before.before.before.before.before in
-    let m = f.before.before.before.before in
-    let l = m.before.before.before.before in
-    let h = l.before.before.before.before.before.requires.0 in
+    let e = c in
+    let s = c in
+    let b = c in
+    let f = c in
+    let m = c in
+    let l = c in
+    let h = l.requires.0 in
     let first = more (more l.put_label-label.ensures m.put_mark-mark.ensures (omega arith)) f.put_side-first.ensures (omega arith) in
     let second = more (more first (put b.put-bar.ensures.0 b.put-bar.ensures.1) (omega arith)) s.put_side-second.ensures (omega arith) in
     wider field_width (omega arith) (more second (put e.put.ensures.0 e.put.ensures.1) (omega arith))

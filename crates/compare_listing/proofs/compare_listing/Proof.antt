@@ -17,33 +17,33 @@ handed out p l e = (p ∙ ap (place_after out 0) e, l ∙ ap (appended out 0) e)
 
 returns : tie.Need-returns-then-not-whole
 returns c =
-    let p = c.before.before in
-    let t = p.before.before in
-    let w = t.before in
-    let s = w.before.before.before.before.args in
-    handed s.out-1.now p.list_refusal.ensures.0 p.list_refusal.ensures.1
+    let p = c in
+    let t = c in
+    let w = c in
+    let s = w.args in
+    handed s.out.now p.list_refusal.ensures.0 p.list_refusal.ensures.1
     (first_short s.a.now s.b.now (sym w.whole.ensures ∙ not-true _ t.if-not-whole.true))
 
 returns-2 : tie.Need-returns-then-not-whole-2
 returns-2 c =
-    let p = c.before.before in
-    let t = p.before.before in
-    let v = t.before in
-    let w = v.before.before in
-    let s = w.before.before.before.before.args in
-    handed s.out-1.now p.list_refusal-then-not-whole-2.ensures.0 p.list_refusal-then-not-whole-2.ensures.1
-    (second_short s.a.now s.b.now (sym w.whole.ensures ∙ not-false _ v.before.if-not-whole.false) (sym v.whole-2.ensures
+    let p = c in
+    let t = c in
+    let v = c in
+    let w = c in
+    let s = w.args in
+    handed s.out.now p.list_refusal-then-not-whole-2.ensures.0 p.list_refusal-then-not-whole-2.ensures.1
+    (second_short s.a.now s.b.now (sym w.whole.ensures ∙ not-false _ v.if-not-whole.false) (sym v.whole-2.ensures
     ∙ not-true _ t.if-not-whole-2.true))
 
 returns-3 : tie.Need-returns
 returns-3 c =
-    let p = c.before.before in
-    let t = p.before.before in
-    let v = t.before in
-    let w = v.before.before in
-    let s = w.before.before.before.before.args in
-    handed s.out-1.now p.list_images.ensures.0 p.list_images.ensures.1
-    (both_whole s.a.now s.b.now (sym w.whole.ensures ∙ not-false _ v.before.if-not-whole.false) (sym v.whole-2.ensures ∙ not-false _ t.if-not-whole-2.false))
+    let p = c in
+    let t = c in
+    let v = c in
+    let w = c in
+    let s = w.args in
+    handed s.out.now p.list_images.ensures.0 p.list_images.ensures.1
+    (both_whole s.a.now s.b.now (sym w.whole.ensures ∙ not-false _ v.if-not-whole.false) (sym v.whole-2.ensures ∙ not-false _ t.if-not-whole-2.false))
 
 pub compare_listing_spec : {M : Type 1} → statement M
 compare_listing_spec =

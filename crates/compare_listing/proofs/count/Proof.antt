@@ -9,11 +9,11 @@ use Rattle.compare_listing.proofs.count.Tie as tie
 
 returns : tie.Need-returns
 returns c =
-    let r = c.before in
-    let n = r.before in
-    let f = n.before in
-    let a = f.before.before.before.args.a.now in
-    let b = f.before.before.before.args.b.now in
+    let r = c in
+    let n = c in
+    let f = c in
+    let a = f.args.a.now in
+    let b = f.args.b.now in
     ap₂ (λ (x y : ℕ). x + y) (n.count-fields.ensures ∙ ap ones f.fields_differing.ensures ∙ field-count a b)
     (c.count-registers.ensures ∙ ap ones r.registers_differing.ensures ∙ register-count a b)
 

@@ -9,14 +9,14 @@ use Rattle.compare_listing.proofs.list_images.Tie as tie
 
 returns : tie.Need-returns
 returns c =
-    let p = c.before.before in
-    let t = p.before.before.before in
-    let v = t.before.before.before in
-    let u = v.before.before.before in
-    let s = u.before.before.before.before.before.args in
-    let out = s.out-1.now in
-    let e = by_reading s.a.now s.b.now no_numbers no_numbers t.both.ensures u.taken-first.ensures.0 v.taken-second.ensures.0
-    u.taken-first.ensures.1 v.taken-second.ensures.1 in
+    let p = c in
+    let t = c in
+    let v = c in
+    let u = c in
+    let s = u.args in
+    let out = s.out.now in
+    let e = by_reading s.a.now s.b.now no_numbers no_numbers t.both.ensures u.true.ensures.0 v.taken-second.ensures.0
+    u.true.ensures.1 v.taken-second.ensures.1 in
     (p.list_sides.ensures.0 ∙ ap (place_after out 0) e, p.list_sides.ensures.1 ∙ ap (appended out 0) e)
 
 pub list_images_spec : {M : Type 1} → statement M

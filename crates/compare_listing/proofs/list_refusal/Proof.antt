@@ -11,16 +11,16 @@ use Rattle.compare_listing.proofs.list_refusal.Tie as tie
 
 -- the line that was made
 made : (c : tie.After-refused_line-line) → c.refused_line-line.result ≡ line_of (refused_line 1 0)
-made c = c.refused_line-line.ensures ∙ ap (λ (n : ℕ). line_of (refused_line n 0)) c.before.number.ensures
+made c = c.refused_line-line.ensures ∙ ap (λ (n : ℕ). line_of (refused_line n 0)) c.number.ensures
 
 part-append-end : tie.Need-slice_bounds-append-end
-part-append-end c = let l = c.before.before.before in line_long l.refused_line-line.result (refused_line 1 0) (made l)
+part-append-end c = let l = c.before.before in line_long l.refused_line-line.result (refused_line 1 0) (made l)
 
 returns : tie.Need-returns
 returns c =
-    let p = c.before.before in
-    let l = p.before.before.before.before.before in
-    let out = l.before.before.before.args.out-1.now in
+    let p = c in
+    let l = c.before.before.before.before.before.before in
+    let out = l.args.out.now in
     let e = line_part l.refused_line-line.result (refused_line 1 0) (made l) in
     (p.append.ensures.0 ∙ ap (place_after out 0) e, p.append.ensures.1 ∙ ap (appended out 0) e)
 

@@ -8,9 +8,9 @@ use Rattle.compare_listing.proofs.list_sides.Tie as tie
 
 returns : tie.Need-returns
 returns c =
-    let p = c.before.before in
-    let w = p.before.before.before.before.before in
-    let out = w.before.before.before.before.before.args.out-1.now in
+    let p = c in
+    let w = c in
+    let out = w.args.out.now in
     let e = part w.write_sides-end.ensures (search rules) in
     (p.append.ensures.0 ∙ ap (place_after out 0) e, p.append.ensures.1 ∙ ap (appended out 0) e)
 

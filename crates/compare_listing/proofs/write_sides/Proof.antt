@@ -11,11 +11,11 @@ use Rattle.compare_listing.proofs.write_sides.Tie as tie
 returns : tie.Need-returns
 unfolding side_text count_line
 returns c =
-    let r = c.before.before in
-    let f = r.before.before.before.before in
-    let p = f.before.before.before.before in
-    let n = p.before.before in
-    let h = n.before.before.before.before.before.before.requires in
+    let r = c in
+    let f = c in
+    let p = c in
+    let n = c in
+    let h = n.requires in
     let first = same_text (ap count_line n.count.ensures) p.put_counted-counted.ensures in
     wider text_width (omega arith) (more (more first f.field_lines-listed.ensures (omega arith)) r.register_lines.ensures (omega arith))
 

@@ -36,7 +36,7 @@ after c = c.plan_house-planned.new.1.0
 planned : (c : tie.After-plan_house-planned) → Plans (list c) (zeros wide_bytes) (after c) (verdict c)
 planned c =
     plans (start c).args.image.now (zeros wide_bytes) (verdict c) c.plan_house-planned.ensures.0
-    (λ r. (c.before.before.shared_slice_known-1.given r).fits) (after c) c.plan_house-planned.ensures.1
+    (λ r. (c.shared_slice_known-1.given r).fits) (after c) c.plan_house-planned.ensures.1
 
 answer-listing-requires : tie.Need-answer_listing-requires
 answer-listing-requires c κs = let p = c.before.before.before in holds (list p) (zeros wide_bytes) (after p) (verdict p) (planned p)
@@ -49,9 +49,9 @@ text c =
 
 returns : tie.Need-returns
 returns c =
-    let k = c.before.before in
-    let p = k.before.before.before.before in
-    let out = (start p).args.out-1.now in
+    let k = c in
+    let p = c.before.before.before.before.before.before in
+    let out = (start p).args.out.now in
     (k.answer_listing.ensures.0 ∙ ap (place_after out 0) (text p), k.answer_listing.ensures.1 ∙ ap (appended out 0) (text p))
 
 pub house_listing_spec : {M : Type 1} → statement M

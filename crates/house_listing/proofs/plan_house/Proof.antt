@@ -13,13 +13,18 @@ use Rattle.house_listing.proofs.plan_house.Tie as tie
 
 returns : tie.Need-returns
 returns c =
-    let p = c.before.before in
-    let h = p.before.before.before in
-    let a = h.before.before.before.args in
+    let p = c in
+    let h = c in
+    let a = h.args in
     let b = board_in a.image.now in (
       p.plan.ensures.0 ∙ ap (λ (s : List ℤ). planning_of b s board_address no_limit (length a.plan.now)) h.house-numbers.ensures,
       p.plan.ensures.1.0 ∙ ap (λ (s : List ℤ). plan_left b s board_address no_limit a.plan.now) h.house-numbers.ensures,
     )
 
 pub plan_house_spec : {M : Type 1} → statement M
-plan_house_spec = tie.close (tie.spec (λ c κs. search rules) (λ c. search rules) (λ c κs. search rules) (λ c. search rules) returns)
+plan_house_spec = tie.close (tie.spec
+    (λ c κs. search rules)
+    (λ c. search rules)
+    (λ c κs. search rules)
+    (λ c. search rules)
+    returns)

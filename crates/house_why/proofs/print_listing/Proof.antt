@@ -10,12 +10,12 @@ use Rattle.house_why.proofs.print_listing.Tie as tie
 
 part-write-all-end : tie.Need-slice_bounds-write_all-end
 part-write-all-end c =
-    let e = c.before.before in
-    let p = e.before.before.before.before in
-    let a = p.before.before.before.before.args in
+    let e = c in
+    let p = c in
+    let a = p.args in
     let text = house_why_text a.image.now in
-    let fits = after-fits a.out-1.now 0 text e.end-1.given.0.0 (sym p.why_listing.ensures.0 ∙ e.end-1.given.1) in
-    omega (arith, fits.0, fits.1, ap length p.why_listing.ensures.1.0, length-appended a.out-1.now 0 text)
+    let fits = after-fits a.out.now 0 text e.in-After.end (sym p.why_listing.ensures.0 ∙ e.in-After.is) in
+    omega (arith, fits.0, fits.1, ap length p.why_listing.ensures.1.0, length-appended a.out.now 0 text)
 
 pub print_listing_spec : {M : Type 1} → statement M
 print_listing_spec =

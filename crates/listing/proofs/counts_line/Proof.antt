@@ -83,8 +83,8 @@ put-number-requires-2 c κs =
 
 returns : tie.Need-returns
 returns c =
-    let s = c.before in
-    let f = s.before.before.before in
+    let s = c in
+    let f = c.before.before.before.before in
     let p = before-first f in
     let a = (start p).args in
     let w = first-written f in

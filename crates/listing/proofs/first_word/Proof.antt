@@ -7,23 +7,30 @@ use Rattle.listing.proofs.first_word.Tie as tie
 
 returns : tie.Need-returns-then-begins_with
 unfolding word_of
-returns c = rw (sym c.before.begins_with.ensures ∙ c.if-begins_with.true)
+returns c = rw (sym c.begins_with.ensures ∙ c.if-begins_with.true)
 
 returns-2 : tie.Need-returns-then-begins_with-2
 unfolding word_of
 returns-2 c =
-    let second = c.before in
-    let first = second.before.before in
-    rw (sym first.before.begins_with.ensures ∙ first.if-begins_with.false, sym second.begins_with-2.ensures ∙ c.if-begins_with-2.true)
+    let second = c in
+    let first = c in
+    rw (sym first.begins_with.ensures ∙ first.if-begins_with.false, sym second.begins_with-2.ensures ∙ c.if-begins_with-2.true)
 
 returns-3 : tie.Need-returns
 unfolding word_of
 returns-3 c =
-    let second = c.before in
-    let first = second.before.before in
-    rw (sym first.before.begins_with.ensures ∙ first.if-begins_with.false, sym second.begins_with-2.ensures ∙ c.if-begins_with-2.false)
+    let second = c in
+    let first = c in
+    rw (sym first.begins_with.ensures ∙ first.if-begins_with.false, sym second.begins_with-2.ensures ∙ c.if-begins_with-2.false)
 
 pub first_word_spec : {M : Type 1} → statement M
 first_word_spec =
     tie.close
-    (tie.spec (λ c. search rules) (λ c κs. search rules) returns (λ c. search rules) (λ c κs. search rules) returns-2 returns-3)
+    (tie.spec
+    (λ c. search rules)
+    (λ c κs. search rules)
+    returns
+    (λ c. search rules)
+    (λ c κs. search rules)
+    returns-2
+    returns-3)

@@ -23,47 +23,47 @@ module _ (heading out : List ℕ) {j k : Judged (List Transaction)} (e : j ≡ k
 -- a refusal, which leaves the memory
 returns : tie.Need-returns-in-Refused
 returns c =
-    let r = c.before in
-    let k = r.before.before in
-    let a = k.before.before.before.before.args in
+    let r = c in
+    let k = c in
+    let a = k.args in
     let plan = a.plan.now in
-    let e = refused-list (unpack plan) (number_of r.refusal-1.given.0.0) (sym k.check.ensures ∙ ap answer_of r.refusal-1.given.1) in
-    (sym (answer-of a.heading.now a.out-1.now e), sym (left-of a.heading.now a.out-1.now e))
+    let e = refused-list (unpack plan) (number_of r.in-Refused.refusal) (sym k.check.ensures ∙ ap answer_of r.in-Refused.is) in
+    (sym (answer-of a.heading.now a.out.now e), sym (left-of a.heading.now a.out.now e))
 
 -- where the function was entered
 abbrev start : tie.In-WellFormed-2 → tie.Start
-start c = c.before.before.before.before.before.before
+start c = c.before.before.before.before.before
 
 -- the plan is well_formed_lem, with that many transactions
-well : (c : tie.In-WellFormed-2) → counted (unpack (start c).args.plan.now) ≡ accepted c.transactions-1.given.0.0
-well c = sym c.before.before.check.ensures ∙ ap answer_of c.transactions-1.given.1
+well : (c : tie.In-WellFormed-2) → counted (unpack (start c).args.plan.now) ≡ accepted c.in-WellFormed.transactions
+well c = sym c.check.ensures ∙ ap answer_of c.in-WellFormed.is
 
 list : (c : tie.In-WellFormed-2) → Accepted (start c).args.plan.now
 list c = accepted-plan (start c).args.plan.now _ (well c)
 
 put-plan-requires : tie.Need-put_plan-requires
 put-plan-requires c κs =
-    let t = c.before.before in
+    let t = c in
     (list t, listed-length (unpack (start t).args.plan.now) _ (well t))
 
 -- the text, or that it does not fit
 returns-2 : tie.Need-returns-in-After
 returns-2 c =
-    let e = c.before in
-    let p = e.before.before.before.before in
-    let t = p.before.before.before in
+    let e = c in
+    let p = c in
+    let t = c in
     let a = (start t).args in (
-      ap accepted (sym e.end-1.given.1 ∙ p.put_plan.ensures.0) ∙ sym (answer-of a.heading.now a.out-1.now (list t)),
-      p.put_plan.ensures.1 ∙ sym (left-of a.heading.now a.out-1.now (list t)),
+      ap accepted (sym e.in-After.is ∙ p.put_plan.ensures.0) ∙ sym (answer-of a.heading.now a.out.now (list t)),
+      p.put_plan.ensures.1 ∙ sym (left-of a.heading.now a.out.now (list t)),
     )
 
 returns-3 : tie.Need-returns-in-TooShort
 returns-3 c =
-    let p = c.before.before.before.before in
-    let t = p.before.before.before in
+    let p = c in
+    let t = c in
     let a = (start t).args in (
-      ap accepted (sym c.enum_told-1.given.1 ∙ p.put_plan.ensures.0) ∙ sym (answer-of a.heading.now a.out-1.now (list t)),
-      p.put_plan.ensures.1 ∙ sym (left-of a.heading.now a.out-1.now (list t)),
+      ap accepted (sym c.in-TooShort.is ∙ p.put_plan.ensures.0) ∙ sym (answer-of a.heading.now a.out.now (list t)),
+      p.put_plan.ensures.1 ∙ sym (left-of a.heading.now a.out.now (list t)),
     )
 
 pub list_plan_spec : {M : Type 1} → statement M

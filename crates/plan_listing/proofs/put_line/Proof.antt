@@ -35,25 +35,25 @@ abbrev start : tie.At-loop-i invariant-loop decreases-loop → tie.Start invaria
 start c = (written c).before.before.before.before
 
 -- the memory lent kept its length over the subaddress
-first-kept : (c : tie.After-hex_byte invariant-loop decreases-loop) → length c.hex_byte.new.0 ≡ length c.before.before.before.before.args.out-1.now
+first-kept : (c : tie.After-hex_byte invariant-loop decreases-loop) → length c.hex_byte.new.0 ≡ length c.args.out.now
 first-kept c = ap length c.hex_byte.ensures.1 ∙ length-appended _ _ _
 
 loop-holds : tie.Need-loop-i-init invariant-loop decreases-loop
 loop-holds c =
     let h = c.before.before in
-    let s = h.before.before.before.before in
+    let s = c in
     record { turns = omega arith; here = omega arith; kept = refl; room = omega (arith, s.requires, first-kept h); goes = refl }
 
 -- there is room for a datum and the line end
-datum-room : (c : tie.In-loop-i invariant-loop decreases-loop) → c.before.loop-i.end + 4 ≤ length c.before.loop-i.out-1
+datum-room : (c : tie.In-loop-i invariant-loop decreases-loop) → c.loop-i.end + 4 ≤ length c.loop-i.out
 datum-room c =
-    let v = c.before.loop-i.invariant in
+    let v = c.loop-i.invariant in
     omega (arith, v.here, v.kept, v.room, c.loop-i-test.true)
 
 -- and for the line end after the last
-end-room : (c : tie.After-loop-i invariant-loop decreases-loop) → c.before.loop-i.end < length c.before.loop-i.out-1
+end-room : (c : tie.After-loop-i invariant-loop decreases-loop) → c.loop-i.end < length c.loop-i.out
 end-room c =
-    let v = c.before.loop-i.invariant in
+    let v = c.loop-i.invariant in
     omega (arith, v.here, v.kept, v.room, v.turns)
 
 -- the turn that ends here
@@ -62,33 +62,33 @@ inside c = c.before.before.before.before.before
 
 loop-again : tie.Need-loop-i-preserved invariant-loop decreases-loop
 loop-again c =
-    let x = c.before.before in
+    let x = c in
     let i = inside c in
-    let l = i.before.loop-i in
+    let l = i.loop-i in
     let v = l.invariant in
     let bytes = (start i.before).args.bytes.now in
     let rest = drop (l.i + 1) bytes in
     let byte = get_or bytes l.i 0 in
     let more : drop l.i bytes ≡ byte ∷ rest = drop-cons bytes l.i 0 i.loop-i-test.true ∙ ap (λ (k : ℕ). byte ∷ drop k bytes) (sym (add-one l.i)) in
     let e = x.hex_byte-in-loop-i.ensures.1 in
-    let room : l.end + (3 + length (data_text rest)) ≤ length l.out-1 =
+    let room : l.end + (3 + length (data_text rest)) ≤ length l.out =
     omega (arith, data_length rest, length-drop (l.i + 1) bytes, v.here, v.kept, v.room, i.loop-i-test.true) in
     record {
       turns = omega (arith, i.loop-i-test.true);
       here = omega (arith, v.here);
-      kept = ap length e ∙ length-appended _ _ _ ∙ length-set l.out-1 l.end _ ∙ v.kept;
+      kept = ap length e ∙ length-appended _ _ _ ∙ length-set l.out l.end _ ∙ v.kept;
       room = v.room;
-      goes = v.goes ∙ ap (λ (ds : List ℕ). appended l.out-1 l.end (data_text ds)) more
-          ∙ sym (datum l.out-1 l.end byte rest room)
+      goes = v.goes ∙ ap (λ (ds : List ℕ). appended l.out l.end (data_text ds)) more
+          ∙ sym (datum l.out l.end byte rest room)
           ∙ ap (λ (o : List ℕ). appended o (l.end + 3) (data_text rest)) (sym e);
     }
 
 same_length : tie.Need-shape_of-out invariant-loop decreases-loop
-same_length c = length-set c.before.loop-i.out-1 c.before.loop-i.end _ ∙ c.before.loop-i.invariant.kept ∙ first-kept (written c.before)
+same_length c = length-set c.loop-i.out c.loop-i.end _ ∙ c.loop-i.invariant.kept ∙ first-kept (written c.before)
 
 returns : tie.Need-returns invariant-loop decreases-loop
 returns c =
-    let l = c.before.loop-i in
+    let l = c.loop-i in
     let v = l.invariant in
     let s = start c.before in
     let a = s.args in
@@ -96,9 +96,9 @@ returns c =
     let t : Transaction = record { subaddress = a.subaddress; bytes = bytes } in
     let none : drop l.i bytes ≡ [] = drop_of_length-le bytes {i = l.i} c.loop-i-test.false in (
       omega (arith, v.here, v.turns, c.loop-i-test.false),
-      no_datum l.out-1 l.end (end-room c) ∙ ap (λ (ds : List ℕ). appended l.out-1 l.end (data_text ds)) (sym none) ∙ sym v.goes
+      no_datum l.out l.end (end-room c) ∙ ap (λ (ds : List ℕ). appended l.out l.end (data_text ds)) (sym none) ∙ sym v.goes
           ∙ ap (λ (o : List ℕ). appended o (a.at + 2) (data_text bytes)) (written c.before).hex_byte.ensures.1
-          ∙ line a.out-1.now a.at t (omega (arith, s.requires, data_length bytes)),
+          ∙ line a.out.now a.at t (omega (arith, s.requires, data_length bytes)),
     )
 
 pub put_line_spec : {M : Type 1} → statement M
@@ -108,11 +108,11 @@ put_line_spec =
     invariant-loop
     decreases-loop
     (λ c κs. tt)
-    (λ c. record { fits = omega (arith, c.before.before.before.before.before.before.requires) })
+    (λ c. record { fits = omega (arith, c.requires) })
     loop-holds
     (λ c. omega (arith, datum-room c))
     (λ c. record { fits = omega (arith, datum-room c.before) })
-    (λ c. c.before.before.loop-i-test.true)
+    (λ c. c.loop-i-test.true)
     (λ c κs. tt)
     (λ c. record { fits = omega (arith, datum-room (inside c)) })
     (λ c. record { fits = omega (arith, (inside c).loop-i-test.true) })

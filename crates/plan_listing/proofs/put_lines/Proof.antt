@@ -22,7 +22,7 @@ abbrev invariant-loop : tie.invariant-loop-subaddress
 invariant-loop out₀ at plan cursor₀ end₀ out cursor end = Listing out₀ at plan out cursor end
 
 abbrev decreases-loop : tie.decreases-loop-subaddress
-decreases-loop out₀ at plan cursor₀ end₀ out cursor end = cursor.false
+decreases-loop out₀ at plan cursor₀ end₀ out cursor end = cursor.left
 
 -- where the function was entered
 abbrev start : tie.At-loop-subaddress invariant-loop decreases-loop → tie.Start invariant-loop decreases-loop
@@ -33,34 +33,34 @@ plan-at c = (start c).args.plan.now
 
 loop-holds : tie.Need-loop-subaddress-init invariant-loop decreases-loop
 loop-holds c =
-    let k = c.before in
-    let s = k.before.before in
-    listing_begins s.args.out-1.now s.args.plan.now s.args.at c.begin-cursor.result c.begin-cursor.ensures
+    let k = c in
+    let s = c in
+    listing_begins s.args.out.now s.args.plan.now s.args.at c.begin-cursor.result c.begin-cursor.ensures
     (λ i. (k.shared_slice_known-1.given i).fits) (omega (arith, s.requires.1))
 
 -- what the step says
-said : (c : tie.After-next invariant-loop decreases-loop) (r : Step) → c.next.result ≡ r → Stepped (plan-at c.before) c.before.loop-subaddress.cursor r
+said : (c : tie.After-next invariant-loop decreases-loop) (r : Step) → c.next.result ≡ r → Stepped (plan-at c.before) c.loop-subaddress.cursor r
 said c r e =
     let plan = plan-at c.before in
-    let cursor = c.before.loop-subaddress.cursor in
+    let cursor = c.loop-subaddress.cursor in
     subst (Stepped plan cursor) (sym c.next.ensures ∙ e) (stepped plan cursor)
 
 returns : tie.Need-returns-in_default invariant-loop decreases-loop
 returns c =
     let n = c.before in
-    let l = n.before.loop-subaddress in
-    let s = start n.before in
+    let l = n.loop-subaddress in
+    let s = start c.before.before in
     let w = l.invariant.written in
     let all = all_passed l.invariant.walked s.requires.0 n.next.result c.in-Transaction.keys2 (said n n.next.result refl) in (
       w.here ∙ ap (λ (ts : List Transaction). s.args.at + length (flat_map transaction_line ts)) (sym all),
-      w.memory ∙ ap (λ (ts : List Transaction). appended s.args.out-1.now s.args.at (flat_map transaction_line ts)) (sym all),
+      w.memory ∙ ap (λ (ts : List Transaction). appended s.args.out.now s.args.at (flat_map transaction_line ts)) (sym all),
     )
 
 -- the transaction that was found
 went : (c : tie.In-Transaction-2 invariant-loop decreases-loop)
-    → Went (plan-at c.before.before.before) c.before.before.before.loop-subaddress.cursor c.subaddress-1.given.0.0 c.subaddress-1.given.0.1.0
+    → Went (plan-at c.before.before) c.loop-subaddress.cursor c.in-Transaction.subaddress c.subaddress-1.given.0.1.0
     c.subaddress-1.given.0.1.1.0 c.subaddress-1.given.0.1.1.1.0
-went c = said c.before.before _ c.subaddress-1.given.1
+went c = said c.before _ c.in-Transaction.is
 
 -- its data were copied
 abbrev found : tie.After-copy_data invariant-loop decreases-loop → tie.In-Transaction-2 invariant-loop decreases-loop
@@ -72,30 +72,30 @@ copied : (c : tie.After-copy_data invariant-loop decreases-loop) → (let g = (f
 copied c = data_in_front (went (found c)) c.copy_data.new.1.1.0 c.copy_data.ensures
 
 -- there is room for its line
-room : (c : tie.After-copy_data invariant-loop decreases-loop) → (let l = (found c).before.before.before.loop-subaddress in
-    l.end + 3 * ((found c).subaddress-1.given.0.1.0 + 1) ≤ length l.out-1)
+room : (c : tie.After-copy_data invariant-loop decreases-loop) → (let l = (found c).loop-subaddress in
+    l.end + 3 * ((found c).subaddress-1.given.0.1.0 + 1) ≤ length l.out)
 room c =
     let a = (found c).before.before.before in
     let s = start a in
-    omega (arith, line_room a.loop-subaddress.invariant s.requires.0 s.requires.1 (went (found c)), kept a.loop-subaddress.invariant.written)
+    omega (arith, line_room a.loop.invariant s.requires.0 s.requires.1 (went (found c)), kept a.loop.invariant.written)
 
 -- the data copied are as many as the header says
 as_many : (c : tie.After-copy_data invariant-loop decreases-loop) → (let n = (found c).subaddress-1.given.0.1.0 in length (take (n - 0) c.copy_data.new.1.1.0) ≡ n)
 as_many c = ap length (copied c).0 ∙ first_bytes-length _ _
 
 put-line-requires : tie.Need-put_line-end-requires invariant-loop decreases-loop
-put-line-requires c κs = let d = c.before.before.before.before in omega (arith, room d, as_many d)
+put-line-requires c κs = let d = c.before.before.before in omega (arith, room d, as_many d)
 
 loop-again : tie.Need-loop-subaddress-preserved invariant-loop decreases-loop
 loop-again c =
-    let p = c.before.before in
-    let d = p.before.before.before.before.before in
+    let p = c in
+    let d = c.before.before.before.before.before.before in
     let f = found d in
-    let a = f.before.before.before in
+    let a = f in
     let s = start a in
-    let line : List ℕ → List ℕ = λ bs. transaction_line (record { subaddress = f.subaddress-1.given.0.0; bytes = bs }) in
-    listing_goes a.loop-subaddress.invariant s.requires.0 s.requires.1 (went f) p.put_line-end.new.0 p.put_line-end.result
-    (p.put_line-end.ensures.1 ∙ ap (λ (bs : List ℕ). appended a.loop-subaddress.out-1 a.loop-subaddress.end (line bs)) (copied d).0)
+    let line : List ℕ → List ℕ = λ bs. transaction_line (record { subaddress = f.in-Transaction.subaddress; bytes = bs }) in
+    listing_goes a.loop.invariant s.requires.0 s.requires.1 (went f) p.put_line-end.new.0 p.put_line-end.result
+    (p.put_line-end.ensures.1 ∙ ap (λ (bs : List ℕ). appended a.loop.out a.loop.end (line bs)) (copied d).0)
     (omega (arith, p.put_line-end.ensures.0, as_many d))
 
 pub put_lines_spec : {M : Type 1} → statement M
@@ -108,14 +108,14 @@ put_lines_spec =
     loop-holds
     (λ c κs. search rules)
     (λ c. search rules)
-    (λ c. kept c.before.before.loop-subaddress.invariant.written)
+    (λ c. kept c.loop-subaddress.invariant.written)
     returns
     (λ c. refl)
     (λ c κs. search rules)
     (λ c. record { fits = omega (arith, (went (found c.before)).few) })
     (λ c. omega arith)
     (λ c. omega arith)
-    (λ c. (copied c.before.before.before).1)
+    (λ c. (copied c.before.before).1)
     put-line-requires
-    (λ c. omega (arith, (went (found c.before.before.before.before.before.before.before)).false))
+    (λ c. omega (arith, (went (found c.before.before.before.before.before.before)).left))
     loop-again)

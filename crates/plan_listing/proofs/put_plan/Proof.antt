@@ -32,24 +32,24 @@ returns : tie.Need-returns-then-out-heading
 returns c =
     let d = c.before in
     let a = (start d).args in
-    refused a.out-1.now 0 (a.heading.now ++ lines_of d) (omega (arith, c.if-out-heading.true, both d))
+    refused a.out.now 0 (a.heading.now ++ lines_of d) (omega (arith, c.if-out-heading.true, both d))
 
 returns-2 : tie.Need-returns-then-out-heading-2
 returns-2 c =
     let d = c.before.before in
     let a = (start d).args in
-    refused a.out-1.now 0 (a.heading.now ++ lines_of d) (omega (arith, c.if-out-heading-2.true, c.before.if-out-heading.false, both d, lines_long d))
+    refused a.out.now 0 (a.heading.now ++ lines_of d) (omega (arith, c.if-out-heading-2.true, c.if-out-heading.false, both d, lines_long d))
 
 -- there is room for both
 abbrev counted : tie.After-put-first → tie.After-data_bytes-data
 counted c = c.before.before.before.before
 
-room : (c : tie.After-put-first) → length (start (counted c)).args.heading.now + length (lines_of (counted c)) ≤ length (start (counted c)).args.out-1.now
-room c = omega (arith, c.before.before.if-out-heading-2.false, c.before.before.before.if-out-heading.false, lines_long (counted c))
+room : (c : tie.After-put-first) → length (start (counted c)).args.heading.now + length (lines_of (counted c)) ≤ length (start (counted c)).args.out.now
+room c = omega (arith, c.if-out-heading-2.false, c.if-out-heading.false, lines_long (counted c))
 
 -- the heading is written
-written : (c : tie.After-put-first) → Written (start (counted c)).args.out-1.now 0 (start (counted c)).args.heading.now c.put-first.new.0 c.put-first.result
-written c = record { fit = omega (arith, c.before.before.before.if-out-heading.false); memory = c.put-first.ensures.1; here = c.put-first.ensures.0 }
+written : (c : tie.After-put-first) → Written (start (counted c)).args.out.now 0 (start (counted c)).args.heading.now c.put-first.new.0 c.put-first.result
+written c = record { fit = omega (arith, c.if-out-heading.false); memory = c.put-first.ensures.1; here = c.put-first.ensures.0 }
 
 put-lines-requires : tie.Need-put_lines-requires
 put-lines-requires c κs =
@@ -59,8 +59,8 @@ put-lines-requires c κs =
 
 returns-3 : tie.Need-returns
 returns-3 c =
-    let l = c.before.before in
-    let p = l.before.before.before.before in
+    let l = c in
+    let p = c.before.before.before.before.before.before in
     let w = written p in
     answered (next w (lines_of (counted p)) (omega (arith, room p, w.here)) l.put_lines.ensures.1 l.put_lines.ensures.0)
 

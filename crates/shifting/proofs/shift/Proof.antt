@@ -33,24 +33,24 @@ turn c = c.before.before.before.before
 
 -- the registers with the first byte stored
 abbrev stored : tie.At-loop-i invariant-loop decreases-loop → List ℕ
-stored c = set (start c).args.to.now (start c).args.at c.before.between.result
+stored c = set (start c).args.to.now (start c).args.at c.between.result
 
 -- there are as many places as at the start
 kept : (c : tie.At-loop-i invariant-loop decreases-loop) → length c.loop-i.to ≡ length (start c).args.to.now
 kept c =
     let a = (start c).args in
     ap length c.loop-i.invariant.wrote ∙ length-sets (stored c) a.at (shifted a.held a.before (take c.loop-i.i a.from.now))
-    ∙ length-set a.to.now a.at c.before.between.result
+    ∙ length-set a.to.now a.at c.between.result
 
 returns : tie.Need-returns-then-from-eq0 invariant-loop decreases-loop
 returns c =
-    let a = c.before.before.before.args in
+    let a = c.args in
     none a.to.now a.at a.held a.before a.from.now c.if-from-eq0.true
 
 loop-holds : tie.Need-loop-i-init invariant-loop decreases-loop
 loop-holds c =
-    let a = c.before.before.before.before.before.args in
-    let some : 0 < length a.from.now = omega (arith, c.before.before.if-from-eq0.false) in
+    let a = c.args in
+    let some : 0 < length a.from.now = omega (arith, c.if-from-eq0.false) in
     record {
       some = omega arith;
       within = some;
@@ -59,7 +59,7 @@ loop-holds c =
 
 -- there is one byte more
 tested : (c : tie.After-between-in-loop-i invariant-loop decreases-loop) → (turn c).loop-i.i < length (start (turn c)).args.from.now
-tested c = c.before.before.before.loop-i-test.true
+tested c = c.loop-i-test.true
 
 -- one byte more of the bytes
 longer : (c : tie.After-between-in-loop-i invariant-loop decreases-loop)
@@ -98,10 +98,10 @@ returns-2 c =
     let a = (start t).args in
     let bs = a.from.now in
     let some : 0 < length bs = omega (arith, l.invariant.some, l.invariant.within) in
-    let all : take l.i bs ≡ bs = take_all l.i bs c.before.loop-i-test.false in (
+    let all : take l.i bs ≡ bs = take_all l.i bs c.loop-i-test.false in (
       sym (last_taken a.before bs (length bs) some (omega arith)) ∙ ap (last_from a.before) (take_all (length bs) bs (omega arith)),
       l.invariant.wrote ∙ ap (λ (ys : List ℕ). sets (stored t) a.at (shifted a.held a.before ys)) all
-          ∙ again a.to.now a.at a.held a.before t.before.between.result bs some,
+          ∙ again a.to.now a.at a.held a.before t.between.result bs some,
     )
 
 -- there is room for it

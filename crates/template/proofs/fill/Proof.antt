@@ -32,41 +32,41 @@ decreases-loop line₀ at template numbers first place₀ next₀ i₀ line plac
 
 loop-holds : tie.Need-loop-i-init invariant-loop decreases-loop
 loop-holds c =
-    let start = c.before.before in
+    let start = c in
     record {
       turns = omega arith;
       few = omega arith;
       spent = 0;
       text = [];
-      written = unwritten start.args.line-1.now start.args.at (omega (arith, start.requires.0));
+      written = unwritten start.args.line.now start.args.at (omega (arith, start.requires.0));
       room = omega arith;
       whole = refl;
     }
 
 put-part-requires : tie.Need-put_part-place-requires invariant-loop decreases-loop
 put-part-requires c κs =
-    let t = c.before.before.before in
-    let l = t.before.loop-i in
-    let start = t.before.before.before.before in
+    let t = c in
+    let l = t.loop-i in
+    let start = c in
     let w = l.invariant.written in
     omega (arith, w.most, kept w, l.invariant.room, widths_from start.args.template.now l.i t.loop-i-test.true, start.requires.0)
 
 loop-again : tie.Need-loop-i-preserved invariant-loop decreases-loop
 loop-again c =
-    let m = c.before in
-    let p = m.before.before.before in
-    let t = p.before.before.before.before in
-    let l = t.before.loop-i in
-    let start = t.before.before.before.before in
+    let m = c in
+    let p = c in
+    let t = c in
+    let l = t.loop-i in
+    let start = c in
     let a = start.args in
-    let g = p.before.number_at in
+    let g = p.number_at in
     let b = get_or a.template.now l.i 0 in
     let from = widths_from a.template.now l.i t.loop-i-test.true in
     let longer = l.invariant.text ++ stands_for b (get_or a.numbers.now l.next (pos 0)) in
-    let part = looked (stands_for b) g.type-inv g.ensures p.put_part-place.ensures in
+    let part = looked (stands_for b) g.type_inv g.ensures p.put_part-place.ensures in
     let next : l.next + taken b ≡ c.if-is_mark.next =
-    ⊎_elim (λ w. omega (arith, takes b (sym m.is_mark.ensures ∙ w.0.true), w.1))
-    (λ w. omega (arith, takes b (sym m.is_mark.ensures ∙ w.0.false), w.1)) c.if-is_mark.branch in
+    ⊎_elim (λ w. omega (arith, takes b (sym m.is_mark.ensures ∙ w.0.taken), w.1))
+    (λ w. omega (arith, takes b (sym m.is_mark.ensures ∙ w.0.left), w.1)) c.if-is_mark.branch in
     record {
       turns = omega (arith, t.loop-i-test.true);
       few = ⊎_elim (λ w. omega (arith, w.1, l.invariant.few)) (λ w. omega (arith, w.1, l.invariant.few)) c.if-is_mark.branch;
@@ -81,8 +81,8 @@ loop-again c =
 
 returns : tie.Need-returns invariant-loop decreases-loop
 returns c =
-    let l = c.before.loop-i in
-    let a = c.before.before.before.before.args in
+    let l = c.loop-i in
+    let a = c.args in
     let end : l.i ≡ length a.template.now = omega (arith, l.invariant.turns, c.loop-i-test.false) in
     same_text (filled-whole a.template.now (drop l.next a.numbers.now) l.i l.invariant.text end l.invariant.whole)
     (wider (widths a.template.now) (omega (arith, l.invariant.room)) l.invariant.written)
@@ -102,5 +102,5 @@ fill_spec =
     (λ c. omega arith)
     (λ c. omega arith)
     loop-again
-    (λ c. kept c.before.loop-i.invariant.written)
+    (λ c. kept c.loop-i.invariant.written)
     returns)

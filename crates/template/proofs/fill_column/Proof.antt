@@ -12,15 +12,15 @@ use Rattle.template.proofs.fill_column.Statement.{statement}
 use Rattle.template.proofs.fill_column.Tie as tie
 
 -- the part of the table found is the column
-part : (c : tie.After-column_end-end) → (let s = c.before in let a = s.before.before.before.args in
+part : (c : tie.After-column_end-end) → (let s = c in let a = s.args in
     take (c.column_end-end.result - s.column_start-start.result) (drop s.column_start-start.result a.table.now) ≡ column_in a.table.now a.column)
-part c = c.column_end-end.ensures.1 ∙ c.before.column_start-start.ensures.1
+part c = c.column_end-end.ensures.1 ∙ c.column_start-start.ensures.1
 
 fill-requires : tie.Need-fill-requires
 fill-requires c κs =
     let e = c.before.before in
-    let s = e.before in
-    let start = s.before.before.before in
+    let s = c in
+    let start = c in
     let from = s.column_start-start.result in
     let table = start.args.table.now in
     let most = length-take (e.column_end-end.result - from) (drop from table) in
@@ -28,10 +28,10 @@ fill-requires c κs =
 
 returns : tie.Need-returns
 returns c =
-    let p = c.before.before in
-    let e = p.before.before.before in
-    let a = e.before.before.before.before.args in
-    subst (λ (t : List ℕ). Put (widths t) a.line-1.now a.at (filled t (drop a.first a.numbers.now)) p.fill.new.0 p.fill.result) (part e)
+    let p = c in
+    let e = c.before.before.before.before.before in
+    let a = e.args in
+    subst (λ (t : List ℕ). Put (widths t) a.line.now a.at (filled t (drop a.first a.numbers.now)) p.fill.new.0 p.fill.result) (part e)
     p.fill.ensures
 
 pub fill_column_spec : {M : Type 1} → statement M

@@ -7,18 +7,24 @@ use Rattle.text.proofs.append.Statement.{statement}
 use Rattle.text.proofs.append.Tie as tie
 
 put-requires : tie.Need-put-requires
-put-requires c κs = leb-true _ _ (sym c.before.before.fits2.ensures ∙ c.before.if-fits.true)
+put-requires c κs = leb-true _ _ (sym c.fits.ensures ∙ c.if-fits.true)
 
 returns : tie.Need-returns-then-fits
 returns c =
-    let f = c.before.before.before.before in
-    let p = c.before.before.put in
-    answered (record { fit = leb-true _ _ (sym f.before.fits2.ensures ∙ f.if-fits.true); memory = p.ensures.1; here = p.ensures.0 })
+    let f = c in
+    let p = c.put in
+    answered (record { fit = leb-true _ _ (sym f.fits.ensures ∙ f.if-fits.true); memory = p.ensures.1; here = p.ensures.0 })
 
 returns-2 : tie.Need-returns
 returns-2 c =
-    let a = c.before.before.before.before.before.args in
-    refused a.line-1.now a.at a.text.now (leb-false _ _ (sym c.before.fits2.ensures ∙ c.if-fits.false))
+    let a = c.args in
+    refused a.line.now a.at a.text.now (leb-false _ _ (sym c.fits.ensures ∙ c.if-fits.false))
 
 pub append_spec : {M : Type 1} → statement M
-append_spec = tie.close (tie.spec (λ c κs. search rules) put-requires (λ c. search rules) returns (λ c. search rules) returns-2)
+append_spec = tie.close (tie.spec
+    (λ c κs. search rules)
+    put-requires
+    (λ c. search rules)
+    returns
+    (λ c. search rules)
+    returns-2)

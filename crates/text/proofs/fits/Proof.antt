@@ -18,13 +18,17 @@ no : (line : List ℕ) (at n : ℕ) → length line < at + n → false ≡ room 
 no line at n h = sym (lt-leb (at + n) (length line) h)
 
 returns : tie.Need-returns-then-line-at
-returns c = let a = c.before.args in no a.line.now a.at a.n (omega arith)
+returns c = let a = c.args in no a.line.now a.at a.n (omega arith)
 
 returns-2 : tie.Need-returns-then-n-line
-returns-2 c = let a = c.before.before.args in yes a.line.now a.at a.n (omega arith)
+returns-2 c = let a = c.args in yes a.line.now a.at a.n (omega arith)
 
 returns-3 : tie.Need-returns
-returns-3 c = let a = c.before.before.args in no a.line.now a.at a.n (omega arith)
+returns-3 c = let a = c.args in no a.line.now a.at a.n (omega arith)
 
 pub fits_spec : {M : Type 1} → statement M
-fits_spec = tie.close (tie.spec returns (λ c. search rules) returns-2 returns-3)
+fits_spec = tie.close (tie.spec
+    returns
+    (λ c. search rules)
+    returns-2
+    returns-3)

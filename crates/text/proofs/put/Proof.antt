@@ -27,12 +27,19 @@ copied line at text last h e =
 
 returns : tie.Need-returns
 returns c =
-    let p = c.before.before in
-    let start = p.before.before.before.before in
+    let p = c in
+    let start = c in
     let a = start.args in
-    (ap (λ (n : ℕ). a.at + n) p.copy.ensures.0, copied a.line-1.now a.at a.text.now p.copy.new.1.0 start.requires p.copy.ensures.1)
+    (ap (λ (n : ℕ). a.at + n) p.copy.ensures.0, copied a.line.now a.at a.text.now p.copy.new.1.0 start.requires p.copy.ensures.1)
 
 pub put_spec : {M : Type 1} → statement M
 put_spec =
     tie.close
-    (tie.spec (λ c. search rules) (λ c. search rules) (λ c. search rules) (λ c κs. search rules) (λ c. search rules) (λ c. search rules) returns)
+    (tie.spec
+    (λ c. search rules)
+    (λ c. search rules)
+    (λ c. search rules)
+    (λ c κs. search rules)
+    (λ c. search rules)
+    (λ c. search rules)
+    returns)

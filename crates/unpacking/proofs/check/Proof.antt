@@ -26,52 +26,52 @@ abbrev invariant-loop : tie.invariant-loop-after
 invariant-loop plan cursor₀ transactions₀ cursor transactions = Inv plan cursor transactions
 
 abbrev decreases-loop : tie.decreases-loop-after
-decreases-loop plan cursor₀ transactions₀ cursor transactions = cursor.false
+decreases-loop plan cursor₀ transactions₀ cursor transactions = cursor.left
 
 abbrev plan-at : tie.At-loop-after invariant-loop decreases-loop → List ℕ
-plan-at c = c.before.before.before.args.plan.now
+plan-at c = c.args.plan.now
 
 loop-holds : tie.Need-loop-after-init invariant-loop decreases-loop
 loop-holds c =
-    let k = c.before in
+    let k = c in
     record {
       done = [];
-      walked = rw c.begin-cursor.ensures (walk_begins k.before.args.plan.now Ascending (λ i. (k.shared_slice_known-1.given i).fits));
+      walked = rw c.begin-cursor.ensures (walk_begins k.args.plan.now Ascending (λ i. (k.shared_slice_known-1.given i).fits));
       counts = refl;
     }
 
 -- what the step says
-said : (c : tie.After-next invariant-loop decreases-loop) (r : Step) → c.next.result ≡ r → Stepped (plan-at c.before) c.before.loop-after.cursor r
-said c r e = subst (Stepped (plan-at c.before) c.before.loop-after.cursor) (sym c.next.ensures ∙ e)
-    (stepped (plan-at c.before) c.before.loop-after.cursor)
+said : (c : tie.After-next invariant-loop decreases-loop) (r : Step) → c.next.result ≡ r → Stepped (plan-at c.before) c.loop-after.cursor r
+said c r e = subst (Stepped (plan-at c.before) c.loop-after.cursor) (sym c.next.ensures ∙ e)
+    (stepped (plan-at c.before) c.loop-after.cursor)
 
 returns : tie.Need-returns-in-Fault invariant-loop decreases-loop
 returns c =
-    let n = c.before.before in
-    sym (ap counted (walk_fails n.before.loop-after.invariant.walked (said n _ c.enum_told-1.given.1)))
+    let n = c.before in
+    sym (ap counted (walk_fails n.loop-after.invariant.walked (said n _ c.in-Fault.is)))
 
 returns-2 : tie.Need-returns-in-End invariant-loop decreases-loop
 returns-2 c =
-    let n = c.before.before in
-    let v = n.before.loop-after.invariant in
-    ap accepted v.counts ∙ sym (ap counted (walk_ends v.walked (said n _ c.enum_told-in-End-1.given.1)))
+    let n = c.before in
+    let v = n.loop-after.invariant in
+    ap accepted v.counts ∙ sym (ap counted (walk_ends v.walked (said n _ c.in-End.is)))
 
 add-transactions : tie.Need-overflow_add-transactions invariant-loop decreases-loop
-add-transactions c = let v = c.before.before.before.before.loop-after.invariant in record { fits = omega (arith, v.counts, v.walked.few) }
+add-transactions c = let v = c.loop-after.invariant in record { fits = omega (arith, v.counts, v.walked.few) }
 
 -- the transaction that was found
 went : (c : tie.In-Transaction-2 invariant-loop decreases-loop)
-    → Went (plan-at c.before.before.before) c.before.before.before.loop-after.cursor c.after-1.given.0.0 c.after-1.given.0.1.0
+    → Went (plan-at c.before.before) c.loop-after.cursor c.in-Transaction.subaddress c.after-1.given.0.1.0
     c.after-1.given.0.1.1.0
     c.after-1.given.0.1.1.1.0
-went c = said c.before.before _ c.after-1.given.1
+went c = said c.before _ c.in-Transaction.is
 
 loop-less : tie.Need-loop-after-smaller invariant-loop decreases-loop
-loop-less c = omega (arith, (went c.before).false)
+loop-less c = omega (arith, (went c.before).left)
 
 loop-again : tie.Need-loop-after-preserved invariant-loop decreases-loop
 loop-again c =
-    let v = c.before.before.before.before.loop-after.invariant in
+    let v = c.loop-after.invariant in
     record {
       done = v.done ++ (_ ∷ []);
       walked = walk_goes v.walked (went c.before);

@@ -12,11 +12,15 @@ use Rattle.why_lines.proofs.house_reason.Tie as tie
 
 returns : tie.Need-returns
 returns c =
-    let h = c.before.before in
-    let start = h.before.before in
+    let h = c in
+    let start = c in
     let a = start.args in
     c.why.ensures.0 ∙ ap (λ (s : List ℤ). why_of (board_in a.image.now) s no_limit a.register) h.house-numbers.ensures
     ∙ house-passes a.image.now a.register start.requires
 
 pub house_reason_spec : {M : Type 1} → statement M
-house_reason_spec = tie.close (tie.spec (λ c κs. search rules) (λ c. search rules) (λ c κs. search rules) returns)
+house_reason_spec = tie.close (tie.spec
+    (λ c κs. search rules)
+    (λ c. search rules)
+    (λ c κs. search rules)
+    returns)

@@ -11,12 +11,12 @@ use Rattle.why_lines.proofs.register_line.Tie as tie
 returns : tie.Need-returns
 unfolding register_line
 returns c =
-    let e = c.before.before in
-    let p = e.before.before.before.before.before in
-    let w = p.before in
-    let s = w.before.before.before.before in
-    let n = s.before.before.before.before.before in
-    let h = n.before.before.before.before.requires.0 in
+    let e = c in
+    let p = c in
+    let w = c in
+    let s = c in
+    let n = c in
+    let h = n.requires.0 in
     let number = more n.put_hex-number.ensures (put s.put-spaced.ensures.0 s.put-spaced.ensures.1) (omega arith) in
     let reason = more number (same_text (ap answer_words w.house_reason.ensures) p.put_reason-reason.ensures) (omega arith) in
     wider register_width (omega arith) (more reason (put e.put.ensures.0 e.put.ensures.1) (omega arith))

@@ -16,33 +16,33 @@ use Rattle.why_listing.proofs.put_first.Tie as tie
 
 -- the text of the line that was made
 abbrev text : tie.After-first_line-first → List ℕ
-text c = first_line (answer_of c.before.before.args.planned)
+text c = first_line (answer_of c.args.planned)
 
 -- it stands at the front of the line's bytes
-part : (c : tie.After-first_line-first) → take (c.first_line-first.result.length - 0) c.first_line-first.result.bytes-1 ≡ text c
+part : (c : tie.After-first_line-first) → take (c.first_line-first.result.length - 0) c.first_line-first.result.bytes ≡ text c
 part c = line_part c.first_line-first.result (text c) c.first_line-first.ensures
 
-long : (c : tie.After-first_line-first) → c.first_line-first.result.length ≤ length c.first_line-first.result.bytes-1
+long : (c : tie.After-first_line-first) → c.first_line-first.result.length ≤ length c.first_line-first.result.bytes
 long c = line_long c.first_line-first.result (text c) c.first_line-first.ensures
 
 -- and has no more bytes than the line
 short : (c : tie.After-bytes-1) → length (text c.before) ≤ line_width
 short c =
-    let all : length c.before.first_line-first.result.bytes-1 ≡ line_width = search rules in
+    let all : length c.first_line-first.result.bytes ≡ line_width = search rules in
     let h = long c.before in
-    let taken = length-take-le (c.before.first_line-first.result.length - 0) c.before.first_line-first.result.bytes-1 (omega (arith, h)) in
+    let taken = length-take-le (c.first_line-first.result.length - 0) c.first_line-first.result.bytes (omega (arith, h)) in
     omega (arith, ap length (part c.before), h, taken)
 
 put-requires : tie.Need-put-requires
 put-requires c κs =
-    let b = c.before.before.before in
-    omega (arith, short b, ap length (part b.before), b.before.before.before.requires)
+    let b = c.before.before in
+    omega (arith, short b, ap length (part c.before.before.before), b.requires)
 
 returns : tie.Need-returns
 returns c =
-    let p = c.before.before in
-    let b = p.before.before.before.before in
-    wider line_width (omega (arith, short b, ap length (part b.before))) (same_text (part b.before) (put p.put.ensures.0 p.put.ensures.1))
+    let p = c in
+    let b = c.before.before.before.before.before in
+    wider line_width (omega (arith, short b, ap length (part c.before.before.before.before.before.before))) (same_text (part c.before.before.before.before.before.before) (put p.put.ensures.0 p.put.ensures.1))
 
 pub put_first_spec : {M : Type 1} → statement M
 put_first_spec =
@@ -51,7 +51,7 @@ put_first_spec =
     (λ c κs. search rules)
     (λ c. search rules)
     (λ c. search rules)
-    (λ c. long c.before.before.before)
+    (λ c. long c.before.before)
     put-requires
     (λ c. search rules)
     returns)

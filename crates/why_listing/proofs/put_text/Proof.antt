@@ -27,22 +27,22 @@ start c = c.before.before.before.before.before
 
 returns : tie.Need-returns-in_default
 returns c =
-    let p = c.before.before.before.before in
+    let p = c.before.before.before in
     let a = (start p).args in
     let text : Planned → List ℕ = λ r. answer_text (transaction_text (house_reason a.image.now)) (list_in a.plan.now (answer_of r)) (answer_of r) in
-    let e = c.enum_told-1.given.1 in
+    let e = c.in_default.is in
     same_text (ap (λ (r : Planned). first_line (answer_of r)) e ∙ sym (ap text e)) (wider text_width (omega arith) p.put_first-first.ensures)
 
 -- the counts that were answered
 abbrev counts : tie.In-Done-2 → Counts
-counts c = record { length = c.planned-1.given.0.0; transactions = c.planned-1.given.0.1.0; bus_bytes = c.planned-1.given.0.1.1.0 }
+counts c = record { length = c.in-Done.length; transactions = c.planned-1.given.0.1.0; bus_bytes = c.planned-1.given.0.1.1.0 }
 
 abbrev first : tie.In-Done-2 → tie.After-put_first-first
-first c = c.before.before.before.before
+first c = c.before.before.before
 
 -- the answer is good, so the plan holds it
-answer : (c : tie.In-Done-2) → answer_of (start (first c)).args.planned-1 ≡ good (counts c)
-answer c = ap answer_of c.planned-1.given.1
+answer : (c : tie.In-Done-2) → answer_of (start (first c)).args.planned ≡ good (counts c)
+answer c = ap answer_of c.in-Done.is
 
 ready : (c : tie.In-Done-2) → Ready (start (first c)).args.image.now (start (first c)).args.plan.now (good (counts c))
 ready c =
@@ -61,7 +61,7 @@ few c =
 
 plan-lines-requires : tie.Need-plan_lines-requires
 plan-lines-requires c κs =
-    let p = c.before.before.before in
+    let p = c in
     let f = first p in
     let r = ready p in
     let w = f.put_first-first.ensures in (
@@ -71,8 +71,8 @@ plan-lines-requires c κs =
 
 returns-2 : tie.Need-returns
 returns-2 c =
-    let l = c.before.before in
-    let p = l.before.before.before.before in
+    let l = c in
+    let p = c in
     let f = first p in
     let r = ready p in
     let a = (start f).args in
@@ -95,7 +95,7 @@ put_text_spec =
     (λ c. search rules)
     (λ c. search rules)
     (λ c. search rules)
-    (λ c. let p = c.before.before in omega (arith, (ready p).holds.within))
+    (λ c. let p = c in omega (arith, (ready p).holds.within))
     plan-lines-requires
     (λ c. search rules)
     returns-2)

@@ -41,7 +41,7 @@ after c = c.plan_house-planned.new.1.0
 planned : (c : tie.After-plan_house-planned) → Plans (list c) (zeros wide_bytes) (after c) (verdict c)
 planned c =
     plans (start c).args.image.now (zeros wide_bytes) (verdict c) c.plan_house-planned.ensures.0
-    (λ r. (c.before.before.shared_slice_known-1.given r).fits) (after c) c.plan_house-planned.ensures.1
+    (λ r. (c.shared_slice_known-1.given r).fits) (after c) c.plan_house-planned.ensures.1
 
 put-text-requires : tie.Need-put_text-end-requires
 put-text-requires c κs =
@@ -64,10 +64,10 @@ text c =
 
 returns : tie.Need-returns
 returns c =
-    let k = c.before.before in
-    let t = k.before.before.before.before.before in
-    let p = t.before.before.before.before in
-    let out = (start p).args.out-1.now in
+    let k = c in
+    let t = c in
+    let p = c.before.before.before.before.before.before.before.before.before.before in
+    let out = (start p).args.out.now in
     let w = t.put_text-end.ensures in
     let e = part w (search rules) ∙ text p in
     (k.append.ensures.0 ∙ ap (place_after out 0) e, (k.append.ensures.1 ∙ ap (appended out 0) e, omega (arith, w.answer, w.most, ap length (text p))))

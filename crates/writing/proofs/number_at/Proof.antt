@@ -7,7 +7,11 @@ use Rattle.writing.proofs.number_at.Statement.{statement}
 use Rattle.writing.proofs.number_at.Tie as tie
 
 returns-2 : tie.Need-returns
-returns-2 c = sym (get_or-eq_default c.before.args.numbers.now (pos 0) c.if-k-numbers.false)
+returns-2 c = sym (get_or-eq_default c.args.numbers.now (pos 0) c.if-k-numbers.false)
 
 pub number_at_spec : {M : Type 1} → statement M
-number_at_spec = tie.close (tie.spec (λ c. search rules) (λ c. search rules) (λ c. search rules) returns-2)
+number_at_spec = tie.close (tie.spec
+    (λ c. search rules)
+    (λ c. search rules)
+    (λ c. search rules)
+    returns-2)

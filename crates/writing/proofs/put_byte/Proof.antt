@@ -6,11 +6,16 @@ use Rattle.writing.proofs.put_byte.Tie as tie
 
 returns : tie.Need-returns
 returns c =
-    let q = c.before.before in
-    let p = q.before.before.before.before in
-    let start = p.before.before.before.before in
+    let q = c in
+    let p = c in
+    let start = c in
     more (put p.put-spaced.ensures.0 p.put-spaced.ensures.1) q.put_hex.ensures start.requires
 
 pub put_byte_spec : {M : Type 1} → statement M
 put_byte_spec =
-    tie.close (tie.spec (λ c. search rules) (λ c κs. search rules) (λ c κs. search rules) (λ c. search rules) returns)
+    tie.close (tie.spec
+    (λ c. search rules)
+    (λ c κs. search rules)
+    (λ c κs. search rules)
+    (λ c. search rules)
+    returns)

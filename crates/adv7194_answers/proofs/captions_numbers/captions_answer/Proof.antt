@@ -7,13 +7,21 @@ use Rattle.adv7194_answers.proofs.captions_numbers.captions_answer.Statement.{st
 use Rattle.adv7194_answers.proofs.captions_numbers.captions_answer.Tie as tie
 
 returns : tie.Need-returns-in-Refused
-returns c = rw c.number.ensures (sym (ap (λ p. captions_answer (read_as p)) c.before.before.taken-1.given.1))
+returns c = rw c.number.ensures (sym (ap (λ p. captions_answer (read_as p)) c.in-Refused.is))
 
 returns-2 : tie.Need-returns-in-Done
-returns-2 c = sym (ap (λ p. captions_answer (read_as p)) c.before.taken-in-Done-1.given.1)
+returns-2 c = sym (ap (λ p. captions_answer (read_as p)) c.in-Done.is)
 
 pub captions_answer_spec : {M : Type 1} → statement M
 captions_answer_spec =
     tie.close
-    (tie.spec (λ c. search rules) (λ c κs. tt) (λ c. search rules) (λ c. search rules) (λ c. search rules) (λ c. search rules) (λ c. search rules) returns
+    (tie.spec
+    (λ c. search rules)
+    (λ c κs. tt)
+    (λ c. search rules)
+    (λ c. search rules)
+    (λ c. search rules)
+    (λ c. search rules)
+    (λ c. search rules)
+    returns
     returns-2)

@@ -9,11 +9,11 @@ use Rattle.adv7194_answers.proofs.compare_numbers.compare_answer.Statement.{stat
 use Rattle.adv7194_answers.proofs.compare_numbers.compare_answer.Tie as tie
 
 returns : tie.Need-returns-in-Refused
-returns c = rw c.number.ensures (sym (ap (λ p. compare_answer (compared_as p)) c.before.before.compared-1.given.1))
+returns c = rw c.number.ensures (sym (ap (λ p. compare_answer (compared_as p)) c.in-Refused.is))
 
 returns-2 : tie.Need-returns-then-readable
 returns-2 c =
-    let told = c.before.before.compared-in-Done-1.given in
+    let told = c.compared-in-Done-1.given in
     sym (
     ap (λ p. compare_answer (compared_as p)) told.1
     ∙ ap (λ (b : Bool). compare_answer (good (record { readable = b; fields = told.0.1.0; registers = told.0.1.1.0 }))) c.if-readable.true
@@ -21,7 +21,7 @@ returns-2 c =
 
 returns-3 : tie.Need-returns-else-readable
 returns-3 c =
-    let told = c.before.before.compared-in-Done-1.given in
+    let told = c.compared-in-Done-1.given in
     sym (
     ap (λ p. compare_answer (compared_as p)) told.1
     ∙ ap (λ (b : Bool). compare_answer (good (record { readable = b; fields = told.0.1.0; registers = told.0.1.1.0 }))) c.if-readable.false
@@ -30,4 +30,12 @@ returns-3 c =
 pub compare_answer_spec : {M : Type 1} → statement M
 compare_answer_spec =
     tie.close
-    (tie.spec (λ c. search rules) (λ c κs. tt) (λ c. search rules) (λ c. search rules) (λ c. search rules) returns returns-2 returns-3)
+    (tie.spec
+    (λ c. search rules)
+    (λ c κs. tt)
+    (λ c. search rules)
+    (λ c. search rules)
+    (λ c. search rules)
+    returns
+    returns-2
+    returns-3)

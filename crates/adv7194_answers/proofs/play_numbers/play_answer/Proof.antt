@@ -10,25 +10,32 @@ use Rattle.adv7194_answers.proofs.play_numbers.play_answer.Tie as tie
 
 returns : tie.Need-returns-in-Refused
 returns c =
-    let k = c.before.before.before.before.args.known in
-    rw c.number.ensures (sym (ap (λ p. play_answer (answer_of p) (known_of k p)) c.before.before.played-1.given.1))
+    let k = c.args.known in
+    rw c.number.ensures (sym (ap (λ p. play_answer (answer_of p) (known_of k p)) c.in-Refused.is))
 
 returns-2 : tie.Need-returns-then-acknowledged
 returns-2 c =
-    let told = c.before.before.played-in-Done-1.given in
+    let told = c.played-in-Done-1.given in
     sym (
-    ap (λ p. play_answer (answer_of p) (known_of c.before.before.before.before.args.known p)) told.1
+    ap (λ p. play_answer (answer_of p) (known_of c.args.known p)) told.1
     ∙ ap (λ (b : Bool). play_answer (good b) told.0.1.0) c.if-acknowledged.true
     )
 
 returns-3 : tie.Need-returns-else-acknowledged
 returns-3 c =
-    let told = c.before.before.played-in-Done-1.given in
+    let told = c.played-in-Done-1.given in
     sym (
-    ap (λ p. play_answer (answer_of p) (known_of c.before.before.before.before.args.known p)) told.1
+    ap (λ p. play_answer (answer_of p) (known_of c.args.known p)) told.1
     ∙ ap (λ (b : Bool). play_answer (good b) told.0.1.0) c.if-acknowledged.false
     )
 
 pub play_answer_spec : {M : Type 1} → statement M
 play_answer_spec =
-    tie.close (tie.spec (λ c. search rules) (λ c κs. tt) (λ c. search rules) (λ c. search rules) returns returns-2 returns-3)
+    tie.close (tie.spec
+    (λ c. search rules)
+    (λ c κs. tt)
+    (λ c. search rules)
+    (λ c. search rules)
+    returns
+    returns-2
+    returns-3)

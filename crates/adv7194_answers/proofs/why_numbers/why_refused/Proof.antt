@@ -7,4 +7,7 @@ returns : tie.Need-returns
 returns c = rw c.number.ensures
 
 pub why_refused_spec : {M : Type 1} → statement M
-why_refused_spec = tie.close (tie.spec (λ c κs. tt) (λ c. search rules) returns)
+why_refused_spec = tie.close (tie.spec
+    (λ c κs. tt)
+    (λ c. search rules)
+    returns)

@@ -8,7 +8,9 @@ use Rattle.adv7194_bus.proofs.board.board_of.Statement.{statement}
 use Rattle.adv7194_bus.proofs.board.board_of.Tie as tie
 
 returns : tie.Need-returns
-returns c = ap (λ (l : List ℕ). board_of l c.before.before.args.known) c.copied.ensures
+returns c = ap (λ (l : List ℕ). board_of l c.args.known) c.copied.ensures
 
 pub board_of_spec : {M : Type 1} → statement M
-board_of_spec = tie.close (tie.spec (λ c κs. search rules) returns)
+board_of_spec = tie.close (tie.spec
+    (λ c κs. search rules)
+    returns)

@@ -11,9 +11,12 @@ use Rattle.adv7194_bus.proofs.board.known_after.Tie as tie
 
 returns : tie.Need-returns
 returns c own bytes =
-    let a = c.before.args in
+    let a = c.args in
     c.known_by.ensures own bytes
     ∙ ap (λ (κ : Kind). known_by κ (chip_at a.state.phase a.state.pointer bytes) a.known a.event) (kind-map own register_count refl)
 
 pub known_after_spec : {M : Type 1} → statement M
-known_after_spec = tie.close (tie.spec (λ c. search rules) (λ c κs. search rules) returns)
+known_after_spec = tie.close (tie.spec
+    (λ c. search rules)
+    (λ c κs. search rules)
+    returns)

@@ -17,8 +17,8 @@ use Rattle.adv7194_caption_planning.proofs.pairs.pack_pair.Tie as tie
 
 returns : tie.Need-returns-then-pair-eq0
 returns c =
-    let s = c.before.before in
-    rw (none-bits s.args.register s.args.pair.now c.if-pair-eq0.true) (put-none s.args.plan-1.now s.args.pending s.requires.0)
+    let s = c in
+    rw (none-bits s.args.register s.args.pair.now c.if-pair-eq0.true) (put-none s.args.plan.now s.args.pending s.requires.0)
 
 -- where the function was entered
 abbrev start : tie.After-pair_bytes-bytes → tie.Start
@@ -32,7 +32,7 @@ packs c = record { subaddress = (start c).args.register; bytes = c.pair_bytes-by
 bits : (c : tie.After-pair_bytes-bytes) → list_bits (pair_at (start c).args.register (start c).args.pair.now) ≡ transaction_bits (packs c)
 bits c =
     let a = (start c).args in
-    pair-bits a.register a.pair.now (omega (arith, c.before.if-pair-eq0.false))
+    pair-bits a.register a.pair.now (omega (arith, c.if-pair-eq0.false))
     ∙ ap (λ (l : List ℕ). transaction_bits (record { subaddress = a.register; bytes = l })) (sym c.pair_bytes-bytes.ensures)
 
 pack-transaction-requires : tie.Need-pack_transaction-requires
@@ -43,8 +43,8 @@ pack-transaction-requires c κs =
 
 returns-2 : tie.Need-returns
 returns-2 c =
-    let t = c.before.before in
-    rw (bits t.before.before.before) t.pack_transaction.ensures
+    let t = c in
+    rw (bits c.before.before.before.before.before) t.pack_transaction.ensures
 
 pub pack_pair_spec : {M : Type 1} → statement M
 pack_pair_spec =

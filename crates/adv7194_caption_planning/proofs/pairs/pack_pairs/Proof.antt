@@ -39,36 +39,36 @@ entry c = c.before.before
 sound : (c : tie.After-begin-begun) → Sound c.begin-begun.result
 sound c =
     let s = entry c in
-    begun-sound (list s) s.args.plan-1.now c.begin-begun.result s.args.transactions (few s) s.requires.counted c.begin-begun.ensures
+    begun-sound (list s) s.args.plan.now c.begin-begun.result s.args.transactions (few s) s.requires.counted c.begin-begun.ensures
 
-room : (c : tie.After-begin-begun) → Room (entry c).args.plan-1.now c.begin-begun.result (length (list_bits (list (entry c))))
+room : (c : tie.After-begin-begun) → Room (entry c).args.plan.now c.begin-begun.result (length (list_bits (list (entry c))))
 room c =
     let s = entry c in
-    begun-room (list s) s.args.plan-1.now c.begin-begun.result s.args.transactions (few s) s.requires.counted c.begin-begun.ensures s.requires.fits
+    begun-room (list s) s.args.plan.now c.begin-begun.result s.args.transactions (few s) s.requires.counted c.begin-begun.ensures s.requires.fits
 
 -- nothing was packed yet
 begun : (c : tie.After-begin-begun)
-    → Progress (list (entry c)) c.begin-begun.result (entry c).args.plan-1.now (entry c).args.plan-1.now c.begin-begun.result (list (entry c))
-begun c = progress_none (list (entry c)) c.begin-begun.result (entry c).args.plan-1.now (sound c) (room c)
+    → Progress (list (entry c)) c.begin-begun.result (entry c).args.plan.now (entry c).args.plan.now c.begin-begun.result (list (entry c))
+begun c = progress_none (list (entry c)) c.begin-begun.result (entry c).args.plan.now (sound c) (room c)
 
 -- the extended pair was
 first : (c : tie.After-pack_pair-first) → (let b = c.before.before in
-    Progress (list (entry b)) b.begin-begun.result (entry b).args.plan-1.now c.pack_pair-first.new.0 c.pack_pair-first.result (back (entry b)))
+    Progress (list (entry b)) b.begin-begun.result (entry b).args.plan.now c.pack_pair-first.new.0 c.pack_pair-first.result (back (entry b)))
 unfolding caption_list
 first c =
     let b = c.before.before in
     let s = entry b in
-    several_more (list s) b.begin-begun.result s.args.plan-1.now (sound b) (room b) (begun b) (front s) (back s) refl
+    several_more (list s) b.begin-begun.result s.args.plan.now (sound b) (room b) (begun b) (front s) (back s) refl
     c.pack_pair-first.new.0 c.pack_pair-first.result c.pack_pair-first.auto.0 c.pack_pair-first.ensures
 
 -- both were
 second : (c : tie.After-pack_pair-both) → (let b = c.before.before.before.before.before.before in
-    Progress (list (entry b)) b.begin-begun.result (entry b).args.plan-1.now c.pack_pair-both.new.0 c.pack_pair-both.result [])
+    Progress (list (entry b)) b.begin-begun.result (entry b).args.plan.now c.pack_pair-both.new.0 c.pack_pair-both.result [])
 second c =
     let f = c.before.before.before.before in
-    let b = f.before.before in
+    let b = c.before.before.before.before.before.before in
     let s = entry b in
-    several_more (list s) b.begin-begun.result s.args.plan-1.now (sound b) (room b) (first f) (back s) [] (sym (append-nil (back s)))
+    several_more (list s) b.begin-begun.result s.args.plan.now (sound b) (room b) (first f) (back s) [] (sym (append-nil (back s)))
     c.pack_pair-both.new.0 c.pack_pair-both.result c.pack_pair-both.auto.0 c.pack_pair-both.ensures
 
 pack-pair-requires : tie.Need-pack_pair-first-requires
@@ -80,40 +80,46 @@ pack-pair-requires c κs =
       g.sofar.sound,
       omega arith,
       (both_right s.args.extended.now s.args.ordinary.now s.requires.right).0,
-      several_room (list s) b.begin-begun.result s.args.plan-1.now (sound b) (room b) g (front s) (back s) refl,
+      several_room (list s) b.begin-begun.result s.args.plan.now (sound b) (room b) g (front s) (back s) refl,
     )
 
 pack-pair-requires-2 : tie.Need-pack_pair-both-requires
 pack-pair-requires-2 c κs =
     let f = c.before.before.before in
-    let b = f.before.before in
+    let b = c.before.before.before.before.before in
     let s = entry b in
     let g = first f in (
       g.sofar.sound,
       omega arith,
       (both_right s.args.extended.now s.args.ordinary.now s.requires.right).1,
-      several_room (list s) b.begin-begun.result s.args.plan-1.now (sound b) (room b) g (back s) [] (sym (append-nil (back s))),
+      several_room (list s) b.begin-begun.result s.args.plan.now (sound b) (room b) g (back s) [] (sym (append-nil (back s))),
     )
 
 finish-requires : tie.Need-finish-requires
 finish-requires c κs =
     let f = c.before.before.before in
-    let b = f.before.before.before.before.before.before in
+    let b = c.before.before.before.before.before.before.before.before.before in
     let s = entry b in
     let g = second f in
-    (g.sofar.sound, progress_last (list s) b.begin-begun.result s.args.plan-1.now (sound b) (room b) g refl)
+    (g.sofar.sound, progress_last (list s) b.begin-begun.result s.args.plan.now (sound b) (room b) g refl)
 
 returns : tie.Need-returns
 returns c =
-    let n = c.before.before in
-    let f = n.before.before.before.before in
-    let b = f.before.before.before.before.before.before in
+    let n = c in
+    let f = c.before.before.before.before.before.before in
+    let b = c.before.before.before.before.before.before.before.before.before.before.before.before in
     let s = entry b in
-    let done = progress_done (list s) b.begin-begun.result s.args.plan-1.now (sound b) (room b) (second f) refl
+    let done = progress_done (list s) b.begin-begun.result s.args.plan.now (sound b) (room b) (second f) refl
     n.finish.new.0 n.finish.result n.finish.ensures.0 n.finish.ensures.1 in
-    begun-done (list s) s.args.plan-1.now b.begin-begun.result s.args.transactions (few s) s.requires.counted b.begin-begun.ensures
+    begun-done (list s) s.args.plan.now b.begin-begun.result s.args.transactions (few s) s.requires.counted b.begin-begun.ensures
     n.finish.new.0 done
 
 pub pack_pairs_spec : {M : Type 1} → statement M
 pack_pairs_spec =
-    tie.close (tie.spec (λ c κs. tt) pack-pair-requires pack-pair-requires-2 finish-requires (λ c. search rules) returns)
+    tie.close (tie.spec
+    (λ c κs. tt)
+    pack-pair-requires
+    pack-pair-requires-2
+    finish-requires
+    (λ c. search rules)
+    returns)

@@ -40,10 +40,10 @@ caption-byte-requires-2 c κs =
 
 returns : tie.Need-returns
 returns c =
-    let b = c.before.before in
-    let s = b.before.before in
-    ap₂ (λ (x y : ℕ). x ∷ y ∷ []) (b.caption_byte-first.ensures ∙ ap caption_byte (same (first s) b.before.caption_byte-arg-1.given))
-    (c.caption_byte-second.ensures ∙ ap caption_byte (same (second s) c.before.caption_byte-arg-2-1.given))
+    let b = c in
+    let s = c.before.before.before.before in
+    ap₂ (λ (x y : ℕ). x ∷ y ∷ []) (b.caption_byte-first.ensures ∙ ap caption_byte (same (first s) b.caption_byte-arg-1.given))
+    (c.caption_byte-second.ensures ∙ ap caption_byte (same (second s) c.caption_byte-arg-2-1.given))
     ∙ sym (known s).bytes
 
 pub pair_bytes_spec : {M : Type 1} → statement M

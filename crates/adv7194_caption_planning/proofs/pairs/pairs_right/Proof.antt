@@ -8,9 +8,12 @@ use Rattle.adv7194_caption_planning.proofs.pairs.pairs_right.Tie as tie
 
 returns : tie.Need-returns
 returns c =
-    let a = c.before.before.args in
-    ap₂ ◌&&◌ c.before.pair_right.ensures
+    let a = c.args in
+    ap₂ ◌&&◌ c.pair_right.ensures
     (ap₂ ◌&&◌ c.pair_right-2.ensures (some-given (length a.extended.now) (length a.ordinary.now)))
 
 pub pairs_right_spec : {M : Type 1} → statement M
-pairs_right_spec = tie.close (tie.spec (λ c κs. tt) (λ c κs. tt) returns)
+pairs_right_spec = tie.close (tie.spec
+    (λ c κs. tt)
+    (λ c κs. tt)
+    returns)

@@ -16,19 +16,19 @@ use Rattle.adv7194_codes.proofs.brightness.brightness_code.Statement.{statement}
 use Rattle.adv7194_codes.proofs.brightness.brightness_code.Tie as tie
 
 -- the flag of the range test
-judged : (c : tie.After-out_of_range) → c.out_of_range.result ≡ outside brightness.row c.before.args.tenths
-judged c = rw (to_z-of_z w32 c.before.args.tenths c.before.ranges.tenths) at c.out_of_range.ensures
+judged : (c : tie.After-out_of_range) → c.out_of_range.result ≡ outside brightness.row c.args.tenths
+judged c = rw (to_z-of_z w32 c.args.tenths c.ranges.tenths) at c.out_of_range.ensures
 
-inside : (c : tie.Else-out_of_range) → outside brightness.row c.before.before.args.tenths ≡ false
+inside : (c : tie.Else-out_of_range) → outside brightness.row c.args.tenths ≡ false
 inside c = sym (judged c.before) ∙ c.if-out_of_range.false
 
 -- the level that was found
-found : (c : tie.After-nearest_level-level) → c.nearest_level-level.result ≡ nearest_times 2015631 10000000 c.before.before.before.args.tenths
-found c = rw (to_z-of_z w32 c.before.before.before.args.tenths c.before.before.before.ranges.tenths) at c.nearest_level-level.ensures.0
+found : (c : tie.After-nearest_level-level) → c.nearest_level-level.result ≡ nearest_times 2015631 10000000 c.args.tenths
+found c = rw (to_z-of_z w32 c.args.tenths c.ranges.tenths) at c.nearest_level-level.ensures.0
 
 -- what is computed at each level
 at : (P : ℤ → Bool) → T (everywhere 15 30 P) → (c : tie.After-nearest_level-level) → T (P c.nearest_level-level.result)
-at P t c = in_range 15 30 P t c.nearest_level-level.result c.nearest_level-level.ensures.1
+at P t c = in_range 15 30 P t c.nearest-level.result c.nearest-level.ensures.1
 
 -- the code's values
 abbrev negative : ℤ → Bool
@@ -45,11 +45,11 @@ returns : tie.Need-returns-then-out_of_range
 returns c = outside-refused brightness _ (sym (judged c.before) ∙ c.if-out_of_range.true) refl
 
 nearest-level-requires : tie.Need-nearest_level-level-requires
-nearest-level-requires c κs = rw (to_z-of_z w32 c.before.before.args.tenths c.before.before.ranges.tenths) (inside c)
+nearest-level-requires c κs = rw (to_z-of_z w32 c.args.tenths c.ranges.tenths) (inside c)
 
 -- what is computed at each negative level
-below : (P : ℤ → Bool) → T (everywhere 15 30 (λ l. imp (negative l) (P l))) → (c : tie.Then-level-lt0) → T (P c.before.nearest_level-level.result)
-below P t c = imp→ _ _ (at (λ l. imp (negative l) (P l)) t c.before) c.if-level-lt0.true
+below : (P : ℤ → Bool) → T (everywhere 15 30 (λ l. imp (negative l) (P l))) → (c : tie.Then-level-lt0) → T (P c.nearest_level-level.result)
+below P t c = imp→ _ _ (at (λ l. imp (negative l) (P l)) t c.before) c.if2.true
 
 cast-complement : tie.Need-overflow_cast-level
 cast-complement c = (

@@ -35,21 +35,21 @@ unused c h =
     decode-outside brightness c refl (λ z. no_code brightness c z (λ o e. T_not (used c) h (subst (λ (k : ℕ). T (used k)) e (codes-used z o))))
 
 returns : tie.Need-returns-then-code-gt-HIGHEST_CODE
-returns c = unused c.before.args.code (from_at (λ k. not (used k)) 128 128 tt c.before.args.code (omega arith) (omega arith))
+returns c = unused c.args.code (from_at (λ k. not (used k)) 128 128 tt c.args.code (omega arith) (omega arith))
 
 returns-2 : tie.Need-returns-then-code-lt-LOWEST_NEGATIVE
 returns-2 c =
-    let code = c.before.before.before.args.code in
+    let code = c.args.code in
     unused code (from_at (λ k. not (used k)) 31 82 tt code (omega arith) (omega (arith, ltb-true)))
 
 -- what is computed at each code that a setting has
-at : (P : ℕ → Bool) → T (below P 31) → T (below (λ k. P (113 + k)) 15) → (c : tie.Joined-else-code-gt-HIGHEST_POSITIVE) → T (P c.before.before.args.code)
+at : (P : ℕ → Bool) → T (below P 31) → T (below (λ k. P (113 + k)) 15) → (c : tie.Joined-else-code-gt-HIGHEST_POSITIVE) → T (P c.args.code)
 at P low high c =
     let code = c.before.before.args.code in
     ⊎_elim
-    (λ w. from_at P 113 15 high code (ltb-false code 113 w.1.false) (omega arith))
+    (λ w. from_at P 113 15 high code (ltb-false code 113 w.1.left) (omega arith))
     (λ w. below_at P 31 low code (omega arith))
-    c.if-code-gt-HIGHEST_POSITIVE.branch
+    c.if2.branch
 
 -- the code's values
 abbrev negative : ℕ → Bool
@@ -68,14 +68,14 @@ abbrev negated : ℕ → ℤ
 negated k = pos 0 -ℤ to_z w32 (least k)
 
 -- the level that either arm chose
-levelled : (c : tie.Joined-negative) → c.if-negative.level ≡ level c.before.before.before.args.code
-levelled c = ⊎_elim (λ w. rw w.0.true w.1) (λ w. rw w.0.false w.1) c.if-negative.branch
+levelled : (c : tie.Joined-negative) → c.if-negative.level ≡ level c.args.code
+levelled c = ⊎_elim (λ w. rw w.0.taken w.1) (λ w. rw w.0.left w.1) c.if-negative.branch
 
 least-tenths-requires : tie.Need-least_tenths-tenths-requires
 least-tenths-requires c κs = rw (levelled c.before) (leb→le _ _ (at (λ k. leb (level k) 30) tt tt c.before.before))
 
 -- the magnitude that was found
-found : (c : tie.After-least_tenths-tenths) → c.least_tenths-tenths.result ≡ least c.before.before.before.before.before.args.code
+found : (c : tie.After-least_tenths-tenths) → c.least_tenths-tenths.result ≡ least c.args.code
 found c = c.least_tenths-tenths.ensures.0 ∙ ap least_tenths (levelled c.before.before)
 
 sub-t22 : tie.Need-overflow_sub-result

@@ -38,8 +38,8 @@ abbrev wide : ℤ → Bool
 wide r = lt_z r (neg_ℤ (pos 15)) || lt_z (pos 30) r
 
 -- the half that either arm chose
-halved : (c : tie.Joined-product-lt0) → c.if-product-lt0.half ≡ half c.before.args.tenths
-halved c = ⊎_elim (λ w. rw w.0.true w.1) (λ w. rw w.0.false w.1) c.if-product-lt0.branch
+halved : (c : tie.Joined-product-lt0) → c.if-product-lt0.half ≡ half c.args.tenths
+halved c = ⊎_elim (λ w. rw w.0.taken w.1) (λ w. rw w.0.left w.1) c.if-product-lt0.branch
 
 add-result : tie.Need-overflow_add-result
 add-result c = rw (halved c) (fits→ w32 _ (at (λ t. sfitsb w32 (sum t)) tt c.before))
@@ -49,7 +49,7 @@ div-result c = rw (halved c) (lit< tt, fits→ w32 _ (at (λ t. sfitsb w32 (quot
 
 returns : tie.Need-returns
 returns c =
-    let t = c.before.args.tenths in
+    let t = c.args.tenths in
     rw (halved c) (
       rounds→ 2015631 10000000 t (back w32 (quotient t)) (lit< tt) (at (λ t. rounds 2015631 10000000 t (back w32 (quotient t))) tt c.before),
       not-true (wide (back w32 (quotient t))) (T→true _ (at (λ t. not (wide (back w32 (quotient t)))) tt c.before)),
@@ -58,4 +58,9 @@ returns c =
 pub nearest_level_spec : {M : Type 1} → statement M
 nearest_level_spec =
     tie.close
-    (tie.spec (λ c. fits→ w32 _ (at (λ t. sfitsb w32 (product t)) tt c)) (λ c. search rules) add-result div-result returns)
+    (tie.spec
+    (λ c. fits→ w32 _ (at (λ t. sfitsb w32 (product t)) tt c))
+    (λ c. search rules)
+    add-result
+    div-result
+    returns)

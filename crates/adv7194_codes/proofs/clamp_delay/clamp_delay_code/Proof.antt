@@ -15,12 +15,12 @@ use Rattle.adv7194_codes.proofs.clamp_delay.clamp_delay_code.Statement.{statemen
 use Rattle.adv7194_codes.proofs.clamp_delay.clamp_delay_code.Tie as tie
 
 -- the flag of the range test
-judged : (c : tie.After-out_of_range) → c.out_of_range.result ≡ outside clamp_delay.row c.before.args.clocks
-judged c = rw (to_z-of_z w32 c.before.args.clocks c.before.ranges.clocks) at c.out_of_range.ensures
+judged : (c : tie.After-out_of_range) → c.out_of_range.result ≡ outside clamp_delay.row c.args.clocks
+judged c = rw (to_z-of_z w32 c.args.clocks c.ranges.clocks) at c.out_of_range.ensures
 
 -- what is computed at each setting of the range
-at : (P : ℤ → Bool) → T (everywhere 3 3 P) → (c : tie.Else-out_of_range) → T (P c.before.before.args.clocks)
-at P t c = in_range 3 3 P t c.before.before.args.clocks (sym (judged c.before) ∙ c.if-out_of_range.false)
+at : (P : ℤ → Bool) → T (everywhere 3 3 P) → (c : tie.Else-out_of_range) → T (P c.args.clocks)
+at P t c = in_range 3 3 P t c.before.before.args.clocks (sym (judged c.before) ∙ c.if1.false)
 
 -- the code's values
 abbrev negative : ℤ → Bool
@@ -38,13 +38,13 @@ returns c = outside-refused clamp_delay _ (sym (judged c.before) ∙ c.if-out_of
 returns-2 : tie.Need-returns-then-clocks-lt0
 unfolding code_by
 returns-2 c =
-    inside_coded clamp_delay _ _ (sym (judged c.before.before) ∙ c.before.if-out_of_range.false)
+    inside_coded clamp_delay _ _ (sym (judged c.before.before) ∙ c.if-out_of_range.false)
     (eqb→eq _ _ (imp→ _ _ (at (λ s. imp (negative s) (eqb (nat_abs (back w32 (signed s))) (code_of clamp_delay s))) tt c.before) c.if-clocks-lt0.true))
 
 returns-3 : tie.Need-returns
 unfolding code_by
 returns-3 c =
-    inside_coded clamp_delay _ _ (sym (judged c.before.before) ∙ c.before.if-out_of_range.false)
+    inside_coded clamp_delay _ _ (sym (judged c.before.before) ∙ c.if-out_of_range.false)
     (eqb→eq _ _ (imp→not _ _ (at (λ s. imp (not (negative s)) (eqb (nat_abs (back w32 s)) (code_of clamp_delay s))) tt c.before) c.if-clocks-lt0.false))
 
 sub-t5 : tie.Need-overflow_sub-result
@@ -66,4 +66,12 @@ cast-t8 c = (
 )
 
 pub clamp_delay_code_spec : {M : Type 1} → statement M
-clamp_delay_code_spec = tie.close (tie.spec (λ c κs. search rules) returns sub-t5 add-t6 cast-t7 returns-2 cast-t8 returns-3)
+clamp_delay_code_spec = tie.close (tie.spec
+    (λ c κs. search rules)
+    returns
+    sub-t5
+    add-t6
+    cast-t7
+    returns-2
+    cast-t8
+    returns-3)

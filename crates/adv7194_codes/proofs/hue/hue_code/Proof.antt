@@ -15,15 +15,15 @@ use Rattle.adv7194_codes.proofs.hue.hue_code.Statement.{statement}
 use Rattle.adv7194_codes.proofs.hue.hue_code.Tie as tie
 
 -- the flag of the range test
-judged : (c : tie.After-out_of_range) → c.out_of_range.result ≡ outside hue.row c.before.args.tenths
-judged c = rw (to_z-of_z w32 c.before.args.tenths c.before.ranges.tenths) at c.out_of_range.ensures
+judged : (c : tie.After-out_of_range) → c.out_of_range.result ≡ outside hue.row c.args.tenths
+judged c = rw (to_z-of_z w32 c.args.tenths c.ranges.tenths) at c.out_of_range.ensures
 
-inside : (c : tie.Else-out_of_range) → outside hue.row c.before.before.args.tenths ≡ false
+inside : (c : tie.Else-out_of_range) → outside hue.row c.args.tenths ≡ false
 inside c = sym (judged c.before) ∙ c.if-out_of_range.false
 
 -- the number of steps that was found
-found : (c : tie.After-steps) → c.steps.result ≡ nearest_times 256 450 c.before.before.before.args.tenths
-found c = rw (to_z-of_z w32 c.before.before.before.args.tenths c.before.before.before.ranges.tenths) at c.steps.ensures.0
+found : (c : tie.After-steps) → c.steps.result ≡ nearest_times 256 450 c.args.tenths
+found c = rw (to_z-of_z w32 c.args.tenths c.ranges.tenths) at c.steps.ensures.0
 
 -- what is computed at each number of steps
 at : (P : ℤ → Bool) → T (everywhere 128 127 P) → (c : tie.After-steps) → T (P c.steps.result)
@@ -37,7 +37,7 @@ returns : tie.Need-returns-then-out_of_range
 returns c = outside-refused hue _ (sym (judged c.before) ∙ c.if-out_of_range.true) refl
 
 steps-requires : tie.Need-steps-requires
-steps-requires c κs = rw (to_z-of_z w32 c.before.before.args.tenths c.before.before.ranges.tenths) (inside c)
+steps-requires c κs = rw (to_z-of_z w32 c.args.tenths c.ranges.tenths) (inside c)
 
 cast-t6 : tie.Need-overflow_cast-result
 cast-t6 c = (
@@ -52,4 +52,10 @@ returns-2 c =
     (eqb→eq _ _ (at (λ r. eqb (nat_abs (back w32 (sum r))) (nat_abs (pos 128 +ℤ r))) tt c) ∙ ap (λ (z : ℤ). nat_abs (pos 128 +ℤ z)) (found c))
 
 pub hue_code_spec : {M : Type 1} → statement M
-hue_code_spec = tie.close (tie.spec (λ c κs. search rules) returns steps-requires (λ c. fits→ w32 _ (at (λ r. sfitsb w32 (sum r)) tt c)) cast-t6 returns-2)
+hue_code_spec = tie.close (tie.spec
+    (λ c κs. search rules)
+    returns
+    steps-requires
+    (λ c. fits→ w32 _ (at (λ r. sfitsb w32 (sum r)) tt c))
+    cast-t6
+    returns-2)

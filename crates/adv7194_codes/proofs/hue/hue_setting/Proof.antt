@@ -30,11 +30,15 @@ tenths-requires c κs = not-true _ (T→true _ (at (λ k. not (lt_z (back w32 (s
 
 returns : tie.Need-returns
 returns c =
-    ap accepted (to_z-of_z w32 c.tenths.result (record { sfits = c.tenths.type-inv }))
+    ap accepted (to_z-of_z w32 c.tenths.result (record { sfits = c.tenths.type_inv }))
     ∙ c.tenths.ensures
     ∙ ap (decode hue) (eqb→eq _ _ (at (λ k. eqb (nat_abs (pos 128 +ℤ back w32 (steps k))) k) tt c.before))
 
 pub hue_setting_spec : {M : Type 1} → statement M
 hue_setting_spec =
     tie.close
-    (tie.spec (λ c. search rules) (λ c. fits→ w32 _ (at (λ k. sfitsb w32 (steps k)) tt c)) tenths-requires returns)
+    (tie.spec
+    (λ c. search rules)
+    (λ c. fits→ w32 _ (at (λ k. sfitsb w32 (steps k)) tt c))
+    tenths-requires
+    returns)

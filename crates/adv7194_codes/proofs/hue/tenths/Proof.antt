@@ -34,8 +34,8 @@ abbrev quotient : ℤ → ℤ
 quotient s = quot_z (back w32 (sum s)) (pos 512)
 
 -- the offset that either arm chose
-chosen : (c : tie.Joined-product-lt0) → c.if-product-lt0.offset ≡ offset c.before.args.steps
-chosen c = ⊎_elim (λ w. rw w.0.true w.1) (λ w. rw w.0.false w.1) c.if-product-lt0.branch
+chosen : (c : tie.Joined-product-lt0) → c.if-product-lt0.offset ≡ offset c.args.steps
+chosen c = ⊎_elim (λ w. rw w.0.taken w.1) (λ w. rw w.0.left w.1) c.if-product-lt0.branch
 
 add-result : tie.Need-overflow_add-result
 add-result c = rw (chosen c) (fits→ w32 _ (at (λ s. sfitsb w32 (sum s)) tt c.before))
@@ -47,9 +47,14 @@ returns : tie.Need-returns
 returns c =
     rw (chosen c)
     (ap accepted (eq_z→eq _ _ (at (λ s. eq_z (back w32 (quotient s)) (least_hue s)) tt c.before))
-    ∙ hue-at c.before.args.steps c.before.requires)
+    ∙ hue-at c.args.steps c.requires)
 
 pub tenths_spec : {M : Type 1} → statement M
 tenths_spec =
     tie.close
-    (tie.spec (λ c. fits→ w32 _ (at (λ s. sfitsb w32 (product s)) tt c)) (λ c. search rules) add-result div-result returns)
+    (tie.spec
+    (λ c. fits→ w32 _ (at (λ s. sfitsb w32 (product s)) tt c))
+    (λ c. search rules)
+    add-result
+    div-result
+    returns)

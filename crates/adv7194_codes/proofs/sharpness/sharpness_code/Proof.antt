@@ -15,12 +15,12 @@ use Rattle.adv7194_codes.proofs.sharpness.sharpness_code.Statement.{statement}
 use Rattle.adv7194_codes.proofs.sharpness.sharpness_code.Tie as tie
 
 -- the flag of the range test
-judged : (c : tie.After-out_of_range) → c.out_of_range.result ≡ outside sharpness.row c.before.args.step
-judged c = rw (to_z-of_z w32 c.before.args.step c.before.ranges.step) at c.out_of_range.ensures
+judged : (c : tie.After-out_of_range) → c.out_of_range.result ≡ outside sharpness.row c.args.step
+judged c = rw (to_z-of_z w32 c.args.step c.ranges.step) at c.out_of_range.ensures
 
 -- what is computed at each step of the range
-at : (P : ℤ → Bool) → T (everywhere 6 6 P) → (c : tie.Else-out_of_range) → T (P c.before.before.args.step)
-at P t c = in_range 6 6 P t c.before.before.args.step (sym (judged c.before) ∙ c.if-out_of_range.false)
+at : (P : ℤ → Bool) → T (everywhere 6 6 P) → (c : tie.Else-out_of_range) → T (P c.args.step)
+at P t c = in_range 6 6 P t c.before.before.args.step (sym (judged c.before) ∙ c.if1.false)
 
 -- the code's sum
 abbrev sum : ℤ → ℤ
@@ -45,4 +45,9 @@ returns-2 c =
     (eqb→eq _ _ (at (λ s. eqb (nat_abs (back w32 (sum s))) (code_of sharpness s)) tt c))
 
 pub sharpness_code_spec : {M : Type 1} → statement M
-sharpness_code_spec = tie.close (tie.spec (λ c κs. search rules) returns add-t4 cast-t5 returns-2)
+sharpness_code_spec = tie.close (tie.spec
+    (λ c κs. search rules)
+    returns
+    add-t4
+    cast-t5
+    returns-2)

@@ -26,15 +26,15 @@ abbrev row_in : tie.Start → Row
 row_in c = row_of c.args.packed
 
 -- the flag of the range test
-judged : (c : tie.After-out_of_range) → c.out_of_range.result ≡ outside (row_in c.before) c.before.args.setting
+judged : (c : tie.After-out_of_range) → c.out_of_range.result ≡ outside (row_in c.before) c.args.setting
 judged c = rw (same c.before) at c.out_of_range.ensures
 
-inside : (c : tie.Else-out_of_range) → outside (row_in c.before.before) c.before.before.args.setting ≡ false
+inside : (c : tie.Else-out_of_range) → outside (row_in c.before.before) c.args.setting ≡ false
 inside c = sym (judged c.before) ∙ c.if-out_of_range.false
 
 -- the setting, in the range
-in-scale : (c : tie.Else-out_of_range) → Scaled (row_in c.before.before) c.before.before.args.setting
-in-scale c = scaled (row_in c.before.before) c.before.before.requires c.before.before.args.setting (inside c)
+in-scale : (c : tie.Else-out_of_range) → Scaled (row_in c.before.before) c.args.setting
+in-scale c = scaled (row_in c.before.before) c.requires c.args.setting (inside c)
 
 returns : tie.Need-returns-then-out_of_range
 returns c = outside-refused (in_thousandths (row_in c.before.before)) _ (sym (judged c.before) ∙ c.if-out_of_range.true) refl
@@ -49,7 +49,7 @@ nearest-requires : tie.Need-nearest-requires
 nearest-requires c κs = rw (same c.before.before) (omega (arith, (in-scale c).bound))
 
 -- what was found
-found : (c : tie.After-nearest) → c.nearest.result ≡ nearest (128 * nat_abs c.before.before.before.args.setting) 1000
+found : (c : tie.After-nearest) → c.nearest.result ≡ nearest (128 * nat_abs c.args.setting) 1000
 found c = rw (same c.before.before.before) at c.nearest.ensures
 
 returns-2 : tie.Need-returns

@@ -25,20 +25,20 @@ start c = c.before.before.before
 
 returns : tie.Need-returns-then-own_bits invariant-loop decreases-loop
 returns c =
-    let w = c.before.before.before in
-    let l = w.before in
-    let p = c.before.before.own_bits.ensures in
-    let q = c.before.own_bits-in-loop-register.ensures in
+    let w = c in
+    let l = c.before.before.before.before in
+    let p = c.own_bits.ensures in
+    let q = c.own_bits-in-loop-register.ensures in
     let s = (start l).args in
     let k = other_turn s.a.now s.b.now s.field l.loop-register.register w.loop-register-test.true (λ e. c.if-own_bits.true (p ∙ e ∙ sym q)) in
     sym (ap not (sym l.loop-register.invariant.same ∙ k))
 
 loop-again : tie.Need-loop-register-preserved invariant-loop decreases-loop
 loop-again c =
-    let w = c.before.before.before in
-    let l = w.before in
-    let p = c.before.before.own_bits.ensures in
-    let q = c.before.own_bits-in-loop-register.ensures in
+    let w = c in
+    let l = c.before.before.before.before in
+    let p = c.own_bits.ensures in
+    let q = c.own_bits-in-loop-register.ensures in
     let s = (start l).args in
     record {
       inside = omega (arith, w.loop-register-test.true);

@@ -16,23 +16,23 @@ abbrev decreases-loop : tie.decreases-loop-field
 decreases-loop a b map₀ field₀ map field = 29 - field
 
 -- a field is one of those
-inside : (c : tie.In-loop-field invariant-loop decreases-loop) → c.before.loop-field.field < 29
+inside : (c : tie.In-loop-field invariant-loop decreases-loop) → c.loop-field.field < 29
 inside c = omega (arith, c.loop-field-test.true)
 
 add-map : tie.Need-overflow_add-map invariant-loop decreases-loop
 add-map c =
     let i = c.before.before in
-    record { fits = bit-fits i.before.loop-field.invariant (inside i) c.before.field_differs.ensures 32 (omega arith) c.if-field_differs.true }
+    record { fits = bit-fits i.loop-field.invariant (inside i) c.field_differs.ensures 32 (omega arith) c.if-field_differs.true }
 
 loop-again : tie.Need-loop-field-preserved invariant-loop decreases-loop
 loop-again c =
     let i = c.before.before in
-    let g = i.before.loop-field.invariant in
-    let e = c.before.field_differs.ensures in
-    ⊎_elim (λ w. with-bit g (inside i) e 32 (omega arith) w.0.true w.1) (λ w. without-bit g (inside i) e w.0.false w.1) c.if-field_differs.branch
+    let g = i.loop-field.invariant in
+    let e = c.field_differs.ensures in
+    ⊎_elim (λ w. with-bit g (inside i) e 32 (omega arith) w.0.taken w.1) (λ w. without-bit g (inside i) e w.0.left w.1) c.if-field_differs.branch
 
 returns : tie.Need-returns invariant-loop decreases-loop
-returns c = all_gathered c.before.loop-field.invariant (omega (arith, c.loop-field-test.false)) ∙ sym (fields_map _ _)
+returns c = all_gathered c.loop-field.invariant (omega (arith, c.loop-field-test.false)) ∙ sym (fields_map _ _)
 
 pub fields_differing_spec : {M : Type 1} → statement M
 fields_differing_spec =

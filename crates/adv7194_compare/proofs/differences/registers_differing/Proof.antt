@@ -16,23 +16,23 @@ abbrev decreases-loop : tie.decreases-loop-register
 decreases-loop a b map₀ register₀ map register = 54 - register
 
 -- a register is one of those
-inside : (c : tie.In-loop-register invariant-loop decreases-loop) → c.before.loop-register.register < 54
+inside : (c : tie.In-loop-register invariant-loop decreases-loop) → c.loop-register.register < 54
 inside c = omega (arith, c.loop-register-test.true)
 
 add-map : tie.Need-overflow_add-map invariant-loop decreases-loop
 add-map c =
     let i = c.before.before in
-    record { fits = bit-fits i.before.loop-register.invariant (inside i) c.before.register_differs.ensures 64 (omega arith) c.if-register_differs.true }
+    record { fits = bit-fits i.loop-register.invariant (inside i) c.register_differs.ensures 64 (omega arith) c.if-register_differs.true }
 
 loop-again : tie.Need-loop-register-preserved invariant-loop decreases-loop
 loop-again c =
     let i = c.before.before in
-    let g = i.before.loop-register.invariant in
-    let e = c.before.register_differs.ensures in
-    ⊎_elim (λ w. with-bit g (inside i) e 64 (omega arith) w.0.true w.1) (λ w. without-bit g (inside i) e w.0.false w.1) c.if-register_differs.branch
+    let g = i.loop-register.invariant in
+    let e = c.register_differs.ensures in
+    ⊎_elim (λ w. with-bit g (inside i) e 64 (omega arith) w.0.taken w.1) (λ w. without-bit g (inside i) e w.0.left w.1) c.if-register_differs.branch
 
 returns : tie.Need-returns invariant-loop decreases-loop
-returns c = all_gathered c.before.loop-register.invariant (omega (arith, c.loop-register-test.false)) ∙ sym (registers-map _ _)
+returns c = all_gathered c.loop-register.invariant (omega (arith, c.loop-register-test.false)) ∙ sym (registers-map _ _)
 
 pub registers_differing_spec : {M : Type 1} → statement M
 registers_differing_spec =

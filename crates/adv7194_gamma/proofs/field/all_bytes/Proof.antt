@@ -27,7 +27,7 @@ loop-holds c = (c.requires, refl)
 
 -- the number at i
 abbrev number : tie.After-number-1 invariant-loop decreases-loop → ℤ
-number c = get_or c.before.before.before.args.numbers.now c.before.before.loop-i.i (pos 0)
+number c = get_or c.args.numbers.now c.loop-i.i (pos 0)
 
 -- what the test finds of it
 tested : (c : tie.After-number-1 invariant-loop decreases-loop) (b : Bool) → (lt_z (back w32 (number c)) (pos 0) || lt_z (pos 255) (back w32 (number c))) ≡ b
@@ -36,11 +36,11 @@ tested c b h = rw (to_z-of_z w32 (number c) (record { sfits = c.number-1.given }
 
 -- whether all are bytes, by whether it is one and those after it are
 on : (c : tie.After-number-1 invariant-loop decreases-loop) (b : Bool) → between 0 255 (number c) ≡ b
-    → (let zs = c.before.before.before.args.numbers.now in (b && all_bytes (drop (c.before.before.loop-i.i + 1) zs)) ≡ all_bytes (drop 3 zs))
+    → (let zs = c.args.numbers.now in (b && all_bytes (drop (c.loop-i.i + 1) zs)) ≡ all_bytes (drop 3 zs))
 on c b h =
-    let zs = c.before.before.before.args.numbers.now in
-    let i = c.before.before.loop-i.i in
-    ap (λ (t : Bool). t && all_bytes (drop (i + 1) zs)) (sym h) ∙ sym (from_on zs i (omega arith)) ∙ c.before.before.loop-i.invariant.1
+    let zs = c.args.numbers.now in
+    let i = c.loop-i.i in
+    ap (λ (t : Bool). t && all_bytes (drop (i + 1) zs)) (sym h) ∙ sym (from_on zs i (omega arith)) ∙ c.loop-i.invariant.1
 
 returns : tie.Need-returns-then-number invariant-loop decreases-loop
 returns c = let d = c.before in on d false (no_byte (number d) (tested d true c.if-number.true))
@@ -50,9 +50,9 @@ loop-again c = (omega arith, let d = c.before in on d true (a_byte (number d) (t
 
 returns-2 : tie.Need-returns invariant-loop decreases-loop
 returns-2 c =
-    let zs = c.before.before.args.numbers.now in
-    let end : c.before.loop-i.i ≡ length zs = omega arith in
-    sym (ap all_bytes (drop-length zs)) ∙ ap (λ (n : ℕ). all_bytes (drop n zs)) (sym end) ∙ c.before.loop-i.invariant.1
+    let zs = c.args.numbers.now in
+    let end : c.loop-i.i ≡ length zs = omega arith in
+    sym (ap all_bytes (drop-length zs)) ∙ ap (λ (n : ℕ). all_bytes (drop n zs)) (sym end) ∙ c.loop-i.invariant.1
 
 pub all_bytes_spec : {M : Type 1} → statement M
 all_bytes_spec =

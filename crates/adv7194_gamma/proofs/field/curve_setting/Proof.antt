@@ -11,14 +11,14 @@ use Rattle.adv7194_gamma.proofs.field.curve_setting.Statement.{statement}
 use Rattle.adv7194_gamma.proofs.field.curve_setting.Tie as tie
 
 returns : tie.Need-returns-then-image-lt-BYTE_COUNT
-returns c = let a = c.before.args in rw (lt-leb (a.register + 7) (length a.image.now) (omega arith))
+returns c = let a = c.args in rw (lt-leb (a.register + 7) (length a.image.now) (omega arith))
 
 returns-2 : tie.Need-returns-then-image-register
-returns-2 c = let a = c.before.before.args in rw (lt-leb (a.register + 7) (length a.image.now) (omega arith))
+returns-2 c = let a = c.args in rw (lt-leb (a.register + 7) (length a.image.now) (omega arith))
 
 returns-3 : tie.Need-returns
 returns-3 c =
-    let s = c.before.before.before.before.before.before.before.before.before in
+    let s = c in
     rw (le-leb (s.args.register + 7) (length s.args.image.now) (omega arith)) (ap accepted (seven_from s.args.image.now s.args.register))
 
 pub curve_setting_spec : {M : Type 1} → statement M

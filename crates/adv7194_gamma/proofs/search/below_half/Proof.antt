@@ -7,14 +7,14 @@ use Rattle.adv7194_gamma.proofs.search.below_half.Statement.{statement}
 use Rattle.adv7194_gamma.proofs.search.below_half.Tie as tie
 
 mul-result : tie.Need-overflow_mul-result
-mul-result c = omega (arith, mul-le-mul c.before.power.ensures.1 c.power-2.ensures.1)
+mul-result c = omega (arith, mul-le-mul c.power.ensures.1 c.power-2.ensures.1)
 
 mul-result-2 : tie.Need-overflow_mul-result-2
-mul-result-2 c = omega (arith, mul-le-mul c.before.power-3.ensures.1 c.power-4.ensures.1)
+mul-result-2 c = omega (arith, mul-le-mul c.power-3.ensures.1 c.power-4.ensures.1)
 
 returns : tie.Need-returns
 unfolding below_half
-returns c = rw (c.before.before.before.power.ensures.0, c.before.before.power-2.ensures.0, c.before.power-3.ensures.0, c.power-4.ensures.0)
+returns c = rw (c.power.ensures.0, c.power-2.ensures.0, c.power-3.ensures.0, c.power-4.ensures.0)
 
 pub below_half_spec : {M : Type 1} → statement M
 below_half_spec =

@@ -35,7 +35,7 @@ sub-budget : tie.Need-overflow_sub-budget invariant-loop decreases-loop
 sub-budget c = omega (arith, left c.loop-range.budget (c.loop-range.range % 256) (omega arith) (omega arith))
 
 below-half-requires : tie.Need-below_half-below-requires invariant-loop decreases-loop
-below-half-requires c κs = (omega arith, c.before.requires.2, omega arith)
+below-half-requires c κs = (omega arith, c.requires.2, omega arith)
 
 -- the range after a round: the byte is in it, and at most half of the candidates are above its lowest
 record Halved (low above byte range : ℕ) : Type 0 where
@@ -55,43 +55,43 @@ upper-half range byte a b c d e = record { least = omega arith; under = omega ar
 
 -- what a round leaves
 halved : (c : tie.After-choose-range invariant-loop decreases-loop)
-    → let a = c.before.before.before.args in
-    Halved (c.before.before.loop-range.range / 256) (c.before.before.loop-range.range % 256) (byte_at a.p a.q a.n) c.choose-range.result
+    → let a = c.args in
+    Halved (c.loop-range.range / 256) (c.loop-range.range % 256) (byte_at a.p a.q a.n) c.choose-range.result
 halved c =
-    let a = c.before.before.before.args in
-    let r = c.before.before.loop-range.range in
+    let a = c.args in
+    let r = c.loop-range.range in
     let x = a.n - 16 in
-    let small = c.before.before.before.requires.2.q_low in
+    let small = c.requires.2.q_low in
     let middle = r / 256 + r % 256 / 2 - 16 in
     ⊎_elim
     (λ t.
-    let most = at_most x a.p a.q (omega arith) small middle (sym c.before.below_half-below.ensures ∙ t) in
+    let most = at_most x a.p a.q (omega arith) small middle (sym c.below_half-below.ensures ∙ t) in
     rw (c.choose-range.ensures, t)
     (lower-half (r / 256) (r % 256) (byte_at a.p a.q a.n) (omega arith) (omega arith) (omega arith) (omega arith) (omega (arith, most))))
     (λ f.
-    let more = above x a.p a.q (omega arith) small middle (sym c.before.below_half-below.ensures ∙ f) in
+    let more = above x a.p a.q (omega arith) small middle (sym c.below_half-below.ensures ∙ f) in
     rw (c.choose-range.ensures, f)
     (upper-half r (byte_at a.p a.q a.n) (omega arith) (omega arith) (omega arith) (omega arith) (omega (arith, more))))
-    (flag c.before.below_half-below.result)
+    (flag c.below_half-below.result)
 
 cast-found : tie.Need-overflow_cast-found invariant-loop decreases-loop
 cast-found c = omega (arith, (halved c.before).most)
 
 loop-less : tie.Need-loop-range-smaller invariant-loop decreases-loop
 loop-less c =
-    let l = c.before.before.before.loop-range in
+    let l = c.loop-range in
     omega (arith, left l.budget (l.range % 256) (omega arith) (omega arith))
 
 loop-again : tie.Need-loop-range-preserved invariant-loop decreases-loop
 loop-again c =
     let h = halved c.before in
-    let l = c.before.before.before.loop-range in (
+    let l = c.loop-range in (
       h.least,
       h.under,
       h.over,
       h.most,
       omega (arith, c.if-range-eq0.false),
-      half l.budget (l.range % 256) (c.before.choose-range.result % 256) (omega arith) (omega arith) h.fewer,
+      half l.budget (l.range % 256) (c.choose-range.result % 256) (omega arith) (omega arith) h.fewer,
     )
 
 returns : tie.Need-returns invariant-loop decreases-loop

@@ -4,10 +4,12 @@ use Rattle.adv7194_gamma.proofs.search.factor.Statement.{statement}
 use Rattle.adv7194_gamma.proofs.search.factor.Tie as tie
 
 returns : tie.Need-returns-then-k-e
-returns c = rw (lt-ltb c.before.args.k c.before.args.e c.if-k-e.true)
+returns c = rw (lt-ltb c.args.k c.args.e c.if-k-e.true)
 
 returns-2 : tie.Need-returns-else-k-e
-returns-2 c = rw (le-ltb c.before.args.k c.before.args.e c.if-k-e.false)
+returns-2 c = rw (le-ltb c.args.k c.args.e c.if-k-e.false)
 
 pub factor_spec : {M : Type 1} → statement M
-factor_spec = tie.close (tie.spec returns returns-2)
+factor_spec = tie.close (tie.spec
+    returns
+    returns-2)

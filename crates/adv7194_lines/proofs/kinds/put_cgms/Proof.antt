@@ -10,19 +10,19 @@ use Rattle.adv7194_lines.proofs.kinds.put_cgms.Tie as tie
 returns : tie.Need-returns
 unfolding cgms_text
 returns c =
-    let d4 = c.before.before in
-    let d3 = d4.before.before.before.before.before.before in
-    let d2 = d3.before.before.before.before.before.before in
-    let d1 = d2.before.before.before.before.before.before in
-    let n4 = d4.before.number_at-4 in
-    let n3 = d3.before.number_at-3 in
-    let n2 = d2.before.number_at-2 in
-    let n1 = d1.before.number_at in
-    let start = d1.before.before.before.before.before in
-    let w1 = looked (number "CGMS ") n1.type-inv n1.ensures d1.put_number-payload.ensures in
-    let w2 = more w1 (looked (flag " odd ") n2.type-inv n2.ensures d2.put_flag-odd.ensures) (omega (arith, start.requires.0)) in
-    let w3 = more w2 (looked (flag " even ") n3.type-inv n3.ensures d3.put_flag-even.ensures) (omega (arith, start.requires.0)) in
-    more w3 (looked (flag " chip check ") n4.type-inv n4.ensures d4.put_flag.ensures) start.requires.0
+    let d4 = c in
+    let d3 = c in
+    let d2 = c in
+    let d1 = c in
+    let n4 = d4.number_at-4 in
+    let n3 = d3.number_at-3 in
+    let n2 = d2.number_at-2 in
+    let n1 = d1.number_at in
+    let start = c in
+    let w1 = looked (number "CGMS ") n1.type_inv n1.ensures d1.put_number-payload.ensures in
+    let w2 = more w1 (looked (flag " odd ") n2.type_inv n2.ensures d2.put_flag-odd.ensures) (omega (arith, start.requires.0)) in
+    let w3 = more w2 (looked (flag " even ") n3.type_inv n3.ensures d3.put_flag-even.ensures) (omega (arith, start.requires.0)) in
+    more w3 (looked (flag " chip check ") n4.type_inv n4.ensures d4.put_flag.ensures) start.requires.0
 
 pub put_cgms_spec : {M : Type 1} → statement M
 put_cgms_spec =

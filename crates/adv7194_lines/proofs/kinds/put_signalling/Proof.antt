@@ -19,38 +19,38 @@ use Rattle.adv7194_lines.proofs.kinds.put_signalling.Tie as tie
 
 returns : tie.Need-returns-then-kind-eq-CGMS
 returns c =
-    let p = c.before.before in
-    let i = p.before.before in
-    let g = i.before.number_at-kind in
-    let a = i.before.before.before.args in
-    same_text (cgms-is a.numbers.now a.k (sym g.ensures ∙ number_is 1 g.result g.type-inv refl i.if-kind-eq-CGMS.true)) p.put_cgms.ensures
+    let p = c in
+    let i = c in
+    let g = i.number_at-kind in
+    let a = i.args in
+    same_text (cgms-is a.numbers.now a.k (sym g.ensures ∙ number_is 1 g.result g.type_inv refl i.if-kind-eq-CGMS.true)) p.put_cgms.ensures
 
 -- the template that the kind chooses
-chosen : (c : tie.After-signalling_template-t) → (let a = c.before.before.before.before.args in
+chosen : (c : tie.After-signalling_template-t) → (let a = c.args in
     c.signalling_template-t.result ≡ signalling_template (number_at a.numbers.now a.k))
-chosen c = let g = c.before.before.number_at-kind in c.signalling_template-t.ensures ∙ ap signalling_template (same g.result g.type-inv ∙ g.ensures)
+chosen c = let g = c.number_at-kind in c.signalling_template-t.ensures ∙ ap signalling_template (same g.result g.type_inv ∙ g.ensures)
 
 -- has room, and passes over few numbers
 room : (c : tie.After-signalling_template-t) → (let t = c.signalling_template-t.result in
     (widths (column_in signalling_table t.column) ≤ signalling_width) × (t.skipped ≤ 3))
-room c = let a = c.before.before.before.before.args in rw (chosen c) (signalling-room (number_at a.numbers.now a.k))
+room c = let a = c.args in rw (chosen c) (signalling-room (number_at a.numbers.now a.k))
 
 add-fill-column : tie.Need-overflow_add-k
-add-fill-column c = let t = c.before.before.before in omega (arith, (room t).1, t.before.before.before.before.requires.1)
+add-fill-column c = let t = c.before.before.before.before in omega (arith, (room t).1, t.requires.1)
 
 fill-column-requires : tie.Need-fill_column-requires
 fill-column-requires c κs =
-    let t = c.before.before.before in
-    let start = t.before.before.before.before in
+    let t = c.before.before.before.before in
+    let start = c in
     (omega (arith, (room t).0, start.requires.0), omega (arith, (room t).1, start.requires.1))
 
 returns-2 : tie.Need-returns
 returns-2 c =
-    let p = c.before.before in
-    let t = p.before.before.before.before in
-    let i = t.before in
-    let g = i.before.number_at-kind in
-    let a = i.before.before.before.args in
+    let p = c in
+    let t = c.before.before.before.before.before.before.before in
+    let i = c in
+    let g = i.number_at-kind in
+    let a = i.args in
     let zs = a.numbers.now in
     let other = ap (is 1) (sym g.ensures) ∙ is_not 1 g.result refl i.if-kind-eq-CGMS.false in
     same_text

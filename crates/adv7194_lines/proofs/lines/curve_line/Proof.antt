@@ -14,17 +14,17 @@ use Rattle.adv7194_lines.proofs.lines.curve_line.Tie as tie
 
 put-curve-requires : tie.Need-put_curve-setting-requires
 put-curve-requires c κs =
-    let b = c.before.before.before.before.before.before.before.before.before.before.Block-of in
+    let b = c.Block-of in
     (omega arith, omega (arith, ap (λ (x : Block). x.index) b.ensures))
 
 returns : tie.Need-returns
 returns c =
-    let e = c.before.before in
-    let v = e.before.before.before.before.before in
-    let s = v.before.before.before.before in
-    let l = s.before.before.before.before.before in
-    let b = l.before.before.Block-of in
-    let start = l.before.before.before.before in
+    let e = c in
+    let v = c in
+    let s = c in
+    let l = c in
+    let b = l.Block-of in
+    let start = c in
     let zs = start.args.numbers.now in
     let w =
     composed l.put_label-label.ensures (put s.put-spaced.ensures.0 s.put-spaced.ensures.1) v.put_curve-setting.ensures

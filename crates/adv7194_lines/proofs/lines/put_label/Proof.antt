@@ -15,10 +15,10 @@ use Rattle.adv7194_lines.proofs.lines.put_label.Tie as tie
 returns : tie.Need-returns
 unfolding label_text
 returns c =
-    let n = c.before.before in
-    let s = n.before.before.before.before in
-    let d = s.before.before.before.before.before in
-    let start = d.before.before.before in
+    let n = c in
+    let s = c in
+    let d = c in
+    let start = c in
     let f = start.args.field in
     let w = more d.put_decimal-number.ensures (put s.put-spaced.ensures.0 s.put-spaced.ensures.1) (omega (arith, start.requires)) in
     same_text (ap (λ (t : List ℕ). decimal f ++ space ++ t) (name-is (named f))) (more w n.put_column.ensures start.requires)

@@ -12,23 +12,23 @@ use Rattle.adv7194_lines.proofs.lines.row_line.Tie as tie
 
 returns : tie.Need-returns-then-row-ge-NUMBERS
 returns c =
-    let r = c.before.before.row_of-row in
-    let start = c.before.before.before.before in
+    let r = c.row_of-row in
+    let start = c in
     let a = start.args in
-    same_text (unlisted a.numbers.now (row_of a.packed) r.ensures c.if-row-ge-NUMBERS.true) (unwritten a.line-1.now a.at (omega (arith, start.requires)))
+    same_text (unlisted a.numbers.now (row_of a.packed) r.ensures c.if-row-ge-NUMBERS.true) (unwritten a.line.now a.at (omega (arith, start.requires)))
 
 returns-2 : tie.Need-returns
 returns-2 c =
-    let e = c.before.before in
-    let v = e.before.before.before.before.before in
-    let g = v.before.given in
-    let s = v.before.before.before.before.before in
-    let l = s.before.before.before.before.before in
-    let t = l.before.before in
-    let r = t.before.before.row_of-row in
-    let start = t.before.before.before.before in
+    let e = c in
+    let v = c in
+    let g = v.given in
+    let s = c in
+    let l = c in
+    let t = c in
+    let r = t.row_of-row in
+    let start = c in
     let a = start.args in
-    let value = looked (number_text (named r.result.field)) g.type-inv g.ensures v.put_setting-setting.ensures in
+    let value = looked (number_text (named r.result.field)) g.type_inv g.ensures v.put_setting-setting.ensures in
     let w =
     composed l.put_label-label.ensures (put s.put-spaced.ensures.0 s.put-spaced.ensures.1) value (put e.put.ensures.0 e.put.ensures.1) (omega arith)
     start.requires in

@@ -30,21 +30,21 @@ decreases-loop line₀ at numbers rows place₀ i₀ line place i = length rows 
 loop-holds : tie.Need-loop-i-init invariant-loop decreases-loop
 unfolding flat_map plain_fields
 loop-holds c =
-    let start = c.before.before in
-    record { turns = omega arith; written = unwritten start.args.line-1.now start.args.at (omega (arith, start.requires)) }
+    let start = c in
+    record { turns = omega arith; written = unwritten start.args.line.now start.args.at (omega (arith, start.requires)) }
 
 row-line-requires : tie.Need-row_line-place-requires invariant-loop decreases-loop
 row-line-requires c κs =
-    let t = c.before.before in
-    let l = t.before.loop-i in
-    omega (arith, l.invariant.written.most, kept l.invariant.written, t.before.before.before.before.requires, t.loop-i-test.true)
+    let t = c in
+    let l = t.loop-i in
+    omega (arith, l.invariant.written.most, kept l.invariant.written, t.requires, t.loop-i-test.true)
 
 loop-again : tie.Need-loop-i-preserved invariant-loop decreases-loop
 loop-again c =
-    let p = c.before.before in
-    let t = p.before.before.before in
-    let l = t.before.loop-i in
-    let start = t.before.before.before.before in
+    let p = c in
+    let t = c in
+    let l = t.loop-i in
+    let start = c in
     let a = start.args in
     let w = more l.invariant.written p.row_Line.ensures (omega (arith, start.requires, t.loop-i-test.true)) in
     record {
@@ -55,8 +55,8 @@ loop-again c =
 
 returns : tie.Need-returns invariant-loop decreases-loop
 returns c =
-    let l = c.before.loop-i in
-    let a = c.before.before.before.before.args in
+    let l = c.loop-i in
+    let a = c.args in
     let rows = a.rows.now in
     let all : l.i ≡ length rows = omega (arith, l.invariant.turns, c.loop-i-test.false) in
     let whole : take l.i rows ≡ rows = take_all l.i rows (omega arith) in
@@ -76,5 +76,5 @@ row_lines_spec =
     (λ c. omega arith)
     (λ c. omega arith)
     loop-again
-    (λ c. kept c.before.loop-i.invariant.written)
+    (λ c. kept c.loop-i.invariant.written)
     returns)

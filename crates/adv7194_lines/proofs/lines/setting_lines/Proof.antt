@@ -11,13 +11,13 @@ use Rattle.adv7194_lines.proofs.lines.setting_lines.Tie as tie
 
 returns : tie.Need-returns
 returns c =
-    let d = c.before.before in
-    let a = d.before.before.before.before in
-    let b = a.before.before.before.before in
-    let s = b.before.before.before.before.before.before in
-    let f = s.before.before.before.before in
-    let r = f.before.before.before.before in
-    let start = r.before.before in
+    let d = c in
+    let a = c in
+    let b = c in
+    let s = c in
+    let f = c in
+    let r = c in
+    let start = c in
     let ps = r.rows-table.result in
     let front = wider (line_width * 10) (omega (arith, take-most 10 ps)) f.row_lines-front.ensures in
     let back = wider (line_width * 16) (omega (arith, take-most 16 (drop 10 ps))) b.row_lines-back.ensures in

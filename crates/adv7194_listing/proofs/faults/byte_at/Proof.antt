@@ -6,7 +6,7 @@ use Rattle.adv7194_listing.proofs.faults.byte_at.Statement.{statement}
 use Rattle.adv7194_listing.proofs.faults.byte_at.Tie as tie
 
 returns-2 : tie.Need-returns
-returns-2 c = sym (get_or-eq_default c.before.args.image.now 0 c.if-register-image.false)
+returns-2 c = sym (get_or-eq_default c.args.image.now 0 c.if-register-image.false)
 
 pub byte_at_spec : {M : Type 1} → statement M
 byte_at_spec = tie.close (tie.spec

@@ -9,20 +9,20 @@ use Rattle.adv7194_listing.proofs.faults.conflict_words.Statement.{statement}
 use Rattle.adv7194_listing.proofs.faults.conflict_words.Tie as tie
 
 -- the words by the kind that was found
-found : (c : tie.After-kind-found) {held : SignallingKind} → c.kind-found.result ≡ held → by_answer (λ n. 8) 7 6 12 (kind_as held) ≡ conflict_words c.before.args.r19
-found c e = ap (by_answer (λ n. 8) 7 6 12) (sym (ap kind_as e) ∙ c.kind-found.ensures) ∙ by_answer_lem (λ n. 8) 7 6 12 c.before.args.r19
+found : (c : tie.After-kind-found) {held : SignallingKind} → c.kind-found.result ≡ held → by_answer (λ n. 8) 7 6 12 (kind_as held) ≡ conflict_words c.args.r19
+found c e = ap (by_answer (λ n. 8) 7 6 12) (sym (ap kind_as e) ∙ c.kind-found.ensures) ∙ by_answer_lem (λ n. 8) 7 6 12 c.args.r19
 
 returns : tie.Need-returns-in-Off
-returns c = found c.before.before c.enum_told-1.given.1
+returns c = found c.before c.in-Off.is
 
 returns-2 : tie.Need-returns-in-Cgms
-returns-2 c = found c.before.before c.enum_told-in-Cgms-1.given.1
+returns-2 c = found c.before c.in-Cgms.is
 
 returns-3 : tie.Need-returns-in-Wss
-returns-3 c = found c.before.before c.enum_told-in-Wss-1.given.1
+returns-3 c = found c.before c.in-Wss.is
 
 returns-4 : tie.Need-returns-in-Refused
-returns-4 c = found c.before.before c.enum_told-in-Refused-1.given.1
+returns-4 c = found c.before c.in-Refused.is
 
 pub conflict_words_spec : {M : Type 1} → statement M
 conflict_words_spec =

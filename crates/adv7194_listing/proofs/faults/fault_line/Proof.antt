@@ -11,10 +11,10 @@ use Rattle.adv7194_listing.proofs.faults.fault_line.Tie as tie
 
 returns : tie.Need-returns
 returns c =
-    let e = c.before.before in
-    let v = e.before.before.before.before.before in
-    let l = v.before.before.before.before in
-    let start = l.before.before.before.before in
+    let e = c in
+    let v = c in
+    let l = c in
+    let start = c in
     let x = more l.put_place-place.ensures v.put_words-words.ensures (omega (arith, start.requires)) in
     let a = start.args in
     same_text (line_told a.image.now (number_of a.refusal) a.field)

@@ -26,26 +26,26 @@ decreases-loop field table i₀ i = 26 - i
 loop-holds : tie.Need-loop-i-init invariant-loop decreases-loop
 loop-holds c =
     let r = c.rows-table in
-    record { turns = omega arith; size = packed_rows r.result r.ensures; first = ap (row_at c.before.args.field) r.ensures }
+    record { turns = omega arith; size = packed_rows r.result r.ensures; first = ap (row_at c.args.field) r.ensures }
 
 returns : tie.Need-returns-then-row-field invariant-loop decreases-loop
 returns c =
-    let r = c.before.before.row_of-row in
-    let t = c.before.before.before in
-    let l = t.before.loop-i in
-    let ps = t.before.before.rows-table.result in
-    let f = t.before.before.before.args.field in
+    let r = c.row_of-row in
+    let t = c in
+    let l = t.loop-i in
+    let ps = t.rows-table.result in
+    let f = t.args.field in
     let same : r.result.field ≡ f = c.if-row-field.true in
     r.ensures ∙ sym (row_here f ps l.i (omega (arith, l.invariant.size, t.loop-i-test.true)) (ap (λ (x : Row). x.field) (sym r.ensures) ∙ same))
     ∙ l.invariant.first
 
 loop-again : tie.Need-loop-i-preserved invariant-loop decreases-loop
 loop-again c =
-    let r = c.before.before.row_of-row in
-    let t = c.before.before.before in
-    let l = t.before.loop-i in
-    let ps = t.before.before.rows-table.result in
-    let f = t.before.before.before.args.field in
+    let r = c.row_of-row in
+    let t = c in
+    let l = t.loop-i in
+    let ps = t.rows-table.result in
+    let f = t.args.field in
     record {
       turns = omega (arith, t.loop-i-test.true);
       size = l.invariant.size;
@@ -56,9 +56,9 @@ loop-again c =
 
 returns-2 : tie.Need-returns invariant-loop decreases-loop
 returns-2 c =
-    let l = c.before.loop-i in
-    let ps = c.before.before.rows-table.result in
-    let f = c.before.before.before.args.field in
+    let l = c.loop-i in
+    let ps = c.rows-table.result in
+    let f = c.args.field in
     sym (row-none f ps l.i (omega (arith, l.invariant.size, c.loop-i-test.false))) ∙ l.invariant.first
 
 pub field_row_spec : {M : Type 1} → statement M

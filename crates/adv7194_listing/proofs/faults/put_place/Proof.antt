@@ -16,17 +16,17 @@ use Rattle.adv7194_listing.proofs.faults.put_place.Tie as tie
 
 returns : tie.Need-returns-then-field-eq0
 returns c =
-    let p = c.before.before in
-    let t = p.before.before in
-    let f = t.before.before.args.field in
+    let p = c in
+    let t = c in
+    let f = t.args.field in
     let e : ascii (named f).name ≡ cond (eqb f 0) (ascii (named f).name) (label_text f) = rw (eq-eqb f 0 t.if-field-eq0.true) in
     same_text (name-is (named f) ∙ e) (wider label_width (omega arith) p.put_column.ensures)
 
 returns-2 : tie.Need-returns
 returns-2 c =
-    let p = c.before.before in
-    let t = p.before.before in
-    let f = t.before.before.args.field in
+    let p = c in
+    let t = c in
+    let f = t.args.field in
     let e : label_text f ≡ cond (eqb f 0) (ascii (named f).name) (label_text f) = rw (ne_eqb f 0 t.if-field-eq0.false) in
     same_text e p.put_label.ensures
 

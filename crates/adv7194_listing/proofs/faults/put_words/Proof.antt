@@ -21,44 +21,44 @@ use Rattle.adv7194_listing.proofs.faults.put_words.Tie as tie
 
 returns : tie.Need-returns-then-number-eq1
 returns c =
-    let p = c.before.before in
-    let i = p.before.before.before.before in
-    let a = i.before.before.before.before.args in
-    same_text (length_told a.image.now a.field (sym i.before.number.ensures ∙ i.if-number-eq1.true))
+    let p = c in
+    let i = c in
+    let a = i.args in
+    same_text (length_told a.image.now a.field (sym i.number.ensures ∙ i.if-number-eq1.true))
     (wider words_width (omega arith) p.put_counted.ensures)
 
 -- the column that was chosen, the part of the table there, and what it tells
-chosen : (c : tie.After-words_of-column) → (let a = c.before.before.before.before.before.before.args in
+chosen : (c : tie.After-words_of-column) → (let a = c.args in
     c.words_of-column.result ≡ words_of (number_of a.refusal) a.field (get_or a.image.now 0x19 0))
 chosen c =
-    let a = c.before.before.before.before.before.before.args in
-    c.words_of-column.ensures ∙ ap (words_of (number_of a.refusal) a.field) c.before.byte_at.ensures
+    let a = c.args in
+    c.words_of-column.ensures ∙ ap (words_of (number_of a.refusal) a.field) c.byte_at.ensures
 
-part : (c : tie.After-words-words) → column_in c.words-words.result c.before.before.words_of-column.result ≡ ascii (get_or words c.before.before.words_of-column.result "")
-part c = let k = c.before.before.words_of-column.result in ap (λ (t : List ℕ). column_in t k) c.words-words.ensures ∙ column_is k
+part : (c : tie.After-words-words) → column_in c.words-words.result c.words_of-column.result ≡ ascii (get_or words c.words_of-column.result "")
+part c = let k = c.words_of-column.result in ap (λ (t : List ℕ). column_in t k) c.words-words.ensures ∙ column_is k
 
-tells : (c : tie.After-words_of-column) → (let a = c.before.before.before.before.before.before.args in
+tells : (c : tie.After-words_of-column) → (let a = c.args in
     Tells a.image.now a.field c.words_of-column.result (fault_words a.image.now (number_of a.refusal) a.field))
 tells c =
-    let i = c.before.before in
-    let k = i.before.before in
-    let a = k.before.before.args in
+    let i = c in
+    let k = c in
+    let a = k.args in
     rw (chosen c)
     (told a.image.now a.field (λ r. omega (arith, k.shared_slice_known-1.given r)) (number_of a.refusal)
-    (ne_eqb _ 1 (λ e. i.if-number-eq1.false (i.before.number.ensures ∙ e))))
+    (ne_eqb _ 1 (λ e. i.if-number-eq1.false (i.number.ensures ∙ e))))
 
 fill-column-requires : tie.Need-fill_column-requires
 fill-column-requires c κs =
     let w = c.before.before.before in
-    let start = w.before.before.before.before.before.before.before.before in
-    (omega (arith, ap widths (part w), (tells w.before.before).room, start.requires), omega arith)
+    let start = c in
+    (omega (arith, ap widths (part w), (tells c.before.before.before.before.before).room, start.requires), omega arith)
 
 returns-2 : tie.Need-returns
 returns-2 c =
-    let p = c.before.before in
-    let w = p.before.before.before.before in
-    let s = w.before in
-    let t = tells s.before in
+    let p = c in
+    let w = c.before.before.before.before.before.before in
+    let s = c in
+    let t = tells c.before.before.before.before.before.before.before.before in
     same_text (ap₂ (λ (x : List ℕ) (zs : List ℤ). filled x zs) (part w) s.shown-numbers.ensures ∙ t.same)
     (wider words_width (omega (arith, ap widths (part w), t.room)) p.fill_column.ensures)
 

@@ -10,23 +10,27 @@ use Rattle.adv7194_listing.proofs.faults.reserved_words.Tie as tie
 
 returns : tie.Need-returns-then-field-eq-SIGNALLING_FIELD
 unfolding reserved_words
-returns c = rw (eq-eqb c.before.args.field 11 c.if-field-eq-SIGNALLING_FIELD.true)
+returns c = rw (eq-eqb c.args.field 11 c.if-field-eq-SIGNALLING_FIELD.true)
 
 returns-2 : tie.Need-returns-then-field_row-eq-OUT_OF_RANGE
 unfolding reserved_words
 returns-2 c =
-    let r = c.before.before in
-    let f = r.before.before.args.field in
+    let r = c in
+    let f = r.args.field in
     let o = ap (λ (x : Row). x.outside) r.field_row.ensures in
-    rw (ne_eqb f 11 r.before.if-field-eq-SIGNALLING_FIELD.false, eq-eqb (field_row f).outside 3 (sym o ∙ c.if-field_row-eq-OUT_OF_RANGE.true))
+    rw (ne_eqb f 11 r.if-field-eq-SIGNALLING_FIELD.false, eq-eqb (field_row f).outside 3 (sym o ∙ c.if-field_row-eq-OUT_OF_RANGE.true))
 
 returns-3 : tie.Need-returns
 unfolding reserved_words
 returns-3 c =
-    let r = c.before.before in
-    let f = r.before.before.args.field in
+    let r = c in
+    let f = r.args.field in
     let o = ap (λ (x : Row). x.outside) r.field_row.ensures in
-    rw (ne_eqb f 11 r.before.if-field-eq-SIGNALLING_FIELD.false, ne_eqb (field_row f).outside 3 (λ e. c.if-field_row-eq-OUT_OF_RANGE.false (o ∙ e)))
+    rw (ne_eqb f 11 r.if-field-eq-SIGNALLING_FIELD.false, ne_eqb (field_row f).outside 3 (λ e. c.if-field_row-eq-OUT_OF_RANGE.false (o ∙ e)))
 
 pub reserved_words_spec : {M : Type 1} → statement M
-reserved_words_spec = tie.close (tie.spec returns (λ c κs. search rules) returns-2 returns-3)
+reserved_words_spec = tie.close (tie.spec
+    returns
+    (λ c κs. search rules)
+    returns-2
+    returns-3)

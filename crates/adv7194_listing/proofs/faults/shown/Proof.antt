@@ -10,11 +10,11 @@ use Rattle.adv7194_listing.proofs.faults.shown.Tie as tie
 returns : tie.Need-returns-then-column-eq-SIGNALLING_BYTES
 unfolding shown_numbers
 returns c =
-    let d = c.before in
-    let e = d.before in
-    let a = e.before.before.before.args in
+    let d = c in
+    let e = c in
+    let a = e.args in
     rw (
-      eq-eqb a.column 2 e.before.if-column-eq-SIGNALLING_BYTES.true,
+      eq-eqb a.column 2 e.if-column-eq-SIGNALLING_BYTES.true,
       byte-number e.byte_at.result (search rules),
       byte-number d.byte_at-then-column-eq-SIGNALLING_BYTES.result (search rules),
       byte-number c.byte_at-then-column-eq-SIGNALLING_BYTES-2.result (search rules),
@@ -24,14 +24,14 @@ returns c =
     )
 
 held-requires : tie.Need-held-requires
-held-requires c κs = field-bits c.before.before.before.args.field c.field_row.ensures
+held-requires c κs = field-bits c.args.field c.field_row.ensures
 
 returns-2 : tie.Need-returns
 unfolding shown_numbers
 returns-2 c =
-    let r = c.before in
-    let a = r.before.before.before.args in
-    rw (ne_eqb a.column 2 r.before.if-column-eq-SIGNALLING_BYTES.false, byte-number c.held.result (search rules), c.held.ensures, r.field_row.ensures)
+    let r = c in
+    let a = r.args in
+    rw (ne_eqb a.column 2 r.if-column-eq-SIGNALLING_BYTES.false, byte-number c.held.result (search rules), c.held.ensures, r.field_row.ensures)
 
 pub shown_spec : {M : Type 1} → statement M
 shown_spec =

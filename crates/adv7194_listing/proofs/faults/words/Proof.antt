@@ -10,4 +10,5 @@ unfolding words words_text
 returns c = refl
 
 pub words_spec : {M : Type 1} → statement M
-words_spec = tie.close (tie.spec returns)
+words_spec = tie.close (tie.spec
+    returns)

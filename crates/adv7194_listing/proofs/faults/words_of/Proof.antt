@@ -7,51 +7,51 @@ use Rattle.adv7194_listing.proofs.faults.words_of.Tie as tie
 
 returns : tie.Need-returns-in-OutOfRange
 unfolding words_of
-returns c = rw c.enum_told-1.given.1
+returns c = rw c.in-OutOfRange.is
 
 returns-2 : tie.Need-returns-in-Reserved
 unfolding words_of
-returns-2 c = rw c.before.enum_told-in-Reserved-1.given.1 c.reserved_words.ensures
+returns-2 c = rw c.in-Reserved.is c.reserved_words.ensures
 
 returns-3 : tie.Need-returns-in-SquarePixelWithOversampling
 unfolding words_of
-returns-3 c = rw c.enum_told-in-SquarePixelWithOversampling-1.given.1
+returns-3 c = rw c.in-SquarePixelWithOversampling.is
 
 returns-4 : tie.Need-returns-in-PedestalWithPal
 unfolding words_of
-returns-4 c = rw c.enum_told-in-PedestalWithPal-1.given.1
+returns-4 c = rw c.in-PedestalWithPal.is
 
 returns-5 : tie.Need-returns-in-SignallingConflict
 unfolding words_of
-returns-5 c = rw c.before.enum_told-in-SignallingConflict-1.given.1 c.conflict_words.ensures
+returns-5 c = rw c.in-SignallingConflict.is c.conflict_words.ensures
 
 returns-6 : tie.Need-returns-then-field-eq-WORD_FIELD
 unfolding words_of
-returns-6 c = let t = c.before in rw (t.enum_told-in-Disagreement-1.given.1, eq-eqb t.before.before.args.field 28 c.if-field-eq-WORD_FIELD.true)
+returns-6 c = let t = c in rw (t.in-Disagreement.is, eq-eqb t.args.field 28 c.if-field-eq-WORD_FIELD.true)
 
 returns-7 : tie.Need-returns-else-field-eq-WORD_FIELD
 unfolding words_of
-returns-7 c = let t = c.before in rw (t.enum_told-in-Disagreement-1.given.1, ne_eqb t.before.before.args.field 28 c.if-field-eq-WORD_FIELD.false)
+returns-7 c = let t = c in rw (t.in-Disagreement.is, ne_eqb t.args.field 28 c.if-field-eq-WORD_FIELD.false)
 
 returns-8 : tie.Need-returns-in-RegisterUnknown
 unfolding words_of
-returns-8 c = rw c.enum_told-in-RegisterUnknown-1.given.1
+returns-8 c = rw c.in-RegisterUnknown.is
 
 returns-9 : tie.Need-returns-in-ImageLength
 unfolding words_of
-returns-9 c = rw c.enum_told-in-ImageLength-1.given.1
+returns-9 c = rw c.in-ImageLength.is
 
 returns-10 : tie.Need-returns-in-BusAddress
 unfolding words_of
-returns-10 c = rw c.enum_told-in-BusAddress-1.given.1
+returns-10 c = rw c.in-BusAddress.is
 
 returns-11 : tie.Need-returns-in-PlanBytes
 unfolding words_of
-returns-11 c = rw c.enum_told-in-PlanBytes-1.given.1
+returns-11 c = rw c.in-PlanBytes.is
 
 returns-12 : tie.Need-returns-in-PlanRoom
 unfolding words_of
-returns-12 c = rw c.enum_told-in-PlanRoom-1.given.1
+returns-12 c = rw c.in-PlanRoom.is
 
 pub words_of_spec : {M : Type 1} → statement M
 words_of_spec =

@@ -10,4 +10,5 @@ unfolding columns_text names
 returns c = refl
 
 pub names_spec : {M : Type 1} → statement M
-names_spec = tie.close (tie.spec returns)
+names_spec = tie.close (tie.spec
+    returns)

@@ -20,27 +20,27 @@ found : (table : List ℕ) (start end f k : ℕ) → table ≡ columns_text name
 found table start end f k t h s e = e ∙ s ∙ ap (λ (l : List ℕ). column_in l (4 * f + k)) t ∙ field_column f k h
 
 -- so it is after the search
-part : (c : tie.After-column_end-end) → (let s = c.before.before in let n = s.before.before in let a = n.before.before.args in
+part : (c : tie.After-column_end-end) → (let s = c in let n = c in let a = n.args in
     take (c.column_end-end.result - s.column_start-start.result) (drop s.column_start-start.result n.names-table.result) ≡ column_of (named a.field) a.column)
 part c =
-    let s = c.before.before in
-    let n = s.before.before in
-    let start = n.before.before in
+    let s = c in
+    let n = c in
+    let start = c in
     let a = start.args in
     found n.names-table.result s.column_start-start.result c.column_end-end.result a.field a.column n.names-table.ensures start.requires.1
     s.column_start-start.ensures.1 c.column_end-end.ensures.1
 
 put-requires : tie.Need-put-requires
 put-requires c κs =
-    let e = c.before.before.before in
-    let start = e.before.before.before.before.before.before in
+    let e = c.before.before in
+    let start = c in
     omega (arith, ap length (part e), field-width start.args.field start.args.column, start.requires.0)
 
 returns : tie.Need-returns
 returns c =
-    let p = c.before.before in
-    let e = p.before.before.before.before in
-    let a = e.before.before.before.before.before.before.args in
+    let p = c in
+    let e = c.before.before.before.before.before in
+    let a = e.args in
     let w = same_text (part e) (put p.put.ensures.0 p.put.ensures.1) in
     wider column_width (omega (arith, ap length (part e), field-width a.field a.column)) w
 

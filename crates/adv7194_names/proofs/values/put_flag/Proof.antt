@@ -7,11 +7,15 @@ use Rattle.adv7194_names.proofs.values.put_flag.Tie as tie
 
 returns : tie.Need-returns
 returns c =
-    let q = c.before.before in
-    let p = q.before.before.before.before in
-    let start = p.before.before.before.before in
+    let q = c in
+    let p = c in
+    let start = c in
     let a = start.args in
     more (put p.put-after.ensures.0 p.put-after.ensures.1) (passed yes_no a.n start.ranges.n.sfits q.put_yes.ensures) start.requires
 
 pub put_flag_spec : {M : Type 1} → statement M
-put_flag_spec = tie.close (tie.spec (λ c κs. search rules) (λ c κs. search rules) (λ c. search rules) returns)
+put_flag_spec = tie.close (tie.spec
+    (λ c κs. search rules)
+    (λ c κs. search rules)
+    (λ c. search rules)
+    returns)

@@ -17,8 +17,8 @@ use Rattle.adv7194_names.proofs.values.put_setting.Tie as tie
 
 returns : tie.Need-returns-then-at-word
 returns c =
-    let p = c.before.before.before in
-    let start = p.before.before.before in
+    let p = c in
+    let start = c in
     let a = start.args in
     let w = passed (word_of (named a.field)) a.n start.ranges.n.sfits p.put_word-word.ensures in
     let some : 0 < length (word_of (named a.field) a.n) = omega (arith, w.answer, c.if-at-word.true) in
@@ -26,10 +26,10 @@ returns c =
 
 returns-2 : tie.Need-returns
 returns-2 c =
-    let q = c.before.before in
-    let e = q.before.before in
-    let p = e.before.before.before in
-    let start = p.before.before.before in
+    let q = c in
+    let e = c in
+    let p = c in
+    let start = c in
     let a = start.args in
     let w = passed (word_of (named a.field)) a.n start.ranges.n.sfits p.put_word-word.ensures in
     let none : length (word_of (named a.field) a.n) ≤ 0 = omega (arith, w.answer, e.if-at-word.false) in
@@ -39,4 +39,10 @@ returns-2 c =
 pub put_setting_spec : {M : Type 1} → statement M
 put_setting_spec =
     tie.close
-    (tie.spec (λ c κs. search rules) (λ c. search rules) returns (λ c κs. search rules) (λ c. search rules) returns-2)
+    (tie.spec
+    (λ c κs. search rules)
+    (λ c. search rules)
+    returns
+    (λ c κs. search rules)
+    (λ c. search rules)
+    returns-2)

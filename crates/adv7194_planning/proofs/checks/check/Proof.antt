@@ -30,7 +30,7 @@ start c = c.before.before
 
 -- the board whose registers are lent
 abbrev board : tie.Start → Board
-board s = board_of s.args.wanted-1.now s.args.known
+board s = board_of s.args.wanted.now s.args.known
 
 -- where the limit and the count were found right
 abbrev counted-at : tie.After-want → tie.Else-numbers-ne-NUMBERS
@@ -41,7 +41,7 @@ start2 c = start c.before.before
 
 -- the limit is right
 limited : (c : tie.Else-not-limit_right) → limit_right (start c.before).args.limit ≡ true
-limited c = sym c.before.limit_right.ensures ∙ not-false _ c.if-not-limit_right.false
+limited c = sym c.limit_right.ensures ∙ not-false _ c.if-not-limit_right.false
 
 -- there are as many numbers as settings have
 counted : (c : tie.Else-numbers-ne-NUMBERS) → length (start2 c).args.numbers.now ≡ number_count
@@ -61,14 +61,14 @@ module _ (w : tie.After-want) where
       check_settings (board s) zs address s.args.limit room (limited (counted-at w).before) (counted (counted-at w))
       ∙ ap (λ (x : Verdict (Unit {0})). after x (unknown_verdict (board s) zs address s.args.limit room)) e
 
-  left : w.want.last.1.0 ≡ checked_image s.args.wanted-1.now zs s.args.limit
+  left : w.want.last.1.0 ≡ checked_image s.args.wanted.now zs s.args.limit
   left =
       w.want.ensures.1.0
-      ∙ sym (image-is s.args.wanted-1.now zs s.args.limit (limited (counted-at w).before) (counted (counted-at w)))
+      ∙ sym (image-is s.args.wanted.now zs s.args.limit (limited (counted-at w).before) (counted (counted-at w)))
 
 -- the settings are accepted
 accepted : (c : tie.In-Good) → check_of (zs c.before.before.before.before) ≡ good tt
-accepted c = sym c.before.before.before.before.want.ensures.0 ∙ ap checked_as c.enum_told-1.given.1
+accepted c = sym c.want.ensures.0 ∙ ap checked_as c.in-Good.is
 
 -- ---- the answers
 
@@ -76,35 +76,35 @@ returns : tie.Need-returns-then-not-limit_right
 returns c =
     let s = start c.before in
     let zs = s.args.numbers.now in
-    let l : limit_right s.args.limit ≡ false = sym c.before.limit_right.ensures ∙ not-true _ c.if-not-limit_right.true in (
+    let l : limit_right s.args.limit ≡ false = sym c.limit_right.ensures ∙ not-true _ c.if-not-limit_right.true in (
       λ address room. sym (check_limit (board s) zs address s.args.limit room l),
-      sym (ap (λ (b : Bool). cond (b && eqb (length zs) number_count) (wanted_by s.args.wanted-1.now zs) s.args.wanted-1.now) l),
+      sym (ap (λ (b : Bool). cond (b && eqb (length zs) number_count) (wanted_by s.args.wanted.now zs) s.args.wanted.now) l),
     )
 
 returns-2 : tie.Need-returns-then-numbers-ne-NUMBERS
 returns-2 c =
     let e = c.before in
-    let s = start e.before in
+    let s = start c.before.before in
     let zs = s.args.numbers.now in (
       λ address room. sym (check_count (board s) zs address s.args.limit room (limited e) c.if-numbers-ne-NUMBERS.true),
       sym
-          (ap (λ (b : Bool). cond (b && eqb (length zs) number_count) (wanted_by s.args.wanted-1.now zs) s.args.wanted-1.now) (limited e)
-          ∙ ap (λ (b : Bool). cond b (wanted_by s.args.wanted-1.now zs) s.args.wanted-1.now) (ne_eqb (length zs) number_count c.if-numbers-ne-NUMBERS.true)),
+          (ap (λ (b : Bool). cond (b && eqb (length zs) number_count) (wanted_by s.args.wanted.now zs) s.args.wanted.now) (limited e)
+          ∙ ap (λ (b : Bool). cond b (wanted_by s.args.wanted.now zs) s.args.wanted.now) (ne_eqb (length zs) number_count c.if-numbers-ne-NUMBERS.true)),
     )
 
 returns-3 : tie.Need-returns-in-Refused
 returns-3 c =
-    let r = c.before in
-    let w = r.before.before.before.before in
-    let e = sym w.want.ensures.0 ∙ ap checked_as r.refusal-1.given.1 in
-    (λ address room. sym (decided w (refused_at (number_of r.refusal-1.given.0.0) r.refusal-1.given.0.1.0) e address room), left w)
+    let r = c in
+    let w = c in
+    let e = sym w.want.ensures.0 ∙ ap checked_as r.in-Refused.is in
+    (λ address room. sym (decided w (refused_at (number_of r.in-Refused.refusal) r.refusal-1.given.0.1.0) e address room), left w)
 
 returns-4 : tie.Need-returns-in-Good
 returns-4 c =
     let k = c.before in
-    let w = k.before.before.before.before in
+    let w = c in
     let a = (s w).args in
-    (λ address room. c.check_known.ensures a.wanted-1.now address a.limit room ∙ sym (decided w (good tt) (accepted k) address room), left w)
+    (λ address room. c.check_known.ensures a.wanted.now address a.limit room ∙ sym (decided w (good tt) (accepted k) address room), left w)
 
 pub check_spec : {M : Type 1} → statement M
 check_spec =
@@ -116,7 +116,7 @@ check_spec =
     (λ c κs. search rules)
     (λ c. search rules)
     (λ c. search rules)
-    (λ c κs. record { size = counted (counted-at c.before.before.before.before); passes = accepted c })
+    (λ c κs. record { size = counted (counted-at c.before.before.before); passes = accepted c })
     (λ c. search rules)
     returns-3
     (λ c. search rules)

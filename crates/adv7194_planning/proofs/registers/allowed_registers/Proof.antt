@@ -7,4 +7,5 @@ returns : tie.Need-returns
 returns c i = allowed-has c.args.known c.args.fixed i
 
 pub allowed_registers_spec : {M : Type 1} → statement M
-allowed_registers_spec = tie.close (tie.spec returns)
+allowed_registers_spec = tie.close (tie.spec
+    returns)

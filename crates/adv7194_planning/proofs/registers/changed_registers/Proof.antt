@@ -11,9 +11,9 @@ use Rattle.adv7194_planning.proofs.registers.changed_registers.Tie as tie
 
 returns : tie.Need-returns
 returns c =
-    let low = c.before.before.before.before.before in
-    let table = low.before.before.before.before.before.field_masks-masks in
-    let start = low.before.before.before.before.before.before.before.before in
+    let low = c in
+    let table = low.field_masks-masks in
+    let start = c in
     let image = start.args.image.now in
     let wanted = start.args.wanted.now in
     both_halves image wanted start.requires low.differing-low.result c.differing-high.result (search rules)

@@ -8,13 +8,16 @@ use Rattle.adv7194_planning.proofs.registers.fixed_registers.Tie as tie
 
 returns : tie.Need-returns-then-sends
 returns c =
-    let s = c.before.before in
-    fixed_sent s.args.numbers.now s.requires (not-true _ (sym c.before.sends.ensures ∙ c.if-sends.true))
+    let s = c in
+    fixed_sent s.args.numbers.now s.requires (not-true _ (sym c.sends.ensures ∙ c.if-sends.true))
 
 returns-2 : tie.Need-returns
 returns-2 c =
-    let s = c.before.before in
-    fixed_off s.args.numbers.now s.requires (not-false _ (sym c.before.sends.ensures ∙ c.if-sends.false))
+    let s = c in
+    fixed_off s.args.numbers.now s.requires (not-false _ (sym c.sends.ensures ∙ c.if-sends.false))
 
 pub fixed_registers_spec : {M : Type 1} → statement M
-fixed_registers_spec = tie.close (tie.spec (λ c κs. search rules) returns returns-2)
+fixed_registers_spec = tie.close (tie.spec
+    (λ c κs. search rules)
+    returns
+    returns-2)

@@ -7,4 +7,5 @@ returns : tie.Need-returns
 returns c = must-has c.args.changed c.args.known c.args.fixed c.ranges.known.fits c.ranges.fixed.fits
 
 pub must_registers_spec : {M : Type 1} → statement M
-must_registers_spec = tie.close (tie.spec returns)
+must_registers_spec = tie.close (tie.spec
+    returns)

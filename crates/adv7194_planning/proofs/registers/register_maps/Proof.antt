@@ -6,15 +6,22 @@ use Rattle.adv7194_planning.proofs.registers.register_maps.Tie as tie
 
 returns : tie.Need-returns
 returns c =
-    let w = c.before in
-    let n = w.before in
-    let d = n.before.before in
-    let a = d.before.before.before.before.args in
+    let w = c in
+    let n = c in
+    let d = c in
+    let a = d.args in
     λ limit.
-    maps_are a.board a.wanted.now a.fixed limit _ _ _ _ _ d.changed_registers.ensures n.before.must_registers-must.ensures
+    maps_are a.board a.wanted.now a.fixed limit _ _ _ _ _ d.changed_registers.ensures n.must_registers-must.ensures
     n.needed_registers-needed.ensures w.allowed_registers.ensures c.held_registers.ensures
 
 pub register_maps_spec : {M : Type 1} → statement M
 register_maps_spec =
     tie.close
-    (tie.spec (λ c. search rules) (λ c κs. c.before.before.before.requires) (λ c κs. tt) (λ c κs. tt) (λ c κs. tt) (λ c κs. tt) returns)
+    (tie.spec
+    (λ c. search rules)
+    (λ c κs. c.requires)
+    (λ c κs. tt)
+    (λ c κs. tt)
+    (λ c κs. tt)
+    (λ c κs. tt)
+    returns)

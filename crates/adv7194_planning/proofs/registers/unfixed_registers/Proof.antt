@@ -7,4 +7,5 @@ returns : tie.Need-returns
 returns c = unfixed_has c.args.partly c.args.known c.ranges.partly.fits c.ranges.known.fits
 
 pub unfixed_registers_spec : {M : Type 1} → statement M
-unfixed_registers_spec = tie.close (tie.spec returns)
+unfixed_registers_spec = tie.close (tie.spec
+    returns)

@@ -7,20 +7,26 @@ use Rattle.adv7194_reading.proofs.answers.with_unknown.Statement.{statement}
 use Rattle.adv7194_reading.proofs.answers.with_unknown.Tie as tie
 
 returns : tie.Need-returns-then-unknown-eq-NO_FIELD
-returns c = judged-all (checked_as c.before.args.judged-1) c.if-unknown-eq-NO_FIELD.true
+returns c = judged-all (checked_as c.args.judged) c.if-unknown-eq-NO_FIELD.true
 
 returns-2 : tie.Need-returns-then-field-unknown
 returns-2 c =
-    let told = c.before.before.judged-1.given in
-    rw told.1 (fault_first c.before.before.before.before.if-unknown-eq-NO_FIELD.false (number_of told.0.0) c.if-field-unknown.true)
+    let told = c.judged-1.given in
+    rw told.1 (fault_first c.if-unknown-eq-NO_FIELD.false (number_of told.0.0) c.if-field-unknown.true)
 
 returns-3 : tie.Need-returns-else-field-unknown
 returns-3 c =
-    let told = c.before.before.judged-1.given in
-    rw told.1 (unknown-first c.before.before.before.before.if-unknown-eq-NO_FIELD.false (number_of told.0.0) c.if-field-unknown.false)
+    let told = c.judged-1.given in
+    rw told.1 (unknown-first c.if-unknown-eq-NO_FIELD.false (number_of told.0.0) c.if-field-unknown.false)
 
 returns-4 : tie.Need-returns-in_default
-returns-4 c = rw c.enum_told-1.given.1 (unknown-only c.before.before.if-unknown-eq-NO_FIELD.false)
+returns-4 c = rw c.in_default.is (unknown-only c.if-unknown-eq-NO_FIELD.false)
 
 pub with_unknown_spec : {M : Type 1} → statement M
-with_unknown_spec = tie.close (tie.spec returns (λ c. search rules) returns-2 (λ c. search rules) returns-3 returns-4)
+with_unknown_spec = tie.close (tie.spec
+    returns
+    (λ c. search rules)
+    returns-2
+    (λ c. search rules)
+    returns-3
+    returns-4)

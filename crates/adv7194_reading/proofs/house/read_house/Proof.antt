@@ -11,19 +11,25 @@ use Rattle.adv7194_reading.proofs.house.read_house.Tie as tie
 
 returns : tie.Need-returns-then-numbers-ne-NUMBERS
 returns c =
-    let zs = c.before.args.numbers-1.now in
+    let zs = c.args.numbers.now in
     let z : eqb (length zs) number_count ≡ false = ne_eqb (length zs) number_count c.if-numbers-ne-NUMBERS.true in
     rw z (refl, refl)
 
 returns-2 : tie.Need-returns
 returns-2 c =
-    let k = c.before in
-    let h = k.before.before.before in
-    let zs = h.before.before.args.numbers-1.now in
-    let z : eqb (length zs) number_count ≡ true = eq-eqb (length zs) number_count h.before.if-numbers-ne-NUMBERS.false in
+    let k = c in
+    let h = c in
+    let zs = h.args.numbers.now in
+    let z : eqb (length zs) number_count ≡ true = eq-eqb (length zs) number_count h.if-numbers-ne-NUMBERS.false in
     rw z (refl, k.copy.ensures ∙ h.house-setting.ensures)
 
 pub read_house_spec : {M : Type 1} → statement M
 read_house_spec =
     tie.close
-    (tie.spec returns (λ c κs. search rules) (λ c. search rules) (λ c κs. search rules) (λ c. search rules) returns-2)
+    (tie.spec
+    returns
+    (λ c κs. search rules)
+    (λ c. search rules)
+    (λ c κs. search rules)
+    (λ c. search rules)
+    returns-2)

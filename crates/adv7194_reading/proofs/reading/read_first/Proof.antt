@@ -6,12 +6,12 @@ use Rattle.adv7194_reading.proofs.reading.read_first.Tie as tie
 
 returns : tie.Need-returns
 returns c =
-    let o = c.before in
-    let q = o.before.before in
-    let p = q.before.before.before in
-    let s = p.before.before in
-    let t = s.before.before.before in
-    let b = t.before.before.before in
+    let o = c in
+    let q = c in
+    let p = c in
+    let s = c in
+    let t = c in
+    let b = c in
     let image = b.args.image.now in (
       first_verdict image b.requires t.read_timing-timing.ensures.1 p.read_row-pedestal.ensures.1 t.read_timing-timing.ensures.0 s.square_with_oversampling-square.ensures
           p.read_row-pedestal.ensures.0 q.pedestal_with_pal-pal.ensures o.read_output.ensures.0,

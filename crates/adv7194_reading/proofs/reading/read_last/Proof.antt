@@ -7,12 +7,12 @@ use Rattle.adv7194_reading.proofs.reading.read_last.Tie as tie
 
 returns : tie.Need-returns
 returns c =
-    let b2 = c.before.before.before in
-    let b1 = b2.before.before.before in
-    let d = b1.before.before.before in
-    let p = d.before.before.before in
-    let s = p.before.before.before in
-    let b = s.before.before.before in
+    let b2 = c in
+    let b1 = c in
+    let d = c in
+    let p = c in
+    let s = c in
+    let b = c in
     let image = b.args.image.now in
     let e1 = s.read_signalling-signalling.ensures in
     let e2 = p.read_picture-picture.ensures in

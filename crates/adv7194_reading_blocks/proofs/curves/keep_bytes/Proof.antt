@@ -23,23 +23,23 @@ add-keep-6 c =
 
 -- the bytes are small
 small : (c : tie.After-struct_known-1)
-    → let p = c.before.before.args.points in
+    → let p = c.args.points in
     (p.b0 < 2 ^ 31) × (p.b1 < 2 ^ 31) × (p.b2 < 2 ^ 31) × (p.b3 < 2 ^ 31) × (p.b4 < 2 ^ 31) × (p.b5 < 2 ^ 31) × (p.b6 < 2 ^ 31)
 small c = (omega arith, omega arith, omega arith, omega arith, omega arith, omega arith, omega arith)
 
 kept : tie.Need-returns
 kept c =
-    let g = c.before in
-    let f = g.before.before.before.before in
-    let e = f.before.before.before.before in
-    let d = e.before.before.before.before in
-    let k3 = d.before.before.before.before in
-    let k2 = k3.before.before.before.before in
-    let k1 = k2.before.before.before.before in
-    let a = k1.before.before.before.args in
+    let g = c in
+    let f = c in
+    let e = c in
+    let d = c in
+    let k3 = c in
+    let k2 = c in
+    let k1 = c in
+    let a = k1.args in
     let p = a.points in
-    let w = small k1.before in
-    kept_seven a.numbers-1.now a.index p.b0 p.b1 p.b2 p.b3 p.b4 p.b5 p.b6
+    let w = small c.before.before.before.before.before.before.before.before.before.before.before.before.before.before.before.before.before.before.before.before.before.before.before.before.before.before in
+    kept_seven a.numbers.now a.index p.b0 p.b1 p.b2 p.b3 p.b4 p.b5 p.b6
     (as_signed p.b0 w.0)
     (as_signed p.b1 w.1)
     (as_signed p.b2 w.2)

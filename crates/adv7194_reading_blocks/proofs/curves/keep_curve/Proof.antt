@@ -7,12 +7,12 @@ use Rattle.adv7194_reading_blocks.proofs.curves.keep_curve.Tie as tie
 
 returns : tie.Need-returns
 returns c =
-    let b = c.before in
-    let k3 = b.before.before.before in
-    let k2 = k3.before.before.before in
-    let k1 = k2.before.before.before in
-    let a = k1.before.before.args in
-    kept-curve a.numbers-1.now a.index (bytes_in a.points) k1.keep.ensures k2.keep-2.ensures k3.keep-3.ensures b.keep_bytes.ensures
+    let b = c in
+    let k3 = c in
+    let k2 = c in
+    let k1 = c in
+    let a = k1.args in
+    kept-curve a.numbers.now a.index (bytes_in a.points) k1.keep.ensures k2.keep-2.ensures k3.keep-3.ensures b.keep_bytes.ensures
 
 pub keep_curve_spec : {M : Type 1} → statement M
 keep_curve_spec =

@@ -22,32 +22,32 @@ start c = c.before.before.before
 bytes : (c : tie.After-curve_setting)
     → curve_read_as c.curve_setting.result ≡ accepted (slice 0 (start c).args.image.now (block_of (start c).args.packed).register 7)
 bytes c =
-    let e = ap (λ (b : Block). b.register) c.before.Block-of.ensures in
+    let e = ap (λ (b : Block). b.register) c.Block-of.ensures in
     let image = (start c).args.image.now in
-    bytes_read c.before.Block-of.result.register (length image) c.curve_setting.ensures
+    bytes_read c.Block-of.result.register (length image) c.curve_setting.ensures
     (subst (λ (r : ℕ). r + 7 ≤ length image) (sym e) (start c).requires.1)
     ∙ ap (λ (r : ℕ). accepted (slice 0 image r 7)) e
 
 returns : tie.Need-returns-in_default
-returns c = absurd (never_refused (bytes c.before.before) (ap curve_read_as c.enum_told-1.given.1))
+returns c = absurd (never_refused (bytes c.before) (ap curve_read_as c.in_default.is))
 
 keep-curve-requires : tie.Need-keep_curve-requires
 keep-curve-requires c κs =
-    let e = ap (λ (b : Block). b.index) c.before.before.before.before.before.Block-of.ensures in
+    let e = ap (λ (b : Block). b.index) c.Block-of.ensures in
     omega arith
 
 returns-2 : tie.Need-returns
 returns-2 c =
-    let k = c.before in
-    let p = k.before.before.before in
-    let q = p.before.before in
+    let k = c in
+    let p = c in
+    let q = c.before.before.before.before in
     let s = start q in
     let b = block_of s.args.packed in
-    let zs = s.args.numbers-1.now in (
+    let zs = s.args.numbers.now in (
       sym (after-good _),
-      kept_block s.args.image.now zs b s.requires.0 (same_bytes_lem (bytes q) (ap curve_read_as p.points-1.given.1))
+      kept_block s.args.image.now zs b s.requires.0 (same_bytes_lem (bytes q) (ap curve_read_as p.in-Points.is))
           (k.keep_curve.ensures
-          ∙ ap (λ (x : Block). store_from zs x.index (curve_numbers (bytes_in p.points-1.given.0.0))) q.before.Block-of.ensures),
+          ∙ ap (λ (x : Block). store_from zs x.index (curve_numbers (bytes_in p.in-Points.points))) q.Block-of.ensures),
     )
 
 pub read_curve_spec : {M : Type 1} → statement M

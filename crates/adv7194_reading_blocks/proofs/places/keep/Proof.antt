@@ -6,7 +6,12 @@ use Rattle.adv7194_reading_blocks.proofs.places.keep.Statement.{statement}
 use Rattle.adv7194_reading_blocks.proofs.places.keep.Tie as tie
 
 returns-2 : tie.Need-returns-else-index-numbers
-returns-2 c = sym (set_out c.before.args.numbers.now _ _ c.if-index-numbers.false)
+returns-2 c = sym (set_out c.args.numbers.now _ _ c.if-index-numbers.false)
 
 pub keep_spec : {M : Type 1} → statement M
-keep_spec = tie.close (tie.spec (λ c. search rules) (λ c. search rules) (λ c. search rules) (λ c. search rules) returns-2)
+keep_spec = tie.close (tie.spec
+    (λ c. search rules)
+    (λ c. search rules)
+    (λ c. search rules)
+    (λ c. search rules)
+    returns-2)

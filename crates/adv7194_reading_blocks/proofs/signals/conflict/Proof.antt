@@ -15,13 +15,13 @@ use Rattle.adv7194_reading_blocks.proofs.signals.conflict.Tie as tie
 
 -- the test is that of the standard read
 judged : (c : tie.After-held_conflict) →
-    c.held_conflict.result ≡ held_conflict (given c.before.before.before.args.numbers.now standard.row) (c.before.before.before.args.r19 ∷ [])
+    c.held_conflict.result ≡ held_conflict (given c.args.numbers.now standard.row) (c.args.r19 ∷ [])
 judged c =
-    let g = c.before.given in
+    let g = c.given in
     c.held_conflict.ensures
-    ∙ ap (λ (z : ℤ). held_conflict z (c.before.before.before.args.r19 ∷ []))
-    (to_z-of_z w32 g.result (record { sfits = g.type-inv }) ∙ g.ensures
-    ∙ ap (given c.before.before.before.args.numbers.now) c.before.before.row_of.ensures)
+    ∙ ap (λ (z : ℤ). held_conflict z (c.args.r19 ∷ []))
+    (to_z-of_z w32 g.result (record { sfits = g.type_inv }) ∙ g.ensures
+    ∙ ap (given c.args.numbers.now) c.row_of.ensures)
 
 returns : tie.Need-returns-then-held_conflict
 returns c = ap (λ (b : Bool). fault_where b 7 11) (sym c.if-held_conflict.true ∙ judged c.before)
@@ -31,4 +31,9 @@ returns-2 c = ap (λ (b : Bool). fault_where b 7 11) (sym c.if-held_conflict.fal
 
 pub conflict_spec : {M : Type 1} → statement M
 conflict_spec =
-    tie.close (tie.spec (λ c κs. search rules) (λ c κs. search rules) (λ c κs. search rules) returns returns-2)
+    tie.close (tie.spec
+    (λ c κs. search rules)
+    (λ c κs. search rules)
+    (λ c κs. search rules)
+    returns
+    returns-2)

@@ -16,46 +16,46 @@ use Rattle.adv7194_reading_blocks.proofs.signals.read_signalling.Statement.{stat
 use Rattle.adv7194_reading_blocks.proofs.signals.read_signalling.Tie as tie
 
 abbrev start : tie.After-signalling_setting-read → tie.Start
-start c = c.before.before.before.before.before.before
+start c = c.before.before.before.before.before
 
 -- what was read
 reading_of : (c : tie.After-signalling_setting-read) → read_as c.signalling_setting-read.result ≡ block_reading (start c).args.image.now signals signalling
-reading_of c = c.signalling_setting-read.ensures ∙ ap signalling_held c.before.before.before.before.registers-held.ensures
+reading_of c = c.signalling_setting-read.ensures ∙ ap signalling_held c.registers-held.ensures
 
 -- row 7, after the fields before
 judged_of : (c : tie.After-signalling_setting-read)
-    → checked_as c.before.then-judged.result
-    ≡ after (checked_as (start c).args.before) (conflict_by (start c).args.image.now (given (start c).args.numbers-1.now standard.row))
+    → checked_as c.then-judged.result
+    ≡ after (checked_as (start c).args.before) (conflict_by (start c).args.image.now (given (start c).args.numbers.now standard.row))
 judged_of c =
-    let t = c.before in
+    let t = c in
     let a = (start c).args in
-    let held = t.before.before.before.registers-held in
-    conflict_step a.image.now (given a.numbers-1.now standard.row) (checked_as a.before) held.result held.ensures
-    t.then-judged.ensures t.before.conflict.ensures
+    let held = t.registers-held in
+    conflict_step a.image.now (given a.numbers.now standard.row) (checked_as a.before) held.result held.ensures
+    t.then-judged.ensures t.conflict.ensures
 
 returns : tie.Need-returns-in_default
 returns c =
-    let f = c.before in
-    let k = f.before.before in
-    let t = k.before.before.before in
-    let q = t.before.before in
+    let f = c in
+    let k = c in
+    let t = c in
+    let q = c.before.before.before.before.before.before.before in
     let a = (start q).args in
     let e = reading_of q in
-    let w : refused _ ≡ block_reading a.image.now signals signalling = sym (ap read_as t.enum_told-1.given.1) ∙ e in (
-      refused_verdict a.image.now (given a.numbers-1.now standard.row) (checked_as a.before) e (judged_of q) f.fault.ensures c.then.ensures,
-      refused-numbers a.image.now a.numbers-1.now w k.keep_signalling.ensures k.before.none.ensures,
+    let w : refused _ ≡ block_reading a.image.now signals signalling = sym (ap read_as t.in_default.is) ∙ e in (
+      refused_verdict a.image.now (given a.numbers.now standard.row) (checked_as a.before) e (judged_of q) f.fault.ensures c.then.ensures,
+      refused-numbers a.image.now a.numbers.now w k.keep_signalling.ensures k.none.ensures,
     )
 
 returns-2 : tie.Need-returns
 returns-2 c =
-    let k = c.before in
-    let t = k.before.before in
-    let q = t.before.before.before in
+    let k = c in
+    let t = c in
+    let q = c.before.before.before.before in
     let a = (start q).args in
     let e = reading_of q in
-    let w : accepted (numbers_of _) ≡ block_reading a.image.now signals signalling = sym (ap read_as t.before.read-1.given.1) ∙ e in (
-      good_verdict a.image.now (given a.numbers-1.now standard.row) (checked_as a.before) w (judged_of q),
-      good-numbers a.image.now a.numbers-1.now _ _ _ _ _ w k.keep_signalling-2.ensures,
+    let w : accepted (numbers_of _) ≡ block_reading a.image.now signals signalling = sym (ap read_as t.in-Setting.is) ∙ e in (
+      good_verdict a.image.now (given a.numbers.now standard.row) (checked_as a.before) w (judged_of q),
+      good-numbers a.image.now a.numbers.now _ _ _ _ _ w k.keep_signalling-2.ensures,
     )
 
 pub read_signalling_spec : {M : Type 1} → statement M

@@ -9,4 +9,8 @@ unfolding slice
 returns c = cc
 
 pub registers_spec : {M : Type 1} → statement M
-registers_spec = tie.close (tie.spec (λ c κs. search rules) (λ c κs. search rules) (λ c κs. search rules) returns)
+registers_spec = tie.close (tie.spec
+    (λ c κs. search rules)
+    (λ c κs. search rules)
+    (λ c κs. search rules)
+    returns)

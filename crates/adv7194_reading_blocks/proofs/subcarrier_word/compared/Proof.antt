@@ -13,14 +13,14 @@ use Rattle.field_table.specs.Blocks.{slice}
 
 -- the bytes of the registers
 bytes : (c : tie.After-byte-4)
-    → (c.before.before.before.byte.result ∷ c.before.before.byte-2.result ∷ c.before.byte-3.result ∷ c.byte-4.result ∷ [])
-    ≡ bytes_in c.before.before.before.before.before.args.image.now word
+    → (c.byte.result ∷ c.byte-2.result ∷ c.byte-3.result ∷ c.byte-4.result ∷ [])
+    ≡ bytes_in c.args.image.now word
 unfolding slice
 bytes c = cc
 
 returns : tie.Need-returns
 returns c =
-    let s = c.before.before.before.before.before.before in
+    let s = c in
     c.word_setting.ensures
     ∙ same_reading (bytes c.before) (to_z-of_z w32 s.args.standard s.ranges.standard) (to_z-of_z w32 s.args.square s.ranges.square)
 

@@ -4,7 +4,11 @@ use Rattle.adv7194_reading_blocks.proofs.subcarrier_word.fault.Statement.{statem
 use Rattle.adv7194_reading_blocks.proofs.subcarrier_word.fault.Tie as tie
 
 returns-2 : tie.Need-returns-in-Refused
-returns-2 c = rw c.before.read-1.given.1
+returns-2 c = rw c.in-Refused.is
 
 pub fault_spec : {M : Type 1} → statement M
-fault_spec = tie.close (tie.spec (λ c. search rules) (λ c. search rules) (λ c. search rules) returns-2)
+fault_spec = tie.close (tie.spec
+    (λ c. search rules)
+    (λ c. search rules)
+    (λ c. search rules)
+    returns-2)

@@ -24,23 +24,23 @@ reading : (c : tie.After-compared-read)
     ≡ word_reading (bytes_in (start c).args.image.now word) (given (start c).args.numbers.now standard.row)
     (given (start c).args.numbers.now square_pixel.row)
 reading c =
-    let b = c.before in
-    let a = b.before.before in
+    let b = c in
+    let a = c in
     let zs = (start c).args.numbers.now in
     c.compared-read.ensures
     ∙ same_reading refl
-    (to_z-of_z w32 a.given-standard.result (record { sfits = a.given-standard.type-inv }) ∙ a.given-standard.ensures ∙ ap (given zs) a.before.row_of.ensures)
-    (to_z-of_z w32 b.given-square.result (record { sfits = b.given-square.type-inv }) ∙ b.given-square.ensures ∙ ap (given zs) b.before.row_of-2.ensures)
+    (to_z-of_z w32 a.given-standard.result (record { sfits = a.given-standard.type_inv }) ∙ a.given-standard.ensures ∙ ap (given zs) a.row_of.ensures)
+    (to_z-of_z w32 b.given-square.result (record { sfits = b.given-square.type_inv }) ∙ b.given-square.ensures ∙ ap (given zs) b.row_of-2.ensures)
 
 returns : tie.Need-returns-in_default
 returns c =
-    let k = c.before.before.before.before in
-    c.then.ensures ∙ ap (after (checked_as (start k).args.before)) (c.before.fault.ensures ∙ ap (fault_of 28) (reading k))
+    let k = c.before.before.before in
+    c.then.ensures ∙ ap (after (checked_as (start k).args.before)) (c.fault.ensures ∙ ap (fault_of 28) (reading k))
 
 returns-2 : tie.Need-returns
 returns-2 c =
-    let k = c.before.before in
-    agrees (checked_as (start k).args.before) (reading k) (ap word_read_as c.enum_told-1.given-standard.1)
+    let k = c.before in
+    agrees (checked_as (start k).args.before) (reading k) (ap word_read_as c.in-Agrees.is)
 
 pub read_word_spec : {M : Type 1} → statement M
 read_word_spec =

@@ -9,11 +9,11 @@ use Rattle.adv7194_reading_rows.proofs.brightness.read_brightness.Tie as tie
 
 returns : tie.Need-returns
 returns c =
-    let w = c.before in
-    let k = w.before.before in
-    let a = k.before.before.before.before.args in
-    read_by brightness a.image.now (checked_as a.before) a.numbers-1.now k.brightness_setting-decoded.ensures k.before.held.ensures
-    k.before.before.row_of.ensures w.read_decoded.ensures
+    let w = c in
+    let k = c in
+    let a = k.args in
+    read_by brightness a.image.now (checked_as a.before) a.numbers.now k.brightness_setting-decoded.ensures k.held.ensures
+    k.row_of.ensures w.read_decoded.ensures
 
 pub read_brightness_spec : {M : Type 1} → statement M
 read_brightness_spec =

@@ -27,16 +27,16 @@ zero-mask-22 = refl
 returns : tie.Need-returns
 unfolding picture
 returns c =
-    let c8 = c.before in
-    let c7 = c8.before.before.before in
-    let c6 = c7.before.before.before in
-    let c5 = c6.before.before.before in
-    let c4 = c5.before.before.before in
-    let c3 = c4.before.before.before in
-    let c2 = c3.before.before.before in
-    let c1 = c2.before.before.before in
-    let s = c1.before.before.before in
-    let s0 = held_none {image = s.args.image.now} {v = checked_as s.args.before} {zs = s.args.numbers-1.now} in
+    let c8 = c in
+    let c7 = c in
+    let c6 = c in
+    let c5 = c in
+    let c4 = c in
+    let c3 = c in
+    let c2 = c in
+    let c1 = c in
+    let s = c in
+    let s0 = held_none {image = s.args.image.now} {v = checked_as s.args.before} {zs = s.args.numbers.now} in
     let s1 = read_next contrast c1.read_thousandths-contrast.ensures s0 in
     let s2 = read_next u_scale c2.read_thousandths-u_scale.ensures s1 in
     let s3 = read_next v_scale c3.read_thousandths-v_scale.ensures s2 in
@@ -45,7 +45,7 @@ returns c =
     let s6 = read_next (plain_of (row_of 0x10_FF_21_71_000_000_04)) c6.read_zero-brightness_zero.ensures s5 in
     let s7 = read_next sharpness c7.read_sharpness-sharpness.ensures s6 in
     let s8 = read_next (plain_of (row_of 0x11_FF_22_44_000_000_04)) c8.read_zero.ensures s7 in
-    (s8.verdict, s8.numbers-1)
+    (s8.verdict, s8.numbers)
 
 pub read_picture_spec : {M : Type 1} → statement M
 read_picture_spec =

@@ -11,20 +11,20 @@ use Rattle.adv7194_codes.specs.Thousandths.{in_thousandths}
 
 returns : tie.Need-returns
 returns c =
-    let w = c.before in
-    let k = w.before.before in
-    let a = k.before.before.before.before.args in
-    read_by (in_thousandths (row_of a.packed)) a.image.now (checked_as a.before) a.numbers-1.now
-    k.thousandths_setting-decoded.ensures k.before.held.ensures
-    k.before.before.row_of.ensures w.read_decoded.ensures
+    let w = c in
+    let k = c in
+    let a = k.args in
+    read_by (in_thousandths (row_of a.packed)) a.image.now (checked_as a.before) a.numbers.now
+    k.thousandths_setting-decoded.ensures k.held.ensures
+    k.row_of.ensures w.read_decoded.ensures
 
 pub read_thousandths_spec : {M : Type 1} → statement M
 read_thousandths_spec =
     tie.close
     (tie.spec
     (λ c κs. search rules)
-    (λ c κs. bits_fit_lem c.row_of.ensures (thousandths-bits _ c.before.before.requires))
-    (λ c κs. c.before.before.before.requires)
+    (λ c κs. bits_fit_lem c.row_of.ensures (thousandths-bits _ c.requires))
+    (λ c κs. c.requires)
     (λ c κs. search rules)
     (λ c. search rules)
     returns)

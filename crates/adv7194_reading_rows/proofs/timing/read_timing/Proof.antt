@@ -14,15 +14,15 @@ use Rattle.adv7194_reading_rows.proofs.timing.read_timing.Tie as tie
 returns : tie.Need-returns
 unfolding timing
 returns c =
-    let c3 = c.before in
-    let c2 = c3.before.before.before in
-    let c1 = c2.before.before.before in
-    let s = c1.before.before.before in
-    let s0 = held_none {image = s.args.image.now} {v = checked_as s.args.before} {zs = s.args.numbers-1.now} in
+    let c3 = c in
+    let c2 = c in
+    let c1 = c in
+    let s = c in
+    let s0 = held_none {image = s.args.image.now} {v = checked_as s.args.before} {zs = s.args.numbers.now} in
     let s1 = read_next (plain_of (row_of 0x01_00_00_02_000_001_04)) c1.read_row-standard.ensures s0 in
     let s2 = read_next (plain_of (row_of 0x02_01_02_41_000_001_04)) c2.read_row-square_pixel.ensures s1 in
     let s3 = read_next (plain_of (row_of 0x03_02_01_61_000_001_04)) c3.read_row.ensures s2 in
-    (s3.verdict, s3.numbers-1)
+    (s3.verdict, s3.numbers)
 
 pub read_timing_spec : {M : Type 1} → statement M
 read_timing_spec =

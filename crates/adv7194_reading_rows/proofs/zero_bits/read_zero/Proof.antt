@@ -9,10 +9,14 @@ use Rattle.adv7194_reading_rows.proofs.zero_bits_lem.read_zero.Tie as tie
 
 returns : tie.Need-returns
 returns c =
-    let w = c.before in
-    let k = w.before.before in
-    let s = k.before.before.args in
-    decoded_step s.image.now (plain_of (row_of s.packed)) (checked_as s.before) s.numbers-1.now k.zero_setting-decoded.ensures w.read_decoded.ensures
+    let w = c in
+    let k = c in
+    let s = k.args in
+    decoded_step s.image.now (plain_of (row_of s.packed)) (checked_as s.before) s.numbers.now k.zero_setting-decoded.ensures w.read_decoded.ensures
 
 pub read_zero_spec : {M : Type 1} → statement M
-read_zero_spec = tie.close (tie.spec (λ c κs. search rules) (λ c κs. search rules) (λ c. search rules) returns)
+read_zero_spec = tie.close (tie.spec
+    (λ c κs. search rules)
+    (λ c κs. search rules)
+    (λ c. search rules)
+    returns)

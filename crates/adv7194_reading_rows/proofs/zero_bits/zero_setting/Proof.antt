@@ -8,29 +8,35 @@ use Rattle.adv7194_reading_rows.proofs.zero_bits_lem.zero_setting.Statement.{sta
 use Rattle.adv7194_reading_rows.proofs.zero_bits_lem.zero_setting.Tie as tie
 
 -- the row's register
-at : (c : tie.After-row_of-register) → c.row_of-register.result.register ≡ (row_of c.before.before.args.packed).register
+at : (c : tie.After-row_of-register) → c.row_of-register.result.register ≡ (row_of c.args.packed).register
 at c = ap (λ (r : Row). r.register) c.row_of-register.ensures
 
 returns : tie.Need-returns-then-image-register-ne0
 returns c =
-    let m = c.before in
-    let k = m.before.before.before in
-    let s = k.before.before in
+    let m = c in
+    let k = c.before.before.before.before in
+    let s = c in
     set_read (row_of s.args.packed) s.requires s.args.image.now (at k) m.must_be_zero.ensures c.if-image-register-ne0.true
 
 returns-2 : tie.Need-returns-else-image-register-ne0
 returns-2 c =
-    let m = c.before in
-    let k = m.before.before.before in
-    let s = k.before.before in
+    let m = c in
+    let k = c.before.before.before.before in
+    let s = c in
     clear_read (row_of s.args.packed) s.requires s.args.image.now (at k) m.must_be_zero.ensures c.if-image-register-ne0.false
 
 returns-3 : tie.Need-returns-else-register-image
 returns-3 c =
     let k = c.before in
-    let s = k.before.before in
+    let s = c in
     past_read (row_of s.args.packed) s.requires s.args.image.now (at k) c.if-register-image.false
 
 pub zero_setting_spec : {M : Type 1} → statement M
 zero_setting_spec =
-    tie.close (tie.spec (λ c κs. search rules) (λ c. search rules) (λ c κs. search rules) returns returns-2 returns-3)
+    tie.close (tie.spec
+    (λ c κs. search rules)
+    (λ c. search rules)
+    (λ c κs. search rules)
+    returns
+    returns-2
+    returns-3)

@@ -24,19 +24,19 @@ loop-holds c = record { inside = omega arith; next = refl }
 
 returns : tie.Need-returns-then-has invariant-loop decreases-loop
 returns c =
-    let l = c.before.before.before in
-    down_here (has l.before.args.map) l.loop-at.at c.before.before.loop-at-test.true (sym c.before.has.ensures ∙ c.if-has.true)
+    let l = c in
+    down_here (has l.args.map) l.loop-at.at c.loop-at-test.true (sym c.has.ensures ∙ c.if-has.true)
     ∙ l.loop-at.invariant.next
 
 loop-again : tie.Need-loop-at-preserved invariant-loop decreases-loop
 loop-again c =
-    let l = c.before.before.before in
-    let h = c.before.before.loop-at-test.true in
-    let none = sym c.before.has.ensures ∙ c.if-has.false in
-    record { inside = omega arith; next = down_next (has l.before.args.map) l.loop-at.at h none ∙ l.loop-at.invariant.next }
+    let l = c in
+    let h = c.loop-at-test.true in
+    let none = sym c.has.ensures ∙ c.if-has.false in
+    record { inside = omega arith; next = down_next (has l.args.map) l.loop-at.at h none ∙ l.loop-at.invariant.next }
 
 returns-2 : tie.Need-returns invariant-loop decreases-loop
-returns-2 c = let l = c.before in down_none (has l.before.args.map) l.loop-at.at c.loop-at-test.false ∙ l.loop-at.invariant.next
+returns-2 c = let l = c in down_none (has l.args.map) l.loop-at.at c.loop-at-test.false ∙ l.loop-at.invariant.next
 
 pub next_below_spec : {M : Type 1} → statement M
 next_below_spec =

@@ -27,13 +27,17 @@ module _ (c : tie.After-has) where
   in_word_lem = c.has.ensures ∙ word-is register
 
 returns : tie.Need-returns-then-not-has
-returns c = let h = c.before in sym (ap (λ (b : Bool). b && another h) (sym (in_word_lem h) ∙ not-true _ c.if-not-has.true))
+returns c = let h = c in sym (ap (λ (b : Bool). b && another h) (sym (in_word_lem h) ∙ not-true _ c.if-not-has.true))
 
 returns-2 : tie.Need-returns
 returns-2 c =
-    let h = c.before in
-    some_other h.before.args.map (register h) h.before.requires
+    let h = c in
+    some_other h.args.map (register h) h.requires
     ∙ sym (ap (λ (b : Bool). b && another h) (sym (in_word_lem h) ∙ not-false _ c.if-not-has.false))
 
 pub with_other_spec : {M : Type 1} → statement M
-with_other_spec = tie.close (tie.spec (λ c κs. search rules) returns (λ c. search rules) returns-2)
+with_other_spec = tie.close (tie.spec
+    (λ c κs. search rules)
+    returns
+    (λ c. search rules)
+    returns-2)

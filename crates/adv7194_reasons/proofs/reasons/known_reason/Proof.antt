@@ -40,11 +40,11 @@ start c = c.before.before.before
 
 -- no field's bits change
 unchanged : (c : tie.Else-field-ne-NO_FIELD) → eqb (field (start c.before)) 0 ≡ true
-unchanged c = eq-eqb _ 0 (sym c.before.changed_field-field.ensures ∙ c.if-field-ne-NO_FIELD.false)
+unchanged c = eq-eqb _ 0 (sym c.changed_field-field.ensures ∙ c.if-field-ne-NO_FIELD.false)
 
 -- no must-be-zero bit was set
 clear : (c : tie.Else-zero_bits-ne0) → zero (start c.before.before.before) ≡ false
-clear c = ap not (eq-eqb _ 0 (sym c.before.zero_bits.ensures ∙ c.if-zero_bits-ne0.false))
+clear c = ap not (eq-eqb _ 0 (sym c.zero_bits.ensures ∙ c.if-zero_bits-ne0.false))
 
 -- the tests up to the second
 first_two : (c : tie.Else-zero_bits-ne0) (o : Bool) → (let s = start c.before.before.before in
@@ -63,28 +63,28 @@ returns c =
 
 returns-2 : tie.Need-returns-then-zero_bits-ne0
 returns-2 c =
-    let z = c.before in
-    let s = start z.before.before in
+    let z = c in
+    let s = start c.before.before.before in
     let set : zero s ≡ true = ap not (ne_eqb _ 0 (λ q. c.if-zero_bits-ne0.true (z.zero_bits.ensures ∙ q))) in
     ap good
     (sym
-    (ap (λ (b : Bool). tests (field s) (last s) b (zero s) (other s)) (unchanged z.before)
+    (ap (λ (b : Bool). tests (field s) (last s) b (zero s) (other s)) (unchanged c.before.before)
     ∙ ap (λ (b : Bool). tests (field s) (last s) true b (other s)) set))
 
 returns-3 : tie.Need-returns-then-with_other
 returns-3 c =
-    let w = c.before in
-    let e = w.before in
-    let s = start e.before.before.before in
+    let w = c in
+    let e = c.before.before in
+    let s = start c.before.before.before.before.before in
     ap good (sym (first_two e (other s) ∙ ap (λ (b : Bool). tests (field s) (last s) true false b) (sym w.with_other.ensures ∙ c.if-with_other.true)))
 
 returns-4 : tie.Need-returns
 returns-4 c =
-    let n = c.before in
-    let d = n.before in
-    let w = d.before in
-    let e = w.before in
-    let s = start e.before.before.before in
+    let n = c in
+    let d = c in
+    let w = c in
+    let e = c.before.before.before.before in
+    let s = start c.before.before.before.before.before.before.before in
     ap good
     (ap₂ (λ (x y : ℕ). bridge x y) n.next_below.ensures c.next_above.ensures
     ∙ sym (first_two e (other s) ∙ ap (λ (b : Bool). tests (field s) (last s) true false b) (sym w.with_other.ensures ∙ d.if-with_other.false)))

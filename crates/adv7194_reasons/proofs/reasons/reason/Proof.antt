@@ -30,7 +30,7 @@ aim s = aim_by s.args.board s.args.wanted.now s.args.fixed s.args.limit
 
 register-maps-requires : tie.Need-register_maps-maps-requires
 register-maps-requires c κs =
-    let s = c.before.before in
+    let s = c in
     comparable s.args.board s.args.wanted.now s.args.fixed s.args.limit s.requires.change
 
 plan-spans-requires : tie.Need-plan_spans-sent-requires
@@ -55,45 +55,45 @@ taken_is p x =
 -- the register is sent
 sent : (c : tie.Else-not-has) → (let s = start c.before.before.before in touched (plan_of (aim s)) s.args.register ≡ true)
 sent c =
-    let h = c.before in
-    sym (taken_is h.before (start h.before.before).args.register) ∙ sym h.has.ensures ∙ not-false _ c.if-not-has.false
+    let h = c in
+    sym (taken_is c.before.before (start c.before.before.before).args.register) ∙ sym h.has.ensures ∙ not-false _ c.if-not-has.false
 
 -- it is known
 known : (c : tie.Else-not-has-2) → (let s = start c.before.before.before.before.before in knows s.args.board s.args.register ≡ true)
-known c = sym c.before.has-2.ensures ∙ not-false _ c.if-not-has-2.false
+known c = sym c.has-2.ensures ∙ not-false _ c.if-not-has-2.false
 
 -- ---- the answers
 
 returns : tie.Need-returns-then-not-has
 returns c =
-    let h = c.before in
-    let s = start h.before.before in
+    let h = c in
+    let s = start c.before.before.before in
     ap good
     (sym
     (not_touched (aim s) (plan_of (aim s)) s.args.register
-    (sym (taken_is h.before s.args.register) ∙ sym h.has.ensures ∙ not-true _ c.if-not-has.true)))
+    (sym (taken_is c.before.before s.args.register) ∙ sym h.has.ensures ∙ not-true _ c.if-not-has.true)))
 
 returns-2 : tie.Need-returns-then-not-has-2
 returns-2 c =
-    let h = c.before in
-    let s = start h.before.before.before.before in
+    let h = c in
+    let s = start c.before.before.before.before.before in
     ap good
-    (sym (not_known_lem (aim s) (plan_of (aim s)) s.args.register (sent h.before) (sym h.has-2.ensures ∙ not-true _ c.if-not-has-2.true)))
+    (sym (not_known_lem (aim s) (plan_of (aim s)) s.args.register (sent c.before.before) (sym h.has-2.ensures ∙ not-true _ c.if-not-has-2.true)))
 
 known-reason-requires : tie.Need-known_reason-requires
 known-reason-requires c κs =
     let e = c.before.before.before in
-    let s = start e.before.before.before in
+    let s = start c.before.before.before.before.before.before in
     plan-inside (aim s) s.requires.change s.args.register (sent e)
 
 returns-3 : tie.Need-returns
 returns-3 c =
     let d = c.before.before in
-    let e = d.before.before in
-    let m = e.before.before.before in
+    let e = c.before.before.before.before in
+    let m = c.before.before.before.before.before.before.before in
     let s = start m in
     c.known_reason.ensures
-    ∙ ap (λ (P : ℕ → Bool). good (known_reason s.args.board.registers-1 s.args.wanted.now P s.args.register))
+    ∙ ap (λ (P : ℕ → Bool). good (known_reason s.args.board.registers s.args.wanted.now P s.args.register))
     (fun_ext (m.register_maps-maps.ensures s.args.limit).musts)
     ∙ ap good (sym (is_known (aim s) (plan_of (aim s)) s.args.register (sent e) (known d) s.requires.answer))
 

@@ -11,17 +11,23 @@ use Rattle.adv7194_setting_rows.proofs.clamp_delay.want_clamp_delay.Statement.{s
 use Rattle.adv7194_setting_rows.proofs.clamp_delay.want_clamp_delay.Tie as tie
 
 want-coded-requires : tie.Need-want_coded-requires
-want-coded-requires c κs = (tt, subst (λ (j : Judged ℕ). value_or 0 j < 2 ^ 3) (sym c.before.clamp_delay_code-coded.ensures) (clamp_delay-fits _))
+want-coded-requires c κs = (tt, subst (λ (j : Judged ℕ). value_or 0 j < 2 ^ 3) (sym c.clamp_delay_code-coded.ensures) (clamp_delay-fits _))
 
 returns : tie.Need-returns
 returns c =
-    let w = c.before.before in
-    let k = w.before.before in
-    let g = k.before.given in
-    let a = k.before.before.before.before.args in
-    want_by clamp_delay a.numbers.now (checked_as a.before) a.image-1.now k.clamp_delay_code-coded.ensures g.type-inv g.ensures
-    k.before.before.row_of.ensures w.want_coded.ensures
+    let w = c in
+    let k = c in
+    let g = k.given in
+    let a = k.args in
+    want_by clamp_delay a.numbers.now (checked_as a.before) a.image.now k.clamp_delay_code-coded.ensures g.type_inv g.ensures
+    k.row_of.ensures w.want_coded.ensures
 
 pub want_clamp_delay_spec : {M : Type 1} → statement M
 want_clamp_delay_spec =
-    tie.close (tie.spec (λ c κs. search rules) (λ c κs. search rules) (λ c κs. search rules) want-coded-requires (λ c. search rules) returns)
+    tie.close (tie.spec
+    (λ c κs. search rules)
+    (λ c κs. search rules)
+    (λ c κs. search rules)
+    want-coded-requires
+    (λ c. search rules)
+    returns)

@@ -14,14 +14,14 @@ use Rattle.adv7194_setting_rows.proofs.output.want_output.Tie as tie
 returns : tie.Need-returns
 unfolding output
 returns c =
-    let c6 = c.before.before in
-    let c5 = c6.before.before.before.before in
-    let c4 = c5.before.before.before.before in
-    let c3 = c4.before.before.before.before in
-    let c2 = c3.before.before.before.before in
-    let c1 = c2.before.before.before.before in
-    let s = c1.before.before.before in
-    let s0 = want_none {zs = s.args.numbers.now} {v = checked_as s.args.before} {image = s.args.image-1.now} in
+    let c6 = c in
+    let c5 = c in
+    let c4 = c in
+    let c3 = c in
+    let c2 = c in
+    let c1 = c in
+    let s = c in
+    let s0 = want_none {zs = s.args.numbers.now} {v = checked_as s.args.before} {image = s.args.image.now} in
     let s1 = want_next (plain_of (row_of 0x05_04_05_01_000_001_04)) c1.want_row-y_level.ensures s0 in
     let s2 = want_next (plain_of (row_of 0x06_05_05_12_000_002_04)) c2.want_row-uv_level.ensures s1 in
     let s3 = want_next (plain_of (row_of 0x07_06_05_31_000_001_04)) c3.want_row-rgb_sync.ensures s2 in

@@ -14,16 +14,16 @@ use Rattle.adv7194_setting_rows.proofs.picture.want_picture.Tie as tie
 returns : tie.Need-returns
 unfolding picture
 returns c =
-    let c8 = c.before.before in
-    let c7 = c8.before.before.before.before in
-    let c6 = c7.before.before.before.before in
-    let c5 = c6.before.before.before.before in
-    let c4 = c5.before.before.before.before in
-    let c3 = c4.before.before.before.before in
-    let c2 = c3.before.before.before.before in
-    let c1 = c2.before.before.before.before in
-    let s = c1.before.before.before in
-    let s0 = want_none {zs = s.args.numbers.now} {v = checked_as s.args.before} {image = s.args.image-1.now} in
+    let c8 = c in
+    let c7 = c in
+    let c6 = c in
+    let c5 = c in
+    let c4 = c in
+    let c3 = c in
+    let c2 = c in
+    let c1 = c in
+    let s = c in
+    let s0 = want_none {zs = s.args.numbers.now} {v = checked_as s.args.before} {image = s.args.image.now} in
     let s1 = want_next contrast c1.want_thousandths-contrast.ensures s0 in
     let s2 = want_next u_scale c2.want_thousandths-u_scale.ensures s1 in
     let s3 = want_next v_scale c3.want_thousandths-v_scale.ensures s2 in

@@ -11,17 +11,23 @@ use Rattle.adv7194_setting_rows.proofs.sharpness.want_sharpness.Statement.{state
 use Rattle.adv7194_setting_rows.proofs.sharpness.want_sharpness.Tie as tie
 
 want-coded-requires : tie.Need-want_coded-requires
-want-coded-requires c κs = (tt, subst (λ (j : Judged ℕ). value_or 0 j < 2 ^ 4) (sym c.before.sharpness_code-coded.ensures) (sharpness-fits _))
+want-coded-requires c κs = (tt, subst (λ (j : Judged ℕ). value_or 0 j < 2 ^ 4) (sym c.sharpness_code-coded.ensures) (sharpness-fits _))
 
 returns : tie.Need-returns
 returns c =
-    let w = c.before.before in
-    let k = w.before.before in
-    let g = k.before.given in
-    let a = k.before.before.before.before.args in
-    want_by sharpness a.numbers.now (checked_as a.before) a.image-1.now k.sharpness_code-coded.ensures g.type-inv g.ensures
-    k.before.before.row_of.ensures w.want_coded.ensures
+    let w = c in
+    let k = c in
+    let g = k.given in
+    let a = k.args in
+    want_by sharpness a.numbers.now (checked_as a.before) a.image.now k.sharpness_code-coded.ensures g.type_inv g.ensures
+    k.row_of.ensures w.want_coded.ensures
 
 pub want_sharpness_spec : {M : Type 1} → statement M
 want_sharpness_spec =
-    tie.close (tie.spec (λ c κs. search rules) (λ c κs. search rules) (λ c κs. search rules) want-coded-requires (λ c. search rules) returns)
+    tie.close (tie.spec
+    (λ c κs. search rules)
+    (λ c κs. search rules)
+    (λ c κs. search rules)
+    want-coded-requires
+    (λ c. search rules)
+    returns)

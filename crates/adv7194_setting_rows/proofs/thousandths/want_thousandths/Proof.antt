@@ -13,20 +13,20 @@ use Rattle.adv7194_codes.specs.Thousandths.{in_thousandths}
 
 want-coded-requires : tie.Need-want_coded-requires
 want-coded-requires c κs =
-    let s = c.before.before.before.before.before in
+    let s = c in
     let r = row_of s.args.packed in (
       thousandths-bits r s.requires,
-      subst (λ (j : Judged ℕ). value_or 0 j < 2 ^ r.width) (sym c.before.thousandths_code-coded.ensures) (thousandths_fit r s.requires _),
+      subst (λ (j : Judged ℕ). value_or 0 j < 2 ^ r.width) (sym c.thousandths_code-coded.ensures) (thousandths_fit r s.requires _),
     )
 
 returns : tie.Need-returns
 returns c =
-    let w = c.before.before in
-    let k = w.before.before in
-    let g = k.before.given in
-    let a = k.before.before.before.before.args in
-    want_by (in_thousandths (row_of a.packed)) a.numbers.now (checked_as a.before) a.image-1.now k.thousandths_code-coded.ensures g.type-inv g.ensures
-    k.before.before.row_of.ensures w.want_coded.ensures
+    let w = c in
+    let k = c in
+    let g = k.given in
+    let a = k.args in
+    want_by (in_thousandths (row_of a.packed)) a.numbers.now (checked_as a.before) a.image.now k.thousandths_code-coded.ensures g.type_inv g.ensures
+    k.row_of.ensures w.want_coded.ensures
 
 pub want_thousandths_spec : {M : Type 1} → statement M
 want_thousandths_spec =
@@ -34,7 +34,7 @@ want_thousandths_spec =
     (tie.spec
     (λ c κs. search rules)
     (λ c κs. search rules)
-    (λ c κs. c.before.before.before.requires)
+    (λ c κs. c.requires)
     want-coded-requires
     (λ c. search rules)
     returns)

@@ -14,11 +14,11 @@ use Rattle.adv7194_setting_rows.proofs.timing.want_timing.Tie as tie
 returns : tie.Need-returns
 unfolding timing
 returns c =
-    let c3 = c.before.before in
-    let c2 = c3.before.before.before.before in
-    let c1 = c2.before.before.before.before in
-    let s = c1.before.before.before in
-    let s0 = want_none {zs = s.args.numbers.now} {v = checked_as s.args.before} {image = s.args.image-1.now} in
+    let c3 = c in
+    let c2 = c in
+    let c1 = c in
+    let s = c in
+    let s0 = want_none {zs = s.args.numbers.now} {v = checked_as s.args.before} {image = s.args.image.now} in
     let s1 = want_next (plain_of (row_of 0x01_00_00_02_000_001_04)) c1.want_row-standard.ensures s0 in
     let s2 = want_next (plain_of (row_of 0x02_01_02_41_000_001_04)) c2.want_row-square_pixel.ensures s1 in
     let s3 = want_next (plain_of (row_of 0x03_02_01_61_000_001_04)) c3.want_row.ensures s2 in

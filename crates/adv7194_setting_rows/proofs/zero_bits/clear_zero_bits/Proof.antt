@@ -7,17 +7,17 @@ use Rattle.adv7194_setting_rows.proofs.ZeroLaws.{clear_there, clear-past}
 use Rattle.adv7194_setting_rows.proofs.zero_bits_lem.clear_zero_bits.Statement.{statement}
 use Rattle.adv7194_setting_rows.proofs.zero_bits_lem.clear_zero_bits.Tie as tie
 
-register : (c : tie.After-row_of-register) → c.row_of-register.result.register ≡ (row_of c.before.before.args.packed).register
+register : (c : tie.After-row_of-register) → c.row_of-register.result.register ≡ (row_of c.args.packed).register
 register c = ap (λ (r : Row). r.register) c.row_of-register.ensures
 
 returns : tie.Need-returns-then-register-image
 returns c =
-    let m = c.before in
-    let k = m.before.before.before in
-    clear_there k.before.before.args.image.now (register k) c.without.ensures.0 m.must_be_zero.ensures c.without.ensures.1
+    let m = c in
+    let k = c.before.before.before.before in
+    clear_there k.args.image.now (register k) c.without.ensures.0 m.must_be_zero.ensures c.without.ensures.1
 
 returns-2 : tie.Need-returns-else-register-image
-returns-2 c = let k = c.before in clear-past k.before.before.args.image.now (register k) c.if-register-image.false
+returns-2 c = let k = c.before in clear-past k.args.image.now (register k) c.if-register-image.false
 
 pub clear_zero_bits_spec : {M : Type 1} → statement M
 clear_zero_bits_spec =

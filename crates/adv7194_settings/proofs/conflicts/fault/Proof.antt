@@ -7,4 +7,6 @@ returns : tie.Need-returns-then-conflict
 returns c = rw c.if-conflict.true
 
 pub fault_spec : {M : Type 1} → statement M
-fault_spec = tie.close (tie.spec returns (λ c. search rules))
+fault_spec = tie.close (tie.spec
+    returns
+    (λ c. search rules))

@@ -10,8 +10,11 @@ use Rattle.adv7194_settings.proofs.conflicts.is_one.Tie as tie
 
 returns : tie.Need-returns
 returns c =
-    is-bits 1 c.given.result (lit< tt) c.given.type-inv
-    ∙ ap (is 1) (c.given.ensures ∙ ap (given c.before.before.args.numbers.now) c.before.row_of.ensures)
+    is-bits 1 c.given.result (lit< tt) c.given.type_inv
+    ∙ ap (is 1) (c.given.ensures ∙ ap (given c.args.numbers.now) c.row_of.ensures)
 
 pub is_one_spec : {M : Type 1} → statement M
-is_one_spec = tie.close (tie.spec (λ c κs. search rules) (λ c κs. search rules) returns)
+is_one_spec = tie.close (tie.spec
+    (λ c κs. search rules)
+    (λ c κs. search rules)
+    returns)

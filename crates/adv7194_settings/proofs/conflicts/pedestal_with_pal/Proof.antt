@@ -11,12 +11,12 @@ use Rattle.adv7194_settings.proofs.conflicts.pedestal_with_pal.Tie as tie
 
 returns : tie.Need-returns
 returns c =
-    let r = c.before.before in
-    let b = r.before in
+    let r = c in
+    let b = c in
     c.then.ensures
-    ∙ ap (after (checked_as b.before.before.args.before))
-    (c.before.fault.ensures
-    ∙ ap₂ (λ (t : Bool) (f : ℕ). fault_where t 6 f) (ap₂ ◌&&◌ b.before.is_one-pedestal.ensures b.is_one-pal.ensures)
+    ∙ ap (after (checked_as b.args.before))
+    (c.fault.ensures
+    ∙ ap₂ (λ (t : Bool) (f : ℕ). fault_where t 6 f) (ap₂ ◌&&◌ b.is_one-pedestal.ensures b.is_one-pal.ensures)
     (ap (λ (x : Row). x.field) r.row_of.ensures))
 
 pub pedestal_with_pal_spec : {M : Type 1} → statement M

@@ -11,12 +11,12 @@ use Rattle.adv7194_settings.proofs.conflicts.square_with_oversampling.Tie as tie
 
 returns : tie.Need-returns
 returns c =
-    let r = c.before.before in
-    let b = r.before in
+    let r = c in
+    let b = c in
     c.then.ensures
-    ∙ ap (after (checked_as b.before.before.args.before))
-    (c.before.fault.ensures
-    ∙ ap₂ (λ (t : Bool) (f : ℕ). fault_where t 5 f) (ap₂ ◌&&◌ b.before.is_one-square.ensures b.is_one-oversampling.ensures)
+    ∙ ap (after (checked_as b.args.before))
+    (c.fault.ensures
+    ∙ ap₂ (λ (t : Bool) (f : ℕ). fault_where t 5 f) (ap₂ ◌&&◌ b.is_one-square.ensures b.is_one-oversampling.ensures)
     (ap (λ (x : Row). x.field) r.row_of.ensures))
 
 pub square_with_oversampling_spec : {M : Type 1} → statement M

@@ -9,9 +9,13 @@ use Rattle.adv7194_settings.proofs.house_setting.put_number.Tie as tie
 
 returns : tie.Need-returns
 returns c =
-    let k = c.before.before in
-    let s = k.before.before.args in
-    c.before.store.ensures ∙ store-row s.numbers-1.now k.row_of.ensures (to_z-of_z w32 s.number k.before.before.ranges.number)
+    let k = c in
+    let s = k.args in
+    c.store.ensures ∙ store-row s.numbers.now k.row_of.ensures (to_z-of_z w32 s.number k.ranges.number)
 
 pub put_number_spec : {M : Type 1} → statement M
-put_number_spec = tie.close (tie.spec (λ c κs. search rules) (λ c κs. search rules) (λ c. search rules) returns)
+put_number_spec = tie.close (tie.spec
+    (λ c κs. search rules)
+    (λ c κs. search rules)
+    (λ c. search rules)
+    returns)

@@ -16,16 +16,16 @@ use Rattle.adv7194_signalling.proofs.cgms.cgms_code.Tie as tie
 
 -- the four tests, as they stand in the flag
 tested : (c : tie.After-within-4) → (f : Bool)
-    → (c.before.before.before.within.result && c.before.before.within-2.result && c.before.within-3.result && c.within-4.result) ≡ f
-    → (let a = c.before.before.before.before.args in
+    → (c.within.result && c.within-2.result && c.within-3.result && c.within-4.result) ≡ f
+    → (let a = c.args in
     inside (back w32 a.payload) (back w32 a.odd) (back w32 a.even) (back w32 a.chip-check)) ≡ f
-tested c f h = rw (c.before.before.before.within.ensures, c.before.before.within-2.ensures, c.before.within-3.ensures, c.within-4.ensures) at h
+tested c f h = rw (c.within.ensures, c.within-2.ensures, c.within-3.ensures, c.within-4.ensures) at h
 
 within_all : (c : tie.Then-inside)
-    → (let a = c.before.before.before.before.before.args in
+    → (let a = c.args in
     Inside (back w32 a.payload) (back w32 a.odd) (back w32 a.even) (back w32 a.chip-check))
 within_all c =
-    let a = c.before.before.before.before.before.args in
+    let a = c.args in
     is-inside (back w32 a.payload) (back w32 a.odd) (back w32 a.even) (back w32 a.chip-check) (tested c.before true c.if-inside.true)
 
 cast-cgms-word : tie.Need-overflow_cast-payload
@@ -51,7 +51,7 @@ split-requires c κs = rw c.cgms_word-word.ensures (cgms-lt _ _ _ _)
 returns : tie.Need-returns-then-inside
 returns c =
     let t = c.before.before in
-    let s = t.before.before.before.before.before in
+    let s = c in
     let a = s.args in
     rw (
       to_z-of_z w32 a.payload s.ranges.payload,
@@ -59,12 +59,12 @@ returns c =
       to_z-of_z w32 a.even s.ranges.even,
       to_z-of_z w32 a.chip-check s.ranges.chip-check,
     ) at
-    (ap accepted (c.split.ensures ∙ ap word_bytes (c.before.cgms_word-word.ensures ∙ by_magnitudes (within_all t)))
-    ∙ sym (cgms_coded (back w32 a.payload) (back w32 a.odd) (back w32 a.even) (back w32 a.chip-check) (tested t.before true t.if-inside.true)))
+    (ap accepted (c.split.ensures ∙ ap word_bytes (c.cgms_word-word.ensures ∙ by_magnitudes (within_all t)))
+    ∙ sym (cgms_coded (back w32 a.payload) (back w32 a.odd) (back w32 a.even) (back w32 a.chip-check) (tested c.before.before.before true t.if-inside.true)))
 
 returns-2 : tie.Need-returns
 returns-2 c =
-    let s = c.before.before.before.before.before in
+    let s = c in
     let a = s.args in
     rw (
       to_z-of_z w32 a.payload s.ranges.payload,

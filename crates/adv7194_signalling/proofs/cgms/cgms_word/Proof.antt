@@ -9,7 +9,7 @@ use Rattle.adv7194_signalling.proofs.cgms.cgms_word.Statement.{statement}
 use Rattle.adv7194_signalling.proofs.cgms.cgms_word.Tie as tie
 
 small : (c : tie.After-check_bits) → c.check_bits.result < 64
-small c = rw c.check_bits.ensures (check_part_lt c.before.args.payload)
+small c = rw c.check_bits.ensures (check_part_lt c.args.payload)
 
 mul-result : tie.Need-overflow_mul-result
 mul-result c = record { fits = omega (arith, small c) }
@@ -28,7 +28,7 @@ add-result-4 c = record { fits = omega (arith, small c) }
 
 returns : tie.Need-returns
 returns c =
-    let s = c.before in
+    let s = c in
     let a = s.args in
     omega (
       arith,

@@ -22,4 +22,6 @@ returns : tie.Need-returns
 returns c = by_feedback 5 step test c.args.check c.args.bits c.requires
 
 pub after_five_spec : {M : Type 1} → statement M
-after_five_spec = tie.close (tie.spec (λ c. search rules) returns)
+after_five_spec = tie.close (tie.spec
+    (λ c. search rules)
+    returns)

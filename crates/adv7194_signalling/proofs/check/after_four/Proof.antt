@@ -22,4 +22,7 @@ returns : tie.Need-returns
 returns c = by_feedback 4 step test c.args.check c.args.bits c.requires
 
 pub after_four_spec : {M : Type 1} → statement M
-after_four_spec = tie.close (tie.spec (λ c. search rules) (λ c. search rules) returns)
+after_four_spec = tie.close (tie.spec
+    (λ c. search rules)
+    (λ c. search rules)
+    returns)

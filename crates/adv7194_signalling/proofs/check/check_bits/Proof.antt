@@ -13,9 +13,13 @@ after-four-requires c κs = rw c.after_five-ten.ensures (reversed-lt _)
 
 returns : tie.Need-returns
 returns c =
-    let five = c.before.before.after_five-five in
-    let ten = c.before.after_five-ten in
-    c.after_four.ensures ∙ check_reversed c.before.before.before.args.payload five.result ten.result five.ensures ten.ensures
+    let five = c.after_five-five in
+    let ten = c.after_five-ten in
+    c.after_four.ensures ∙ check_reversed c.args.payload five.result ten.result five.ensures ten.ensures
 
 pub check_bits_spec : {M : Type 1} → statement M
-check_bits_spec = tie.close (tie.spec (λ c κs. search rules) after-five-requires-2 after-four-requires returns)
+check_bits_spec = tie.close (tie.spec
+    (λ c κs. search rules)
+    after-five-requires-2
+    after-four-requires
+    returns)

@@ -15,30 +15,30 @@ use Rattle.adv7194_signalling.proofs.field.held_conflict.Tie as tie
 
 -- the row by the kind that was found
 found : (c : tie.After-kind-held) {held : SignallingKind} → c.kind-held.result ≡ held
-    → (let a = c.before.args in
+    → (let a = c.args in
     by_answer (λ n. eqb n 7) (is 0 a.standard) (is 1 a.standard) false (kind_as held) ≡ held_conflict a.standard (a.r19 ∷ []))
 found c e =
-    let a = c.before.args in
+    let a = c.args in
     ap (by_answer (λ n. eqb n 7) (is 0 a.standard) (is 1 a.standard) false) (sym (ap kind_as e) ∙ c.kind-held.ensures)
     ∙ by_answer_lem (λ n. eqb n 7) (is 0 a.standard) (is 1 a.standard) false a.r19
 
 returns : tie.Need-returns-in-Off
-returns c = found c.before.before c.enum_told-1.given.1
+returns c = found c.before c.in-Off.is
 
 returns-2 : tie.Need-returns-in-Cgms
 returns-2 c =
-    let s = c.before.before.before in
-    is-bits 1 s.args.standard (lit< tt) s.ranges.standard.sfits ∙ found c.before.before c.enum_told-in-Cgms-1.given.1
+    let s = c in
+    is-bits 1 s.args.standard (lit< tt) s.ranges.standard.sfits ∙ found c.before c.in-Cgms.is
 
 returns-3 : tie.Need-returns-in-Wss
 returns-3 c =
-    let s = c.before.before.before in
-    is-bits 0 s.args.standard (lit< tt) s.ranges.standard.sfits ∙ found c.before.before c.enum_told-in-Wss-1.given.1
+    let s = c in
+    is-bits 0 s.args.standard (lit< tt) s.ranges.standard.sfits ∙ found c.before c.in-Wss.is
 
 returns-4 : tie.Need-returns-in-Refused
 returns-4 c =
-    let k = c.before.before.before in
-    ap₂ eqb c.before.number.ensures c.number-in-Refused.ensures ∙ found k.before.before k.held-1.given.1
+    let k = c in
+    ap₂ eqb c.number.ensures c.number-in-Refused.ensures ∙ found c.before.before.before k.in-Refused.is
 
 pub held_conflict_spec : {M : Type 1} → statement M
 held_conflict_spec =

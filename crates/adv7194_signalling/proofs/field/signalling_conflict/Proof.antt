@@ -8,7 +8,7 @@ use Rattle.adv7194_signalling.proofs.field.signalling_conflict.Tie as tie
 
 returns : tie.Need-returns
 returns c =
-    let s = c.before.before.before.before.before.before.before.before in
+    let s = c in
     let a = s.args in
     let g = a.setting in
     let fits = c.struct_told-4-1.given in
@@ -20,4 +20,5 @@ returns c =
     (ap₂ ◌&&◌ (is-bits 2 g.kind (lit< tt) fits.0.1) (is-bits 0 a.standard (lit< tt) standard))
 
 pub signalling_conflict_spec : {M : Type 1} → statement M
-signalling_conflict_spec = tie.close (tie.spec returns)
+signalling_conflict_spec = tie.close (tie.spec
+    returns)

@@ -12,30 +12,30 @@ use Rattle.adv7194_signalling.proofs.field.signalling_setting.Tie as tie
 
 -- the reading by the kind that was found
 found : (c : tie.After-kind-held) {held : SignallingKind} → c.kind-held.result ≡ held
-    → (let bs = three_bytes c.before.args.registers in
+    → (let bs = three_bytes c.args.registers in
     by_answer refused (wss_held bs) (cgms_held bs) (accepted no_signalling) (kind_as held) ≡ signalling_held bs)
 unfolding signalling_held
 found c e =
-    let r = c.before.args.registers in
+    let r = c.args.registers in
     let bs = three_bytes r in
     ap (by_answer refused (wss_held bs) (cgms_held bs) (accepted no_signalling)) (sym (ap kind_as e) ∙ c.kind-held.ensures)
     ∙ by_answer_lem refused (wss_held bs) (cgms_held bs) (accepted no_signalling) r.r19
 
 returns : tie.Need-returns-in-Off
-returns c = c.plain.ensures ∙ found c.before.before.before c.before.enum_told-1.given.1
+returns c = c.plain.ensures ∙ found c.before.before c.in-Off.is
 
 returns-2 : tie.Need-returns-in-Cgms
 returns-2 c =
-    let t = c.before.before in
-    c.of_cgms.ensures ∙ c.before.cgms_setting.ensures.0 ∙ found t.before.before t.enum_told-in-Cgms-1.given.1
+    let t = c in
+    c.of_cgms.ensures ∙ c.cgms_setting.ensures.0 ∙ found c.before.before.before t.in-Cgms.is
 
 returns-3 : tie.Need-returns-in-Wss
 returns-3 c =
-    let t = c.before.before in
-    c.of_wss.ensures ∙ c.before.wss_setting.ensures.0 ∙ found t.before.before t.enum_told-in-Wss-1.given.1
+    let t = c in
+    c.of_wss.ensures ∙ c.wss_setting.ensures.0 ∙ found c.before.before.before t.in-Wss.is
 
 returns-4 : tie.Need-returns-in-Refused
-returns-4 c = found c.before.before.before c.before.held-1.given.1
+returns-4 c = found c.before c.in-Refused.is
 
 pub signalling_setting_spec : {M : Type 1} → statement M
 signalling_setting_spec =

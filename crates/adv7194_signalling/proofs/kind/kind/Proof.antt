@@ -24,28 +24,33 @@ by_tests b h =
 
 returns : tie.Need-returns-then-fields-eq0
 returns c =
-    let s = c.before.before in
-    rw (by_tests s.args.r19 s.ranges.r19.fits, c.before.if-r19-eq1.true, c.if-fields-eq0.true)
+    let s = c in
+    rw (by_tests s.args.r19 s.ranges.r19.fits, c.if-r19-eq1.true, c.if-fields-eq0.true)
 
 returns-2 : tie.Need-returns-then-r19-eq1
 returns-2 c =
-    let s = c.before.before in
-    rw (by_tests s.args.r19 s.ranges.r19.fits, c.before.if-r19-eq1.true, ne_eqb _ _ c.if-fields-eq0.false)
+    let s = c in
+    rw (by_tests s.args.r19 s.ranges.r19.fits, c.if-r19-eq1.true, ne_eqb _ _ c.if-fields-eq0.false)
 
 returns-3 : tie.Need-returns-then-fields-ne0
 returns-3 c =
-    let s = c.before.before in
-    rw (by_tests s.args.r19 s.ranges.r19.fits, ne_eqb _ _ c.before.if-r19-eq1.false, ne_eqb _ _ c.if-fields-ne0.true)
+    let s = c in
+    rw (by_tests s.args.r19 s.ranges.r19.fits, ne_eqb _ _ c.if-r19-eq1.false, ne_eqb _ _ c.if-fields-ne0.true)
 
 returns-4 : tie.Need-returns-then-r19-eq1-2
 returns-4 c =
-    let s = c.before.before.before in
-    rw (by_tests s.args.r19 s.ranges.r19.fits, ne_eqb _ _ c.before.before.if-r19-eq1.false, c.before.if-fields-ne0.false, c.if-r19-eq1-2.true)
+    let s = c in
+    rw (by_tests s.args.r19 s.ranges.r19.fits, ne_eqb _ _ c.if-r19-eq1.false, c.if-fields-ne0.false, c.if-r19-eq1-2.true)
 
 returns-5 : tie.Need-returns
 returns-5 c =
-    let s = c.before.before.before in
-    rw (by_tests s.args.r19 s.ranges.r19.fits, ne_eqb _ _ c.before.before.if-r19-eq1.false, c.before.if-fields-ne0.false, ne_eqb _ _ c.if-r19-eq1-2.false)
+    let s = c in
+    rw (by_tests s.args.r19 s.ranges.r19.fits, ne_eqb _ _ c.if-r19-eq1.false, c.if-fields-ne0.false, ne_eqb _ _ c.if-r19-eq1-2.false)
 
 pub kind_spec : {M : Type 1} → statement M
-kind_spec = tie.close (tie.spec returns returns-2 returns-3 returns-4 returns-5)
+kind_spec = tie.close (tie.spec
+    returns
+    returns-2
+    returns-3
+    returns-4
+    returns-5)

@@ -18,11 +18,11 @@ use Rattle.adv7194_signalling.proofs.wss.wss_code.Tie as tie
 same : (c : tie.Start) → back w32 c.args.number ≡ c.args.number
 same c = to_z-of_z w32 c.args.number c.ranges.number
 
-inside : (c : tie.Then-within) → between 0 16383 (back w32 c.before.before.args.number) ≡ true
-inside c = sym c.before.within.ensures ∙ c.if-within.true
+inside : (c : tie.Then-within) → between 0 16383 (back w32 c.args.number) ≡ true
+inside c = sym c.within.ensures ∙ c.if-within.true
 
-number : (c : tie.Then-within) → Within 16383 (back w32 c.before.before.args.number)
-number c = is_within 16383 (back w32 c.before.before.args.number) (inside c)
+number : (c : tie.Then-within) → Within 16383 (back w32 c.args.number)
+number c = is_within 16383 (back w32 c.args.number) (inside c)
 
 add-split : tie.Need-overflow_add-w
 add-split c = record { fits = omega (arith, (number c.before.before).most) }
@@ -35,21 +35,28 @@ returns c =
     let s = c.before.before.before.before.before in
     rw (same s) at
     (ap accepted c.split.ensures
-    ∙ sym (wss_coded (back w32 s.args.number) (inside c.before.before.before) (sym c.before.before.odd_ones.ensures ∙ c.before.if-odd_ones.true)))
+    ∙ sym (wss_coded (back w32 s.args.number) (inside c.before.before.before) (sym c.odd_ones.ensures ∙ c.if-odd_ones.true)))
 
 returns-2 : tie.Need-returns-then-within
 unfolding wss_of
 returns-2 c =
     let s = c.before.before.before.before in
-    simp (rw (same s) at (inside c.before.before), rw (same s) at (sym c.before.odd_ones.ensures ∙ c.if-odd_ones.false))
+    simp (rw (same s) at (inside c.before.before), rw (same s) at (sym c.odd_ones.ensures ∙ c.if-odd_ones.false))
 
 returns-3 : tie.Need-returns
 unfolding wss_of
 returns-3 c =
     let s = c.before.before in
-    simp (rw (same s) at (sym c.before.within.ensures ∙ c.if-within.false))
+    simp (rw (same s) at (sym c.within.ensures ∙ c.if-within.false))
 
 pub wss_code_spec : {M : Type 1} → statement M
 wss_code_spec =
-    tie.close (tie.spec (λ c κs. search rules) (λ c. within_castable (number c) (lit< tt))
-    (λ c κs. search rules) add-split split-requires returns returns-2 returns-3)
+    tie.close (tie.spec
+    (λ c κs. search rules)
+    (λ c. within_castable (number c) (lit< tt))
+    (λ c κs. search rules)
+    add-split
+    split-requires
+    returns
+    returns-2
+    returns-3)

@@ -12,11 +12,17 @@ use Rattle.adv7194_subcarrier.proofs.field.word_codes.Tie as tie
 returns : tie.Need-returns
 unfolding word_codes
 returns c =
-    let s = c.before in
+    let s = c in
     ap word_bytes
     (c.word_set-w.ensures
     ∙ ap₂ (λ (x y : ℤ). word_of (is 1 x) (is 1 y)) (to_z-of_z w32 s.args.standard s.ranges.standard)
     (to_z-of_z w32 s.args.square s.ranges.square))
 
 pub word_codes_spec : {M : Type 1} → statement M
-word_codes_spec = tie.close (tie.spec (λ c κs. search rules) (λ c. search rules) (λ c. search rules) (λ c. search rules) (λ c. search rules) returns)
+word_codes_spec = tie.close (tie.spec
+    (λ c κs. search rules)
+    (λ c. search rules)
+    (λ c. search rules)
+    (λ c. search rules)
+    (λ c. search rules)
+    returns)

@@ -17,11 +17,11 @@ use Rattle.adv7194_subcarrier.proofs.field.word_setting.Tie as tie
 
 -- the code's test is the definition's
 tested : (c : tie.After-word_set)
-    → (let a = c.before.args in
+    → (let a = c.args in
     eqb (joined_of a.b0 a.b1 a.b2 a.b3) c.word_set.result ≡ same_bytes (a.b0 ∷ a.b1 ∷ a.b2 ∷ a.b3 ∷ []) (word_codes a.standard a.square))
 unfolding word_codes
 tested c =
-    let s = c.before in
+    let s = c in
     let a = s.args in
     joined_same c.word_set.result a.b0 a.b1 a.b2 a.b3 s.ranges.b0.fits s.ranges.b1.fits s.ranges.b2.fits
     ∙ ap (λ (w : ℕ). same_bytes (a.b0 ∷ a.b1 ∷ a.b2 ∷ a.b3 ∷ []) (word_bytes w))

@@ -11,4 +11,5 @@ unfolding blocks_of blocks_in table timing output picture dnr
 returns c = refl
 
 pub blocks_spec : {M : Type 1} → statement M
-blocks_spec = tie.close (tie.spec returns)
+blocks_spec = tie.close (tie.spec
+    returns)

@@ -11,4 +11,5 @@ unfolding field_masks field_mask mask_where table timing output picture dnr
 returns c = refl
 
 pub field_masks_spec : {M : Type 1} → statement M
-field_masks_spec = tie.close (tie.spec returns)
+field_masks_spec = tie.close (tie.spec
+    returns)

@@ -13,7 +13,12 @@ unfolding zero_masks
 returns c = sym (get_or-eq_default zero_masks 0 c.if-register.true)
 
 returns-2 : tie.Need-returns
-returns-2 c = ap (λ (l : List ℕ). get_or l c.before.before.args.register 0) c.zero_masks-masks.ensures
+returns-2 c = ap (λ (l : List ℕ). get_or l c.args.register 0) c.zero_masks-masks.ensures
 
 pub must_be_zero_spec : {M : Type 1} → statement M
-must_be_zero_spec = tie.close (tie.spec (λ c. search rules) returns (λ c κs. search rules) (λ c. search rules) returns-2)
+must_be_zero_spec = tie.close (tie.spec
+    (λ c. search rules)
+    returns
+    (λ c κs. search rules)
+    (λ c. search rules)
+    returns-2)

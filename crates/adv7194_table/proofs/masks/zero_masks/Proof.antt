@@ -11,4 +11,5 @@ unfolding zero_masks zero_mask mask_where table timing output picture dnr
 returns c = refl
 
 pub zero_masks_spec : {M : Type 1} → statement M
-zero_masks_spec = tie.close (tie.spec returns)
+zero_masks_spec = tie.close (tie.spec
+    returns)

@@ -36,4 +36,9 @@ returns c =
     (e, omega arith)
 
 pub adjacent_spec : {M : Type 1} → statement M
-adjacent_spec = tie.close (tie.spec (λ c. search rules) sub-result (λ c. search rules) mul-result returns)
+adjacent_spec = tie.close (tie.spec
+    (λ c. search rules)
+    sub-result
+    (λ c. search rules)
+    mul-result
+    returns)

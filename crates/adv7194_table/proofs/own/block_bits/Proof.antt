@@ -10,11 +10,11 @@ use Rattle.adv7194_table.proofs.own.block_bits.Statement.{statement}
 use Rattle.adv7194_table.proofs.own.block_bits.Tie as tie
 
 returns : tie.Need-returns-then-block-field
-returns c = let s = c.before.before in (other_block _ _ s.Block-of.ensures c.if-block-field.true, omega arith)
+returns c = let s = c in (other_block _ _ s.Block-of.ensures c.if-block-field.true, omega arith)
 
 returns-2 : tie.Need-returns-then-register-block
 returns-2 c =
-    let s = c.before.before.before.before in
+    let s = c in
     (outside-block _ _ s.Block-of.ensures (before-block s.Block-of.result _ c.if-register-block.true), omega arith)
 
 -- eight bits of a packed block each
@@ -22,21 +22,27 @@ narrow : (p : ℕ) {b : Block} → b ≡ block_of p → b.register + b.registers
 narrow p {b} e = omega (arith, ap (λ (x : Block). x.register) e, ap (λ (x : Block). x.registers) e)
 
 add-if3 : tie.Need-overflow_add-block
-add-if3 c = omega (arith, narrow _ c.before.before.before.before.before.Block-of.ensures)
+add-if3 c = omega (arith, narrow _ c.Block-of.ensures)
 
 returns-3 : tie.Need-returns-then-block-register
 returns-3 c =
-    let s = c.before.before.before.before.before.before in
+    let s = c in
     (outside-block _ _ s.Block-of.ensures (past-block s.Block-of.result _ c.if-block-register.true), omega arith)
 
 returns-4 : tie.Need-returns
 returns-4 c =
-    let e = c.before.before in
-    let s = e.before.before.before.before in (
-      in_block_lem _ _ s.Block-of.ensures e.before.before.if-block-field.false (within_block s.Block-of.result _ e.if-register-block.false (omega
+    let e = c in
+    let s = c in (
+      in_block_lem _ _ s.Block-of.ensures e.if-block-field.false (within_block s.Block-of.result _ e.if-register-block.false (omega
           (arith, c.if-block-register.false))),
       omega arith,
     )
 
 pub block_bits_spec : {M : Type 1} → statement M
-block_bits_spec = tie.close (tie.spec (λ c κs. search rules) returns returns-2 add-if3 returns-3 returns-4)
+block_bits_spec = tie.close (tie.spec
+    (λ c κs. search rules)
+    returns
+    returns-2
+    add-if3
+    returns-3
+    returns-4)

@@ -31,10 +31,10 @@ add-mask c = omega (arith, c.block_bits-mask.ensures.1)
 
 loop-again : tie.Need-loop-i-preserved invariant-loop decreases-loop
 loop-again c =
-    let l = c.before.before.loop-i in
-    let n = c.before.before.before.before.args.field in
-    let r = c.before.before.before.before.args.register in
-    let ps = c.before.before.before.blocks-blocks.result in
+    let l = c.loop-i in
+    let n = c.args.field in
+    let r = c.args.register in
+    let ps = c.blocks-blocks.result in
     record {
       size = l.invariant.size;
       inside = omega arith;
@@ -44,11 +44,11 @@ loop-again c =
 
 returns : tie.Need-returns invariant-loop decreases-loop
 returns c =
-    let l = c.before.loop-i in
-    let n = c.before.before.before.args.field in
-    let r = c.before.before.before.args.register in
-    let ps = c.before.before.blocks-blocks.result in
-    let e = ap (blocks_mask n r) c.before.before.blocks-blocks.ensures in
+    let l = c.loop-i in
+    let n = c.args.field in
+    let r = c.args.register in
+    let ps = c.blocks-blocks.result in
+    let e = ap (blocks_mask n r) c.blocks-blocks.ensures in
     (omega (arith, blocks_end n r ps l.i (omega arith) (omega arith)), omega arith)
 
 pub blocks_mask_spec : {M : Type 1} → statement M

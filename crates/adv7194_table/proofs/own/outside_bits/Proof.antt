@@ -10,12 +10,16 @@ use Rattle.adv7194_table.proofs.own.outside_bits.Tie as tie
 
 returns : tie.Need-returns-then-register-image
 returns c =
-    let s = c.before.before.before.before in ap (bit_and (get_or s.args.image.now s.args.register 0)) c.outside.ensures
+    let s = c in ap (bit_and (get_or s.args.image.now s.args.register 0)) c.outside.ensures
 
 returns-2 : tie.Need-returns
 returns-2 c =
-    let s = c.before.before in
+    let s = c in
     sym (ap (λ (b : ℕ). bit_and b (outside_mask s.args.register)) (get_or-eq_default s.args.image.now 0 c.if-register-image.false))
 
 pub outside_bits_spec : {M : Type 1} → statement M
-outside_bits_spec = tie.close (tie.spec (λ c. search rules) (λ c κs. search rules) returns returns-2)
+outside_bits_spec = tie.close (tie.spec
+    (λ c. search rules)
+    (λ c κs. search rules)
+    returns
+    returns-2)

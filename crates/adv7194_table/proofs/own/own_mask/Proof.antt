@@ -12,9 +12,9 @@ abbrev start : tie.After-blocks_mask → tie.Start
 start c = c.before.before
 
 -- the sum is the field's mask
-whole : (c : tie.After-blocks_mask) → c.before.rows_mask.result + c.blocks_mask.result ≡ own_mask (start c).args.field (start c).args.register
+whole : (c : tie.After-blocks_mask) → c.rows_mask.result + c.blocks_mask.result ≡ own_mask (start c).args.field (start c).args.register
 whole c =
-    ap₂ (λ (x y : ℕ). x + y) c.before.rows_mask.ensures.0 c.blocks_mask.ensures.0
+    ap₂ (λ (x y : ℕ). x + y) c.rows_mask.ensures.0 c.blocks_mask.ensures.0
     ∙ sym (own_split (start c).args.field (start c).args.register)
 
 cast-result : tie.Need-overflow_cast-result
@@ -24,4 +24,9 @@ returns : tie.Need-returns
 returns c = whole c
 
 pub own_mask_spec : {M : Type 1} → statement M
-own_mask_spec = tie.close (tie.spec (λ c κs. search rules) (λ c κs. search rules) (λ c. search rules) cast-result returns)
+own_mask_spec = tie.close (tie.spec
+    (λ c κs. search rules)
+    (λ c κs. search rules)
+    (λ c. search rules)
+    cast-result
+    returns)

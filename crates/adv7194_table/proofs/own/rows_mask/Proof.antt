@@ -31,10 +31,10 @@ add-mask c = omega (arith, c.row_bits-mask.ensures.1)
 
 loop-again : tie.Need-loop-i-preserved invariant-loop decreases-loop
 loop-again c =
-    let l = c.before.before.loop-i in
-    let n = c.before.before.before.before.args.field in
-    let r = c.before.before.before.before.args.register in
-    let ps = c.before.before.before.rows-rows.result in
+    let l = c.loop-i in
+    let n = c.args.field in
+    let r = c.args.register in
+    let ps = c.rows-rows.result in
     record {
       size = l.invariant.size;
       inside = omega arith;
@@ -44,11 +44,11 @@ loop-again c =
 
 returns : tie.Need-returns invariant-loop decreases-loop
 returns c =
-    let l = c.before.loop-i in
-    let n = c.before.before.before.args.field in
-    let r = c.before.before.before.args.register in
-    let ps = c.before.before.rows-rows.result in
-    let e = ap (rows_mask n r) c.before.before.rows-rows.ensures in
+    let l = c.loop-i in
+    let n = c.args.field in
+    let r = c.args.register in
+    let ps = c.rows-rows.result in
+    let e = ap (rows_mask n r) c.rows-rows.ensures in
     (omega (arith, rows_end n r ps l.i (omega arith) (omega arith)), omega arith)
 
 pub rows_mask_spec : {M : Type 1} → statement M

@@ -10,13 +10,17 @@ use Rattle.adv7194_table.proofs.own.setting_bits.Tie as tie
 
 returns : tie.Need-returns-then-register-image
 returns c =
-    let s = c.before.before.before.before in ap (bit_and (get_or s.args.image.now s.args.register 0)) c.setting_mask.ensures
+    let s = c in ap (bit_and (get_or s.args.image.now s.args.register 0)) c.setting_mask.ensures
 
 returns-2 : tie.Need-returns
 returns-2 c =
-    let s = c.before.before in
+    let s = c in
     sym
     (ap (λ (b : ℕ). bit_and b (setting_mask s.args.field s.args.register)) (get_or-eq_default s.args.image.now 0 c.if-register-image.false))
 
 pub setting_bits_spec : {M : Type 1} → statement M
-setting_bits_spec = tie.close (tie.spec (λ c. search rules) (λ c κs. search rules) returns returns-2)
+setting_bits_spec = tie.close (tie.spec
+    (λ c. search rules)
+    (λ c κs. search rules)
+    returns
+    returns-2)

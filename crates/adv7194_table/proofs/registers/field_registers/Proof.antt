@@ -12,4 +12,5 @@ unfolding field_registers registers_below own_mask mask_where table timing outpu
 returns c = refl
 
 pub field_registers_spec : {M : Type 1} → statement M
-field_registers_spec = tie.close (tie.spec returns)
+field_registers_spec = tie.close (tie.spec
+    returns)

@@ -22,24 +22,24 @@ abbrev decreases-loop : tie.decreases-loop-field
 decreases-loop map fields field₀ field = field_count - field
 
 returns : tie.Need-returns-then-map-eq0 invariant-loop decreases-loop
-returns c = sym (none_of_map c.before.args.map c.if-map-eq0.true)
+returns c = sym (none_of_map c.args.map c.if-map-eq0.true)
 
 loop-holds : tie.Need-loop-field-init invariant-loop decreases-loop
-loop-holds c = record { inside = omega arith; table = c.field_registers-fields.ensures; lowest = sym (lowest_fields (has c.before.before.args.map)) }
+loop-holds c = record { inside = omega arith; table = c.field_registers-fields.ensures; lowest = sym (lowest_fields (has c.args.map)) }
 
 returns-2 : tie.Need-returns-then-fields-field-ne0 invariant-loop decreases-loop
 returns-2 c =
-    let t = c.before in
-    let l = t.before.loop-field in
-    let map = t.before.before.before.before.args.map in
+    let t = c in
+    let l = t.loop-field in
+    let map = t.args.map in
     let inside = t.loop-field-test.true in
     sym (turn_here (has map) l.field inside (is_among map l.field l.invariant.table inside c.if-fields-field-ne0.true)) ∙ l.invariant.lowest
 
 loop-again : tie.Need-loop-field-preserved invariant-loop decreases-loop
 loop-again c =
-    let t = c.before in
-    let l = t.before.loop-field in
-    let map = t.before.before.before.before.args.map in
+    let t = c in
+    let l = t.loop-field in
+    let map = t.args.map in
     let inside = t.loop-field-test.true in
     record {
       inside = omega arith;
@@ -49,8 +49,8 @@ loop-again c =
 
 returns-3 : tie.Need-returns invariant-loop decreases-loop
 returns-3 c =
-    let l = c.before.loop-field in
-    let map = c.before.before.before.before.args.map in
+    let l = c.loop-field in
+    let map = c.args.map in
     sym (turn_end (has map) l.field c.loop-field-test.false) ∙ l.invariant.lowest
 
 pub lowest_field_spec : {M : Type 1} → statement M

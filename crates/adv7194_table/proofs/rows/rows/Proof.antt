@@ -10,4 +10,5 @@ unfolding rows_of rows_in single_fields table timing output picture dnr
 returns c = refl
 
 pub rows_spec : {M : Type 1} → statement M
-rows_spec = tie.close (tie.spec returns)
+rows_spec = tie.close (tie.spec
+    returns)

@@ -10,9 +10,14 @@ use Rattle.adv7194_wanted.proofs.curves.code_fault.Tie as tie
 
 returns-2 : tie.Need-returns-in-Refused
 returns-2 c =
-    fault_is (block_of c.before.before.before.before.args.packed).field (ap judged c.before.before.code-1.given.1)
+    fault_is (block_of c.args.packed).field (ap judged c.in-Refused.is)
     (ap (λ (b : Block). b.field) c.Block-of.ensures)
 
 pub code_fault_spec : {M : Type 1} → statement M
 code_fault_spec =
-    tie.close (tie.spec (λ c. search rules) (λ c. search rules) (λ c κs. search rules) (λ c. search rules) returns-2)
+    tie.close (tie.spec
+    (λ c. search rules)
+    (λ c. search rules)
+    (λ c κs. search rules)
+    (λ c. search rules)
+    returns-2)

@@ -12,7 +12,7 @@ use Rattle.field_table.specs.Blocks.{slice}
 use lib.IntN.{pos}
 
 -- where the numbers begin
-at : (c : tie.After-block_of-first) → c.Block-of.result.index ≡ (block_of c.before.args.packed).index
+at : (c : tie.After-block_of-first) → c.Block-of.result.index ≡ (block_of c.args.packed).index
 at c = ap (λ (b : Block). b.index) c.Block-of.ensures
 
 add-end : tie.Need-overflow_add-end
@@ -22,15 +22,15 @@ mul-curve-code : tie.Need-offset_bounds-numbers-first
 mul-curve-code c = let e = at c in record { fits = omega arith }
 
 part-curve-code-end : tie.Need-slice_bounds-curve_code-end
-part-curve-code-end c = let e = at c in let h = c.before.requires.1 in omega arith
+part-curve-code-end c = let e = at c in let h = c.requires.1 in omega arith
 
 returns : tie.Need-returns
 returns c =
     let k = c.before.before in
-    let b = block_of k.before.args.packed in
-    let zs = k.before.args.numbers.now in
+    let b = block_of k.args.packed in
+    let zs = k.args.numbers.now in
     c.curve_code.ensures
-    ∙ ap curve_codes (part_numbers zs b.index 10 (at k) k.before.requires.1 ∙ ap (slice (pos 0) zs b.index) (sym k.before.requires.0))
+    ∙ ap curve_codes (part_numbers zs b.index 10 (at k) k.requires.1 ∙ ap (slice (pos 0) zs b.index) (sym k.requires.0))
 
 pub code_in_spec : {M : Type 1} → statement M
 code_in_spec =

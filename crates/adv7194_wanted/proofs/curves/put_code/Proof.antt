@@ -6,11 +6,11 @@ use Rattle.adv7194_wanted.proofs.curves.put_code.Statement.{statement}
 use Rattle.adv7194_wanted.proofs.curves.put_code.Tie as tie
 
 returns : tie.Need-returns-in-Curve
-returns c = rw c.before.before.before.before.before.before.code-1.given.1 c.before.before.put_bytes.ensures
+returns c = rw c.in-Curve.is c.put_bytes.ensures
 
 returns-2 : tie.Need-returns-in-Refused
 unfolding puts byte_writes
-returns-2 c = rw c.enum_told-1.given.1
+returns-2 c = rw c.in-Refused.is
 
 pub put_code_spec : {M : Type 1} → statement M
 put_code_spec =

@@ -14,12 +14,12 @@ use Rattle.adv7194_wanted.proofs.curves.want_curve.Tie as tie
 
 returns : tie.Need-returns
 returns c =
-    let p = c.before.before.before.before in
-    let k = p.before.before in
-    let s = k.before.before.args in
+    let p = c in
+    let k = c in
+    let s = k.args in
     let b = block_of s.packed in (
-      c.then.ensures ∙ ap (after (checked_as s.before)) (c.before.code_fault.ensures ∙ ap (fault_of b.field) k.code_in-code.ensures),
-      p.put_code.ensures ∙ ap (λ (j : Judged (List ℕ)). puts s.image-1.now (byte_writes b.register (value_or [] j))) k.code_in-code.ensures,
+      c.then.ensures ∙ ap (after (checked_as s.before)) (c.code_fault.ensures ∙ ap (fault_of b.field) k.code_in-code.ensures),
+      p.put_code.ensures ∙ ap (λ (j : Judged (List ℕ)). puts s.image.now (byte_writes b.register (value_or [] j))) k.code_in-code.ensures,
     )
 
 pub want_curve_spec : {M : Type 1} → statement M

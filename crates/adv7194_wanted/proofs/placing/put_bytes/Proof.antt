@@ -26,53 +26,53 @@ abbrev decreases-loop : tie.decreases-loop-i
 decreases-loop packed bytes image₀ first i₀ image i = length bytes - i
 
 -- the first register, which is one byte
-register : (c : tie.After-block_of-first invariant-loop decreases-loop) → c.Block-of.result.register ≡ (block_of c.before.before.before.args.packed).register
+register : (c : tie.After-block_of-first invariant-loop decreases-loop) → c.Block-of.result.register ≡ (block_of c.args.packed).register
 register c = ap (λ (b : Block). b.register) c.Block-of.ensures
 
 loop-holds : tie.Need-loop-i-init invariant-loop decreases-loop
 loop-holds c =
-    let s = c.before.before.before.args in
+    let s = c.args in
     record {
       inside = omega arith;
       size = refl;
-      registers = ap (λ (r : ℕ). puts s.image-1.now (byte_writes r s.bytes.now)) (add-zero c.Block-of.result.register);
+      registers = ap (λ (r : ℕ). puts s.image.now (byte_writes r s.bytes.now)) (add-zero c.Block-of.result.register);
     }
 
 add-put : tie.Need-overflow_add-first invariant-loop decreases-loop
 add-put c =
     let k = c.before.before.before in
     let e = register k in
-    let few = k.before.before.before.requires in
-    let l = c.before.before.loop-i.invariant.inside in
+    let few = k.requires in
+    let l = c.loop-i.invariant.inside in
     record { fits = omega arith }
 
 put-requires : tie.Need-put-requires invariant-loop decreases-loop
 put-requires c κs =
-    let k = c.before.before.before.before in
-    (omega arith, omega (arith, k.before.before.shared_slice_known-1.given c.before.before.before.loop-i.i))
+    let k = c in
+    (omega arith, omega (arith, k.shared_slice_known-1.given c.loop-i.i))
 
 loop-again : tie.Need-loop-i-preserved invariant-loop decreases-loop
 loop-again c =
-    let p = c.before.before in
-    let t = p.before.before.before in
-    let l = t.before.loop-i in
-    let k = t.before.before in
-    let bs = k.before.before.before.args.bytes.now in
+    let p = c in
+    let t = c in
+    let l = t.loop-i in
+    let k = c in
+    let bs = k.args.bytes.now in
     record {
       inside = omega (arith, t.loop-i-test.true);
       size = ap length p.put.ensures ∙ simp length-set l.invariant.size;
       registers =
           ap (λ (x : List ℕ). puts x (byte_writes (k.Block-of.result.register + (l.i + 1)) (drop (l.i + 1) bs))) p.put.ensures
-          ∙ sym (puts-bytes-next k.Block-of.result.register bs l.i l.image-1 t.loop-i-test.true) ∙ l.invariant.registers;
+          ∙ sym (puts-bytes-next k.Block-of.result.register bs l.i l.image t.loop-i-test.true) ∙ l.invariant.registers;
     }
 
 returns : tie.Need-returns invariant-loop decreases-loop
 returns c =
-    let l = c.before.loop-i in
+    let l = c.loop-i in
     let k = c.before.before in
-    let s = k.before.before.before.args in
-    sym (puts-bytes-end k.Block-of.result.register s.bytes.now l.i l.image-1 c.loop-i-test.false l.invariant.inside)
-    ∙ l.invariant.registers ∙ ap (λ (r : ℕ). puts s.image-1.now (byte_writes r s.bytes.now)) (register k)
+    let s = k.args in
+    sym (puts-bytes-end k.Block-of.result.register s.bytes.now l.i l.image c.loop-i-test.false l.invariant.inside)
+    ∙ l.invariant.registers ∙ ap (λ (r : ℕ). puts s.image.now (byte_writes r s.bytes.now)) (register k)
 
 pub put_bytes_spec : {M : Type 1} → statement M
 put_bytes_spec =
@@ -88,5 +88,5 @@ put_bytes_spec =
     (λ c. search rules)
     (λ c. omega arith)
     loop-again
-    (λ c. c.before.loop-i.invariant.size)
+    (λ c. c.loop-i.invariant.size)
     returns)

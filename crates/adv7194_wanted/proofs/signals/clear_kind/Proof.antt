@@ -10,8 +10,12 @@ use Rattle.adv7194_settings.proofs.Names.{off_write}
 returns : tie.Need-returns
 unfolding puts
 returns c =
-    let k = c.before.before.before in
-    c.before.before.put.ensures ∙ ap (λ (b : Block). put k.before.before.before.args.image-1.now (off_write b)) k.Block-of.ensures
+    let k = c in
+    c.put.ensures ∙ ap (λ (b : Block). put k.args.image.now (off_write b)) k.Block-of.ensures
 
 pub clear_kind_spec : {M : Type 1} → statement M
-clear_kind_spec = tie.close (tie.spec (λ c κs. search rules) (λ c κs. search rules) (λ c. search rules) returns)
+clear_kind_spec = tie.close (tie.spec
+    (λ c κs. search rules)
+    (λ c κs. search rules)
+    (λ c. search rules)
+    returns)

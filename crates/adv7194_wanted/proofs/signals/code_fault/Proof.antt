@@ -8,9 +8,16 @@ use Rattle.adv7194_wanted.proofs.signals.code_fault.Statement.{statement}
 use Rattle.adv7194_wanted.proofs.signals.code_fault.Tie as tie
 
 returns-3 : tie.Need-returns-in-Refused
-returns-3 c = fault_is 11 (ap code_as c.before.before.code-1.given.1) (ap (λ (b : Block). b.field) c.Block-of.ensures)
+returns-3 c = fault_is 11 (ap code_as c.in-Refused.is) (ap (λ (b : Block). b.field) c.Block-of.ensures)
 
 pub code_fault_spec : {M : Type 1} → statement M
 code_fault_spec =
     tie.close
-    (tie.spec (λ c. search rules) (λ c. search rules) (λ c. search rules) (λ c κs. search rules) (λ c. search rules) (λ c. search rules) returns-3)
+    (tie.spec
+    (λ c. search rules)
+    (λ c. search rules)
+    (λ c. search rules)
+    (λ c κs. search rules)
+    (λ c. search rules)
+    (λ c. search rules)
+    returns-3)

@@ -13,13 +13,13 @@ use Rattle.field_table.specs.Blocks.{slice}
 returns : tie.Need-returns
 unfolding slice
 returns c =
-    let s = c.before.before.before.before.before in
+    let s = c in
     let zs = s.args.numbers.now in
     five
-    (to_z-of_z w32 (get_or zs 0 (pos 0)) (record { sfits = c.before.before.before.before.result-1.given }))
-    (to_z-of_z w32 (get_or zs 1 (pos 0)) (record { sfits = c.before.before.before.result-2-1.given }))
-    (to_z-of_z w32 (get_or zs 2 (pos 0)) (record { sfits = c.before.before.result-3-1.given }))
-    (to_z-of_z w32 (get_or zs 3 (pos 0)) (record { sfits = c.before.result-4-1.given }))
+    (to_z-of_z w32 (get_or zs 0 (pos 0)) (record { sfits = c.result-1.given }))
+    (to_z-of_z w32 (get_or zs 1 (pos 0)) (record { sfits = c.result-2-1.given }))
+    (to_z-of_z w32 (get_or zs 2 (pos 0)) (record { sfits = c.result-3-1.given }))
+    (to_z-of_z w32 (get_or zs 3 (pos 0)) (record { sfits = c.result-4-1.given }))
     (to_z-of_z w32 (get_or zs 4 (pos 0)) (record { sfits = c.result-5-1.given }))
     ∙ numbers-all zs s.requires
 

@@ -19,13 +19,13 @@ mul-of-five : tie.Need-offset_bounds-numbers-first
 mul-of-five c = let e = at c in record { fits = omega arith }
 
 part-of-five-end : tie.Need-slice_bounds-of_five-end
-part-of-five-end c = let e = at c in let h = c.before.requires in omega arith
+part-of-five-end c = let e = at c in let h = c.requires in omega arith
 
 returns : tie.Need-returns
 returns c =
     let k = c.before.before in
-    let size = k.before.requires in
-    c.of_five.ensures ∙ part_numbers k.before.args.numbers.now 10 5 (at k) (omega arith)
+    let size = k.requires in
+    c.of_five.ensures ∙ part_numbers k.args.numbers.now 10 5 (at k) (omega arith)
 
 pub signalling_in_spec : {M : Type 1} → statement M
 signalling_in_spec =

@@ -17,15 +17,15 @@ use Rattle.adv7194_wanted.proofs.signals.signalling_with_standard.Tie as tie
 
 returns : tie.Need-returns
 returns c =
-    let b = c.before.before in
-    let g = b.before.before.given in
-    let s = b.before.before.before.before.args in
-    let number = to_z-of_z w32 g.result (record { sfits = g.type-inv }) ∙ g.ensures ∙ ap (given s.numbers.now) b.before.before.before.row_of.ensures in
+    let b = c in
+    let g = b.given in
+    let s = b.args in
+    let number = to_z-of_z w32 g.result (record { sfits = g.type_inv }) ∙ g.ensures ∙ ap (given s.numbers.now) b.row_of.ensures in
     c.then.ensures
     ∙ ap (after (checked_as s.before))
-    (c.before.fault.ensures
+    (c.fault.ensures
     ∙ ap₂ (λ (t : Bool) (f : ℕ). fault_where t 7 f)
-    (b.before.signalling_conflict-conflict.ensures ∙ ap (λ (z : ℤ). signalling_conflict z (numbers_of s.setting)) number)
+    (b.signalling_conflict-conflict.ensures ∙ ap (λ (z : ℤ). signalling_conflict z (numbers_of s.setting)) number)
     (ap (λ (x : Block). x.field) b.Block-of.ensures))
 
 pub signalling_with_standard_spec : {M : Type 1} → statement M

@@ -20,18 +20,18 @@ use Rattle.adv7194_table.specs.Table.{signals}
 
 returns : tie.Need-returns
 returns c =
-    let p = c.before.before.before.before in
-    let k = p.before.before in
-    let g = k.before.before.signalling_in-setting in
-    let s = k.before.before.before.before.args in
+    let p = c in
+    let k = c in
+    let g = k.signalling_in-setting in
+    let s = k.args in
     let coding = k.signalling_code-code.ensures ∙ ap signalling_codes g.ensures in
     let conflict =
-    k.before.signalling_with_standard-conflict.ensures
+    k.signalling_with_standard-conflict.ensures
     ∙ ap (λ (l : List ℤ). after (checked_as s.before) (fault_where (signalling_conflict (given s.numbers.now standard.row) l) 7 11)) g.ensures in (
       c.then.ensures
-          ∙ ap₂ (λ (v w : Verdict (Unit {0})). after v w) conflict (c.before.code_fault.ensures ∙ ap (fault_of 11) coding)
+          ∙ ap₂ (λ (v w : Verdict (Unit {0})). after v w) conflict (c.code_fault.ensures ∙ ap (fault_of 11) coding)
           ∙ after_assoc (checked_as s.before) _ _,
-      p.put_code.ensures ∙ ap (λ (j : Judged (List ℕ)). puts s.image-1.now (block_writes signals signalling (value_or [] j))) coding,
+      p.put_code.ensures ∙ ap (λ (j : Judged (List ℕ)). puts s.image.now (block_writes signals signalling (value_or [] j))) coding,
     )
 
 pub want_signalling_spec : {M : Type 1} → statement M

@@ -31,9 +31,9 @@ verdict c =
     ∙ check_parts zs
 
 -- the image
-image : (c : tie.After-want_second) → c.want_second.new.1.1.0 ≡ wanted_by (start c).args.image-1.now (start c).args.numbers.now
+image : (c : tie.After-want_second) → c.want_second.new.1.1.0 ≡ wanted_by (start c).args.image.now (start c).args.numbers.now
 image c =
-    wanted_parts (start c).args.numbers.now (start c).args.image-1.now (first_of c).want_first-first.new.1.1.0
+    wanted_parts (start c).args.numbers.now (start c).args.image.now (first_of c).want_first-first.new.1.1.0
     c.want_second.ensures.1 (first_of c).want_first-first.ensures.1
 
 returns : tie.Need-returns
@@ -41,7 +41,7 @@ unfolding check_of
 returns c =
     let o = c.before.before in
     let zs = (start o).args.numbers.now in
-    let i = (start o).args.image-1.now in (
+    let i = (start o).args.image.now in (
       verdict o,
       (
         image o,
@@ -53,4 +53,8 @@ returns c =
     )
 
 pub want_spec : {M : Type 1} → statement M
-want_spec = tie.close (tie.spec (λ c κs. search rules) (λ c κs. search rules) (λ c. search rules) returns)
+want_spec = tie.close (tie.spec
+    (λ c κs. search rules)
+    (λ c κs. search rules)
+    (λ c. search rules)
+    returns)

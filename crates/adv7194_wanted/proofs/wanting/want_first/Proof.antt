@@ -35,7 +35,7 @@ abbrev pal_of : tie.After-want_output → tie.After-pedestal_with_pal-pal
 pal_of c = c.before.before
 
 step1 : (c : tie.After-want_timing-timing)
-    → Step (checked_as (start c).args.before) (start c).args.image-1.now (check_of (numbers c) timing) (writes_of (numbers c) timing)
+    → Step (checked_as (start c).args.before) (start c).args.image.now (check_of (numbers c) timing) (writes_of (numbers c) timing)
     (checked_as c.want_timing-timing.result) c.want_timing-timing.new.1.1.0
 step1 c = step c.want_timing-timing.ensures
 
@@ -47,7 +47,7 @@ step2 c = checks c.square_with_oversampling-square.ensures
 
 step3 : (c : tie.After-want_row-pedestal)
     → let t = timing_of (square_of c) in
-    Step (checked_as (square_of c).square_with_oversampling-square.result) t.want_timing-timing.last.1.1.0 (coding_fault (numbers t) pedestal)
+    Step (checked_as (square_of c).square_with_oversampling-square.result) t.want-timing.last.1.1.0 (coding_fault (numbers t) pedestal)
     (write_of (numbers t) pedestal ∷ []) (checked_as c.want_row-pedestal.result) c.want_row-pedestal.new.1.1.1.0
 step3 c = one c.want_row-pedestal.ensures
 
@@ -60,13 +60,13 @@ step4 c = checks c.pedestal_with_pal-pal.ensures
 step5 : (c : tie.After-want_output)
     → let r = row_of (pal_of c) in
     let zs = numbers (timing_of (square_of r)) in
-    Step (checked_as (pal_of c).pedestal_with_pal-pal.result) r.want_row-pedestal.last.1.1.1.0 (check_of zs output) (writes_of zs output)
+    Step (checked_as (pal_of c).pedestal_with_pal-pal.result) r.want-row.last.1.1.1.0 (check_of zs output) (writes_of zs output)
     (checked_as c.want_output.result) c.want_output.new.1.1.0
 step5 c = step c.want_output.ensures
 
 all : (c : tie.After-want_output)
     → let s = start (timing_of (square_of (row_of (pal_of c)))) in
-    Step (checked_as s.args.before) s.args.image-1.now (first_faults s.args.numbers.now) (entries_writes s.args.numbers.now first_part)
+    Step (checked_as s.args.before) s.args.image.now (first_faults s.args.numbers.now) (entries_writes s.args.numbers.now first_part)
     (checked_as c.want_output.result) c.want_output.new.1.1.0
 unfolding entries_writes first_part timing output writes_of flat_map
 all c =

@@ -38,7 +38,7 @@ abbrev curve2_of : tie.After-want_word → tie.After-want_curve-curve_b
 curve2_of c = c.before.before.before.before
 
 step1 : (c : tie.After-want_signalling-signalling)
-    → Step (checked_as (start c).args.before) (start c).args.image-1.now (signal_fault (numbers c)) (entry_writes (numbers c) (whole signals signalling))
+    → Step (checked_as (start c).args.before) (start c).args.image.now (signal_fault (numbers c)) (entry_writes (numbers c) (whole signals signalling))
     (checked_as c.want_signalling-signalling.result) c.want_signalling-signalling.new.1.1.0
 step1 c = step c.want_signalling-signalling.ensures
 
@@ -78,7 +78,7 @@ step6 c = writes c.want_word.ensures
 
 all : (c : tie.After-want_word)
     → let s = start (signal_of (picture_of (dnr_of (curve_of (curve2_of c))))) in
-    Step (checked_as s.args.before) s.args.image-1.now (second_faults s.args.numbers.now) (entries_writes s.args.numbers.now second_part)
+    Step (checked_as s.args.before) s.args.image.now (second_faults s.args.numbers.now) (entries_writes s.args.numbers.now second_part)
     (checked_as (curve2_of c).want_curve-curve_b.result) c.want_word.new.1.0
 unfolding entries_writes second_part picture dnr writes_of flat_map
 all c =

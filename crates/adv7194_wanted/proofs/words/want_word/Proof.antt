@@ -15,16 +15,16 @@ use Rattle.adv7194_wanted.proofs.words.want_word.Tie as tie
 
 returns : tie.Need-returns
 returns c =
-    let w = c.before.before.before.before.before in
-    let two = w.before in
-    let one = two.before.before in
-    let s = one.before.before.before.args in
-    let standardIs = to_z-of_z w32 one.given-standard.result (record { sfits = one.given-standard.type-inv })
-    ∙ one.given-standard.ensures ∙ ap (given s.numbers.now) one.before.row_of.ensures in
-    let squareIs = to_z-of_z w32 two.given-square.result (record { sfits = two.given-square.type-inv })
-    ∙ two.given-square.ensures ∙ ap (given s.numbers.now) two.before.row_of-2.ensures in
-    c.before.before.put_bytes.ensures
-    ∙ ap (λ (l : List ℕ). puts s.image-1.now (byte_writes word.register l)) (w.word_codes-codes.ensures ∙ ap₂ word_codes standardIs squareIs)
+    let w = c in
+    let two = c in
+    let one = c in
+    let s = one.args in
+    let standardIs = to_z-of_z w32 one.given-standard.result (record { sfits = one.given-standard.type_inv })
+    ∙ one.given-standard.ensures ∙ ap (given s.numbers.now) one.row_of.ensures in
+    let squareIs = to_z-of_z w32 two.given-square.result (record { sfits = two.given-square.type_inv })
+    ∙ two.given-square.ensures ∙ ap (given s.numbers.now) two.row_of-2.ensures in
+    c.put_bytes.ensures
+    ∙ ap (λ (l : List ℕ). puts s.image.now (byte_writes word.register l)) (w.word_codes-codes.ensures ∙ ap₂ word_codes standardIs squareIs)
 
 pub want_word_spec : {M : Type 1} → statement M
 want_word_spec =

@@ -9,16 +9,23 @@ use Rattle.adv7195_c.proofs.play_numbers.play_answer.Statement.{statement}
 use Rattle.adv7195_c.proofs.play_numbers.play_answer.Tie as tie
 
 returns : tie.Need-returns-in-Refused
-returns c = rw c.number.ensures (sym (ap (λ p. play_answer (answer_of p)) c.before.before.played-1.given.1))
+returns c = rw c.number.ensures (sym (ap (λ p. play_answer (answer_of p)) c.in-Refused.is))
 
 returns-2 : tie.Need-returns-then-acknowledged
 returns-2 c =
-    sym (ap (λ p. play_answer (answer_of p)) c.before.before.played-in-Done-1.given.1 ∙ ap (λ (b : Bool). play_answer (good b)) c.if-acknowledged.true)
+    sym (ap (λ p. play_answer (answer_of p)) c.in-Done.is ∙ ap (λ (b : Bool). play_answer (good b)) c.if-acknowledged.true)
 
 returns-3 : tie.Need-returns-else-acknowledged
 returns-3 c =
-    sym (ap (λ p. play_answer (answer_of p)) c.before.before.played-in-Done-1.given.1 ∙ ap (λ (b : Bool). play_answer (good b)) c.if-acknowledged.false)
+    sym (ap (λ p. play_answer (answer_of p)) c.in-Done.is ∙ ap (λ (b : Bool). play_answer (good b)) c.if-acknowledged.false)
 
 pub play_answer_spec : {M : Type 1} → statement M
 play_answer_spec =
-    tie.close (tie.spec (λ c. search rules) (λ c κs. tt) (λ c. search rules) (λ c. search rules) returns returns-2 returns-3)
+    tie.close (tie.spec
+    (λ c. search rules)
+    (λ c κs. tt)
+    (λ c. search rules)
+    (λ c. search rules)
+    returns
+    returns-2
+    returns-3)

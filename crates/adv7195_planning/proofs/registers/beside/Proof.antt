@@ -29,4 +29,8 @@ returns-2 c image wanted told i =
     (λ j. rw c.if-restored.false (one-fixed j)) told i)
 
 pub beside_spec : {M : Type 1} → statement M
-beside_spec = tie.close (tie.spec (λ c. search rules) sub-left returns returns-2)
+beside_spec = tie.close (tie.spec
+    (λ c. search rules)
+    sub-left
+    returns
+    returns-2)

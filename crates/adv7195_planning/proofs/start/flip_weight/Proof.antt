@@ -8,12 +8,12 @@ use Rattle.adv7195_planning.proofs.start.flip_weight.Tie as tie
 
 returns : tie.Need-returns
 returns c image wanted told =
-    let n = c.before in
-    let d = n.before in
-    let s = d.before in
-    let t = s.before in
-    let b = t.before in
-    let a = b.before in
+    let n = c in
+    let d = c in
+    let s = c in
+    let t = c in
+    let b = c in
+    let a = c in
     omega (
       arith,
       c.bus_bytes.ensures,
@@ -32,9 +32,9 @@ flip_weight_spec =
     (λ c κs. tt)
     (λ c κs. tt)
     (λ c. search rules)
-    (λ c. omega (arith, c.count.ensures, ones-le 64 c.before.before.covered-taken.result (search rules)))
+    (λ c. omega (arith, c.count.ensures, ones-le 64 c.covered-taken.result (search rules)))
     (λ c κs. tt)
-    (λ c. omega (arith, c.count-transactions.ensures, ones-le 64 c.before.before.starts-begun.result (search rules)))
+    (λ c. omega (arith, c.count-transactions.ensures, ones-le 64 c.starts-begun.result (search rules)))
     (λ c κs. tt)
     (λ c. search rules)
     (λ c. search rules)

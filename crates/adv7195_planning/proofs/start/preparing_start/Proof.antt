@@ -62,9 +62,9 @@ loop-holds c = record {
 
 loop-again : tie.Need-loop-a-preserved-then-weight-least invariant-loop decreases-loop
 loop-again c =
-    let k = c.before in
-    let t = k.before.loop-a-test.true in
-    let l = k.before.before.loop-a in
+    let k = c in
+    let t = k.loop-a-test.true in
+    let l = k.loop-a in
     let v = l.invariant in
     let b = v.to in
     record {
@@ -80,9 +80,9 @@ loop-again c =
 
 loop-again-2 : tie.Need-loop-a-preserved invariant-loop decreases-loop
 loop-again-2 c =
-    let k = c.before in
-    let t = k.before.loop-a-test.true in
-    let l = k.before.before.loop-a in
+    let k = c in
+    let t = k.loop-a-test.true in
+    let l = k.loop-a in
     let v = l.invariant in
     let b = v.to in
     let d = v.above in
@@ -100,10 +100,10 @@ loop-again-2 c =
 returns : tie.Need-returns invariant-loop decreases-loop
 unfolding preparing_start
 returns c =
-    let v = c.before.loop-a.invariant in
+    let v = c.loop-a.invariant in
     let f = v.from in
     let d = v.above in
-    let z : c.before.loop-a.a ≡ 0x04 = omega (arith, c.loop-a-test.false) in
+    let z : c.loop-a.a ≡ 0x04 = omega (arith, c.loop-a-test.false) in
     ((omega arith, v.below), λ image wanted told. v.best-is image wanted told ∙ ap (λ (a : ℕ). first_least (weight_at image wanted) (0x09 - a) a) z)
 
 pub preparing_start_spec : {M : Type 1} → statement M
@@ -115,9 +115,9 @@ preparing_start_spec =
     (λ c κs. omega arith)
     loop-holds
     (λ c. omega (arith, c.loop-a-test.true))
-    (λ c κs. omega (arith, c.before.loop-a.invariant.to))
-    (λ c. omega (arith, c.before.before.loop-a-test.true))
+    (λ c κs. omega (arith, c.loop-a.invariant.to))
+    (λ c. omega (arith, c.loop-a-test.true))
     loop-again
-    (λ c. omega (arith, c.before.before.loop-a-test.true))
+    (λ c. omega (arith, c.loop-a-test.true))
     loop-again-2
     returns)

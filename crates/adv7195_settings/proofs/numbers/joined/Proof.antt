@@ -8,4 +8,8 @@ returns : tie.Need-returns
 returns c = joined_is c.args.first c.args.second c.args.third (search rules) (search rules) (search rules)
 
 pub joined_spec : {M : Type 1} → statement M
-joined_spec = tie.close (tie.spec (λ c. search rules) (λ c. search rules) (λ c. search rules) returns)
+joined_spec = tie.close (tie.spec
+    (λ c. search rules)
+    (λ c. search rules)
+    (λ c. search rules)
+    returns)

@@ -18,9 +18,9 @@ bytes s = three s.args.parts.now s.requires.1.1
 
 returns : tie.Need-returns-then-i-lt-CGMS
 returns c =
-    let a = c.before.before.args in
+    let a = c.args in
     to_z-of_z w32 (get_or a.parts.now a.i (pos 0)) (record { sfits = c.result-1.given })
-    ∙ number-before a.parts.now c.before.before.requires.0 a.i c.before.if-i-lt-CGMS.true
+    ∙ number-before a.parts.now c.requires.0 a.i c.if-i-lt-CGMS.true
 
 cast-joined : tie.Need-overflow_cast-parts
 cast-joined c = let s = c.before.before.before in byte_cast (cgms_part s.args.parts.now 0) (bytes s).low
@@ -46,13 +46,13 @@ returns-2 c =
     let low = byte-back (cgms_part ps 0) b.low in
     let middle = byte-back (cgms_part ps 1) b.middle in
     let high = byte-back (cgms_part ps 2) b.high in
-    to_z-of_z w32 c.joined.result-1 (record { sfits = c.joined.type-inv })
+    to_z-of_z w32 c.joined.result (record { sfits = c.joined.type_inv })
     ∙ (rw (low, middle, high) at c.joined.ensures)
-    ∙ number-joined ps s.requires.0 ∙ sym (ap (λ (n : ℕ). get_or (numbers_of ps) n (pos 0)) c.before.before.before.before.if-i-eq-CGMS.true)
+    ∙ number-joined ps s.requires.0 ∙ sym (ap (λ (n : ℕ). get_or (numbers_of ps) n (pos 0)) c.if-i-eq-CGMS.true)
 
 returns-3 : tie.Need-returns
 returns-3 c =
-    let s = c.before.before.before in
+    let s = c in
     to_z-of_z w32 (get_or s.args.parts.now _ (pos 0)) (record { sfits = c.result-2-1.given })
     ∙ number_past s.args.parts.now s.requires.0 s.args.i (search rules)
 

@@ -23,15 +23,15 @@ loop-holds c = let e = numbers-length c.args.parts.now c.requires.0 in (e, (c.re
 
 loop-again : tie.Need-loop-i-preserved invariant-loop decreases-loop
 loop-again c =
-    let l = c.before.before.loop-i in
-    let e = to_z-of_z w32 c.number.result (record { sfits = c.number.type-inv }) ∙ c.number.ensures in
+    let l = c.loop-i in
+    let e = to_z-of_z w32 c.number.result (record { sfits = c.number.type_inv }) ∙ c.number.ensures in
     (l.invariant.0, (l.invariant.1.0, fill_next (omega arith) e l.invariant.1.1))
 
 same_length : tie.Need-shape_of-numbers invariant-loop decreases-loop
-same_length c = let l = c.before.loop-i in l.invariant.1.1.long ∙ l.invariant.0 ∙ sym l.invariant.1.0
+same_length c = let l = c.loop-i in l.invariant.1.1.long ∙ l.invariant.0 ∙ sym l.invariant.1.0
 
 returns : tie.Need-returns invariant-loop decreases-loop
-returns c = let l = c.before.loop-i in fill_all (omega arith) l.invariant.1.1
+returns c = let l = c.loop-i in fill_all (omega arith) l.invariant.1.1
 
 pub numbers_of_spec : {M : Type 1} → statement M
 numbers_of_spec =

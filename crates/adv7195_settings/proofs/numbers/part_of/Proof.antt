@@ -22,21 +22,29 @@ returns-2 c = let s = c.before.before in part_beyond s.args.lowest s.args.width 
 cast-result : tie.Need-overflow_cast-result
 cast-result c =
     let s = c.before.before in
-    rw (same s) (cast_positive s.args.cgms (rw (same s) at c.before.if-cgms-lt0.false) s.ranges.cgms)
+    rw (same s) (cast_positive s.args.cgms (rw (same s) at c.if-cgms-lt0.false) s.ranges.cgms)
 
 rem-result : tie.Need-nonzero_rem-result
-rem-result c = let a = c.before.before.args in divides a.lowest a.width (search rules)
+rem-result c = let a = c.args in divides a.lowest a.width (search rules)
 
 cast-result-2 : tie.Need-overflow_cast-result-2
-cast-result-2 c = let a = c.before.before.args in part_fits a.lowest a.width (search rules) _
+cast-result-2 c = let a = c.args in part_fits a.lowest a.width (search rules) _
 
 returns-3 : tie.Need-returns
 returns-3 c =
     let s = c.before.before in
     let a = s.args in
-    rw (same s) (part_is a.lowest a.width (search rules) a.cgms (rw (same s) at c.before.if-cgms-lt0.false) (rw (same s) at c.if-cgms-ge-CGMS_END.false))
+    rw (same s) (part_is a.lowest a.width (search rules) a.cgms (rw (same s) at c.if-cgms-lt0.false) (rw (same s) at c.if-cgms-ge-CGMS_END.false))
 
 pub part_of_spec : {M : Type 1} → statement M
 part_of_spec =
     tie.close
-    (tie.spec returns returns-2 cast-result (λ c. search rules) (λ c. search rules) rem-result cast-result-2 returns-3)
+    (tie.spec
+    returns
+    returns-2
+    cast-result
+    (λ c. search rules)
+    (λ c. search rules)
+    rem-result
+    cast-result-2
+    returns-3)

@@ -23,11 +23,11 @@ loop-holds c = let e = parts_length c.args.numbers.now c.requires in (e, fill_no
 
 loop-again : tie.Need-loop-i-preserved invariant-loop decreases-loop
 loop-again c =
-    let l = c.before.before.loop-i in
-    (l.invariant.0, fill_next (omega arith) (to_z-of_z w32 c.part.result (record { sfits = c.part.type-inv }) ∙ c.part.ensures) l.invariant.1)
+    let l = c.loop-i in
+    (l.invariant.0, fill_next (omega arith) (to_z-of_z w32 c.part.result (record { sfits = c.part.type_inv }) ∙ c.part.ensures) l.invariant.1)
 
 returns : tie.Need-returns invariant-loop decreases-loop
-returns c = let l = c.before.loop-i in fill_all (omega arith) l.invariant.1
+returns c = let l = c.loop-i in fill_all (omega arith) l.invariant.1
 
 pub parts_of_spec : {M : Type 1} → statement M
 parts_of_spec =

@@ -10,4 +10,5 @@ unfolding plain_fields modes outputs blocks filters fields
 returns c = refl
 
 pub rows_spec : {M : Type 1} → statement M
-rows_spec = tie.close (tie.spec returns)
+rows_spec = tie.close (tie.spec
+    returns)

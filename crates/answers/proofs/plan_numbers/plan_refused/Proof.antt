@@ -7,4 +7,7 @@ returns : tie.Need-returns
 returns c = rw c.number.ensures
 
 pub plan_refused_spec : {M : Type 1} → statement M
-plan_refused_spec = tie.close (tie.spec (λ c κs. tt) (λ c. search rules) returns)
+plan_refused_spec = tie.close (tie.spec
+    (λ c κs. tt)
+    (λ c. search rules)
+    returns)

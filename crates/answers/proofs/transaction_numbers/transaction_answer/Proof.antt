@@ -7,12 +7,20 @@ use Rattle.answers.proofs.transaction_numbers.transaction_answer.Statement.{stat
 use Rattle.answers.proofs.transaction_numbers.transaction_answer.Tie as tie
 
 returns : tie.Need-returns-in-Refused
-returns c = rw c.number.ensures (sym (ap (λ p. transaction_answer (answer_of p)) c.before.before.taken-1.given.1))
+returns c = rw c.number.ensures (sym (ap (λ p. transaction_answer (answer_of p)) c.in-Refused.is))
 
 returns-2 : tie.Need-returns-in-Transaction
-returns-2 c = sym (ap (λ p. transaction_answer (answer_of p)) c.before.taken-in-Transaction-1.given.1)
+returns-2 c = sym (ap (λ p. transaction_answer (answer_of p)) c.in-Transaction.is)
 
 pub transaction_answer_spec : {M : Type 1} → statement M
 transaction_answer_spec =
     tie.close
-    (tie.spec (λ c. search rules) (λ c κs. tt) (λ c. search rules) (λ c. search rules) (λ c. search rules) (λ c. search rules) returns returns-2)
+    (tie.spec
+    (λ c. search rules)
+    (λ c κs. tt)
+    (λ c. search rules)
+    (λ c. search rules)
+    (λ c. search rules)
+    (λ c. search rules)
+    returns
+    returns-2)

@@ -19,4 +19,7 @@ returns : tie.Need-returns
 returns c = rw (size c) (odd_count c.args.width c.args.value)
 
 pub odd_ones_spec : {M : Type 1} → statement M
-odd_ones_spec = tie.close (tie.spec (λ c. search rules) rem-result returns)
+odd_ones_spec = tie.close (tie.spec
+    (λ c. search rules)
+    rem-result
+    returns)

@@ -15,14 +15,14 @@ size : (c : tie.Start) → (1 * 2 ^ c.args.width) % 2 ^ 8 ≡ 2 ^ c.args.width
 size c = one_shl c.args.width 8 (omega arith)
 
 -- the definition where the count is even
-even : (c : tie.Else-odd_ones) → with_parity c.before.before.args.width c.before.before.args.value
-    ≡ c.before.before.args.value + 2 ^ c.before.before.args.width
-even c = parity_set c.before.before.args.width c.before.before.args.value (sym c.before.odd_ones.ensures ∙ c.if-odd_ones.false)
+even : (c : tie.Else-odd_ones) → with_parity c.args.width c.args.value
+    ≡ c.args.value + 2 ^ c.args.width
+even c = parity_set c.args.width c.args.value (sym c.odd_ones.ensures ∙ c.if-odd_ones.false)
 
 returns : tie.Need-returns-then-odd_ones
 returns c =
-    let a = c.before.before.args in
-    sym (parity_clear a.width a.value (sym c.before.odd_ones.ensures ∙ c.if-odd_ones.true))
+    let a = c.args in
+    sym (parity_clear a.width a.value (sym c.odd_ones.ensures ∙ c.if-odd_ones.true))
 
 add-result : tie.Need-overflow_add-result
 add-result c =
@@ -34,4 +34,9 @@ returns-2 : tie.Need-returns
 returns-2 c = rw (size c.before.before) (sym (even c))
 
 pub with_parity_spec : {M : Type 1} → statement M
-with_parity_spec = tie.close (tie.spec (λ c κs. search rules) returns (λ c. search rules) add-result returns-2)
+with_parity_spec = tie.close (tie.spec
+    (λ c κs. search rules)
+    returns
+    (λ c. search rules)
+    add-result
+    returns-2)

@@ -10,4 +10,6 @@ returns-2 : tie.Need-returns-else-address-le-HIGHEST_ADDRESS
 returns-2 c = rw (lt-leb _ _ c.if-address-le-HIGHEST_ADDRESS.false)
 
 pub address_right_spec : {M : Type 1} → statement M
-address_right_spec = tie.close (tie.spec returns returns-2)
+address_right_spec = tie.close (tie.spec
+    returns
+    returns-2)

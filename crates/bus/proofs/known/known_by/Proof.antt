@@ -11,32 +11,32 @@ use Rattle.bus.proofs.known.known_by.Tie as tie
 
 mark-requires : tie.Need-mark-requires
 mark-requires c κs =
-    let a = c.before.before.before.before.args in
-    omega (arith, stored-below _ a.state.phase _ 0 (sym (c.before.stored.ensures 0 [] 0) ∙ c.if-stored.true))
+    let a = c.args in
+    omega (arith, stored-below _ a.state.phase _ 0 (sym (c.stored.ensures 0 [] 0) ∙ c.if-stored.true))
 
 returns : tie.Need-returns-in-Start
 unfolding known_by step
-returns c own bytes = rw c.enum_told-1.given.1
+returns c own bytes = rw c.in-Start.is
 
 returns-2 : tie.Need-returns-in-Stop
 unfolding known_by step
-returns-2 c own bytes = rw c.enum_told-in-Stop-1.given.1
+returns-2 c own bytes = rw c.in-Stop.is
 
 returns-3 : tie.Need-returns-then-stored
 unfolding known_by step
 returns-3 c own bytes =
-    let s = c.before.before in
-    rw (s.before.enum_told-in-FromMaster-1.given.1, sym (s.stored.ensures own bytes s.before.enum_told-in-FromMaster-1.given.0.0) ∙ c.before.if-stored.true) c.mark.ensures
+    let s = c in
+    rw (s.in-FromMaster.is, sym (s.stored.ensures own bytes s.in-FromMaster.field-0) ∙ c.if-stored.true) c.mark.ensures
 
 returns-4 : tie.Need-returns-else-stored
 unfolding known_by step
 returns-4 c own bytes =
-    let s = c.before in
-    rw (s.before.enum_told-in-FromMaster-1.given.1, sym (s.stored.ensures own bytes s.before.enum_told-in-FromMaster-1.given.0.0) ∙ c.if-stored.false)
+    let s = c in
+    rw (s.in-FromMaster.is, sym (s.stored.ensures own bytes s.in-FromMaster.field-0) ∙ c.if-stored.false)
 
 returns-5 : tie.Need-returns-in-ToMaster
 unfolding known_by step
-returns-5 c own bytes = rw (c.enum_told-in-ToMaster-1.given.1, sent_not_stored)
+returns-5 c own bytes = rw (c.in-ToMaster.is, sent_not_stored)
 
 pub known_by_spec : {M : Type 1} → statement M
 known_by_spec =

@@ -13,4 +13,6 @@ returns c =
     ap (bit_or a.map) (one_shl a.register 64 c.requires) ∙ sym (mark_or a.map a.register)
 
 pub mark_spec : {M : Type 1} → statement M
-mark_spec = tie.close (tie.spec (λ c. search rules) returns)
+mark_spec = tie.close (tie.spec
+    (λ c. search rules)
+    returns)

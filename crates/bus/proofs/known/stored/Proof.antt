@@ -28,15 +28,20 @@ not-waiting Sending h κ c b = refl
 returns : tie.Need-returns-then-pointer-registers
 unfolding from_master
 returns c own bytes byte =
-    let b = c.before in
-    rw (b.before.enum_told-1.given.1, lt-ltb _ _ b.if-pointer-registers.true) (ap not c.has.ensures)
+    let b = c in
+    rw (b.in-AwaitData.is, lt-ltb _ _ b.if-pointer-registers.true) (ap not c.has.ensures)
 
 returns-2 : tie.Need-returns-else-pointer-registers
 unfolding from_master
-returns-2 c own bytes byte = rw (c.before.enum_told-1.given.1, le-ltb _ _ c.if-pointer-registers.false)
+returns-2 c own bytes byte = rw (c.in-AwaitData.is, le-ltb _ _ c.if-pointer-registers.false)
 
 returns-3 : tie.Need-returns-in-Idle
-returns-3 c own bytes byte = sym (not-waiting c.before.args.phase c.in-AwaitData.keys2 _ _ _)
+returns-3 c own bytes byte = sym (not-waiting c.args.phase c.in-AwaitData.keys2 _ _ _)
 
 pub stored_spec : {M : Type 1} → statement M
-stored_spec = tie.close (tie.spec (λ c. search rules) (λ c κs. search rules) returns returns-2 returns-3)
+stored_spec = tie.close (tie.spec
+    (λ c. search rules)
+    (λ c κs. search rules)
+    returns
+    returns-2
+    returns-3)

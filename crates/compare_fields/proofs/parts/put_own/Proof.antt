@@ -8,20 +8,26 @@ use Rattle.compare_fields.proofs.parts.put_own.Tie as tie
 
 returns : tie.Need-returns-then-own_mask-eq0
 returns c =
-    let start = c.before.before.before.before in
+    let start = c in
     let a = start.args in
-    same_text (own_none a.image.now a.field a.register c.before.own_mask.ensures c.if-own_mask-eq0.true)
-    (unwritten a.line-1.now a.at (omega (arith, start.requires.0)))
+    same_text (own_none a.image.now a.field a.register c.own_mask.ensures c.if-own_mask-eq0.true)
+    (unwritten a.line.now a.at (omega (arith, start.requires.0)))
 
 returns-2 : tie.Need-returns
 returns-2 c =
-    let p = c.before.before in
-    let o = p.before in
-    let e = o.before.before in
-    let a = e.before.before.before.before.args in
-    same_text (own_some a.image.now a.field a.register e.before.own_mask.ensures e.if-own_mask-eq0.false o.own_bits.ensures) p.put_byte.ensures
+    let p = c in
+    let o = c in
+    let e = c in
+    let a = e.args in
+    same_text (own_some a.image.now a.field a.register e.own_mask.ensures e.if-own_mask-eq0.false o.own_bits.ensures) p.put_byte.ensures
 
 pub put_own_spec : {M : Type 1} → statement M
 put_own_spec =
     tie.close
-    (tie.spec (λ c κs. search rules) returns (λ c κs. search rules) (λ c κs. search rules) (λ c. search rules) returns-2)
+    (tie.spec
+    (λ c κs. search rules)
+    returns
+    (λ c κs. search rules)
+    (λ c κs. search rules)
+    (λ c. search rules)
+    returns-2)

@@ -27,21 +27,21 @@ decreases-loop line₀ at image field place₀ register₀ line place register =
 
 loop-holds : tie.Need-loop-register-init invariant-loop decreases-loop
 loop-holds c =
-    let start = c.before.before in
-    record { inside = omega arith; text = []; written = unwritten start.args.line-1.now start.args.at (omega (arith, start.requires)); rest = refl }
+    let start = c in
+    record { inside = omega arith; text = []; written = unwritten start.args.line.now start.args.at (omega (arith, start.requires)); rest = refl }
 
 put-own-requires : tie.Need-put_own-place-requires invariant-loop decreases-loop
 put-own-requires c κs =
-    let t = c.before in
-    let l = t.before.loop-register in
-    (omega (arith, l.invariant.written.most, kept l.invariant.written, t.before.before.before.before.requires, t.loop-register-test.true), t.loop-register-test.true)
+    let t = c in
+    let l = t.loop-register in
+    (omega (arith, l.invariant.written.most, kept l.invariant.written, t.requires, t.loop-register-test.true), t.loop-register-test.true)
 
 loop-again : tie.Need-loop-register-preserved invariant-loop decreases-loop
 loop-again c =
-    let p = c.before.before in
-    let t = p.before.before in
-    let l = t.before.loop-register in
-    let start = t.before.before.before.before in
+    let p = c in
+    let t = c in
+    let l = t.loop-register in
+    let start = c in
     let a = start.args in
     let image = a.image.now in
     record {
@@ -57,8 +57,8 @@ loop-again c =
 
 returns : tie.Need-returns invariant-loop decreases-loop
 returns c =
-    let l = c.before.loop-register in
-    let a = c.before.before.before.before.args in
+    let l = c.loop-register in
+    let a = c.args in
     let e = raw_end a.image.now a.field l.register c.loop-register-test.false in
     same_text (sym (append-nil l.invariant.text) ∙ ap (λ (x : List ℕ). l.invariant.text ++ x) (sym e) ∙ l.invariant.rest)
     (wider raw_width (omega (arith, l.invariant.inside)) l.invariant.written)
@@ -75,5 +75,5 @@ put_raw_spec =
     (λ c. search rules)
     (λ c. search rules)
     loop-again
-    (λ c. kept c.before.loop-register.invariant.written)
+    (λ c. kept c.loop-register.invariant.written)
     returns)

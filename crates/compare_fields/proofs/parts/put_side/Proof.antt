@@ -11,19 +11,19 @@ use Rattle.compare_fields.proofs.parts.put_side.Tie as tie
 
 returns : tie.Need-returns-then-readable
 returns c =
-    let v = c.before.before in
-    let p = v.before.before.before.before in
-    let t = p.before.before.before in
-    let start = t.before.before.before in
+    let v = c in
+    let p = c in
+    let t = c in
+    let start = c in
     let a = start.args in
     same_text (sym (ap (λ (b : Bool). side_of b a.image.now a.numbers.now a.field) t.if-readable.true))
     (wider side_width (omega arith) (more (put p.put-spaced.ensures.0 p.put-spaced.ensures.1) v.put_value.ensures (omega (arith, start.requires.0))))
 
 returns-2 : tie.Need-returns
 returns-2 c =
-    let v = c.before.before in
-    let e = v.before.before in
-    let a = e.before.before.before.args in
+    let v = c in
+    let e = c in
+    let a = e.args in
     same_text (sym (ap (λ (b : Bool). side_of b a.image.now a.numbers.now a.field) e.if-readable.false)) v.put_raw.ensures
 
 pub put_side_spec : {M : Type 1} → statement M

@@ -24,10 +24,10 @@ put-curve-requires-2 c κs = (omega arith, omega (arith, ap (λ (x : Block). x.i
 
 returns : tie.Need-returns-then-field-eq-SIGNALLING_FIELD
 returns c =
-    let p = c.before.before in
-    let b = p.before.Block-of in
-    let t = p.before.before.before in
-    let a = t.before.before.before.args in
+    let p = c in
+    let b = p.Block-of in
+    let t = c in
+    let a = t.args in
     let zs = a.numbers.now in
     let e = ap (λ (x : Block). signalling_text zs x.index) b.ensures ∙ signalling-value a.image.now zs
     ∙ ap (field_value a.image.now zs) (sym t.if-field-eq-SIGNALLING_FIELD.true) in
@@ -35,10 +35,10 @@ returns c =
 
 returns-2 : tie.Need-returns-then-field-eq-CURVE_A_FIELD
 returns-2 c =
-    let p = c.before.before in
-    let b = p.before.block_of-then-field-eq-CURVE_A_FIELD in
-    let t = p.before.before.before in
-    let a = t.before.before.before.before.args in
+    let p = c in
+    let b = p.block_of-then-field-eq-CURVE_A_FIELD in
+    let t = c in
+    let a = t.args in
     let zs = a.numbers.now in
     let e = ap (λ (x : Block). curve_text zs x.index) b.ensures ∙ curve_a_value a.image.now zs
     ∙ ap (field_value a.image.now zs) (sym t.if-field-eq-CURVE_A_FIELD.true) in
@@ -46,10 +46,10 @@ returns-2 c =
 
 returns-3 : tie.Need-returns-then-field-eq-CURVE_B_FIELD
 returns-3 c =
-    let p = c.before.before in
-    let b = p.before.block_of-then-field-eq-CURVE_B_FIELD in
-    let t = p.before.before.before in
-    let a = t.before.before.before.before.before.args in
+    let p = c in
+    let b = p.block_of-then-field-eq-CURVE_B_FIELD in
+    let t = c in
+    let a = t.args in
     let zs = a.numbers.now in
     let e = ap (λ (x : Block). curve_text zs x.index) b.ensures ∙ curve_b_value a.image.now zs
     ∙ ap (field_value a.image.now zs) (sym t.if-field-eq-CURVE_B_FIELD.true) in
@@ -57,26 +57,26 @@ returns-3 c =
 
 returns-4 : tie.Need-returns-then-field-eq-WORD_FIELD
 returns-4 c =
-    let p = c.before.before in
-    let t = p.before.before in
-    let a = t.before.before.before.before.before.before.args in
+    let p = c in
+    let t = c in
+    let a = t.args in
     let zs = a.numbers.now in
     let e = word_value a.image.now zs ∙ ap (field_value a.image.now zs) (sym t.if-field-eq-WORD_FIELD.true) in
     same_text e p.put_word.ensures
 
 returns-5 : tie.Need-returns
 returns-5 c =
-    let p = c.before.before in
-    let g = p.before in
-    let f = g.before in
-    let t = f.before.before in
-    let start = t.before.before.before.before.before.before in
+    let p = c in
+    let g = c in
+    let f = c in
+    let t = c in
+    let start = c in
     let a = start.args in
     let zs = a.numbers.now in
     let e =
-    one_number a.image.now zs a.field start.requires.1 start.requires.2 t.before.before.before.if-field-eq-SIGNALLING_FIELD.false t.before.before.if-field-eq-CURVE_A_FIELD.false
-    t.before.if-field-eq-CURVE_B_FIELD.false t.if-field-eq-WORD_FIELD.false f.field_row.ensures in
-    same_text e (wider curve_width (omega arith) (looked (number_text (named a.field)) g.given.type-inv g.given.ensures p.put_setting.ensures))
+    one_number a.image.now zs a.field start.requires.1 start.requires.2 t.if-field-eq-SIGNALLING_FIELD.false t.if-field-eq-CURVE_A_FIELD.false
+    t.if-field-eq-CURVE_B_FIELD.false t.if-field-eq-WORD_FIELD.false f.field_row.ensures in
+    same_text e (wider curve_width (omega arith) (looked (number_text (named a.field)) g.given.type_inv g.given.ensures p.put_setting.ensures))
 
 pub put_value_spec : {M : Type 1} → statement M
 put_value_spec =

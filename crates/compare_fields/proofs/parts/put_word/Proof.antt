@@ -26,18 +26,18 @@ add-byte-at-3 c = omega (arith, first c.before.before)
 
 fill-requires : tie.Need-fill-requires
 unfolding widths
-fill-requires c κs = (omega (arith, c.before.before.before.before.before.before.before.before.before.before.requires), omega arith)
+fill-requires c κs = (omega (arith, c.requires), omega arith)
 
 returns : tie.Need-returns
 unfolding widths
 returns c =
-    let p = c.before.before in
-    let w = p.before.before.before.before in
-    let x = w.before in
-    let y = x.before in
-    let z = y.before in
-    let b = z.before in
-    let a = b.before.before.before.args in
+    let p = c in
+    let w = c in
+    let x = c in
+    let y = c in
+    let z = c in
+    let b = c.before.before.before.before.before.before.before.before.before.before.before in
+    let a = b.args in
     same_text
     (word-filled a.image.now (first b) z.byte_at.ensures y.byte_at-2.ensures x.byte_at-3.ensures w.byte_at-4.ensures (search rules)
     (search rules) (search rules) (search rules))

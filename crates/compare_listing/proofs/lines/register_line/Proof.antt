@@ -8,16 +8,21 @@ use Rattle.compare_listing.proofs.lines.register_line.Tie as tie
 
 returns : tie.Need-returns-then-register_differs
 returns c =
-    let x = c.before.before in
-    let t = x.before.before in
-    same_text (line_shown _ t.before.register_differs.ensures t.if-register_differs.true) x.register_text.ensures
+    let x = c in
+    let t = c in
+    same_text (line_shown _ t.register_differs.ensures t.if-register_differs.true) x.register_text.ensures
 
 returns-2 : tie.Need-returns
 returns-2 c =
-    let start = c.before.before.before.before.before in
-    same_text (line_left_out _ c.before.register_differs.ensures c.if-register_differs.false) (unwritten start.args.line-1.now
+    let start = c in
+    same_text (line_left_out _ c.register_differs.ensures c.if-register_differs.false) (unwritten start.args.line.now
     start.args.at (omega (arith, start.requires.0)))
 
 pub register_line_spec : {M : Type 1} → statement M
 register_line_spec =
-    tie.close (tie.spec (λ c κs. search rules) (λ c κs. search rules) (λ c. search rules) returns returns-2)
+    tie.close (tie.spec
+    (λ c κs. search rules)
+    (λ c κs. search rules)
+    (λ c. search rules)
+    returns
+    returns-2)

@@ -37,27 +37,27 @@ line_of c = let s = (start c).args in register_line s.a.now s.b.now
 
 loop-holds : tie.Need-loop-register-init invariant-loop decreases-loop
 loop-holds c =
-    let s = c.before.before.before in
-    record { from = omega arith; inside = omega arith; text = []; written = unwritten s.args.line-1.now s.args.at (omega (arith, s.requires)); rest = refl }
+    let s = c in
+    record { from = omega arith; inside = omega arith; text = []; written = unwritten s.args.line.now s.args.at (omega (arith, s.requires)); rest = refl }
 
 register-line-requires : tie.Need-register_line-place-requires invariant-loop decreases-loop
 register-line-requires c κs =
-    let t = c.before in
-    let l = t.before.loop-register in
+    let t = c in
+    let l = t.loop-register in
     let k = kept l.invariant.written in
     let m = l.invariant.written.most in
-    let p = (start t.before).requires in
+    let p = (start c.before.before).requires in
     (omega (arith, t.loop-register-test.true), t.loop-register-test.true)
 
 loop-again : tie.Need-loop-register-preserved invariant-loop decreases-loop
 loop-again c =
-    let p = c.before.before in
-    let t = p.before.before in
-    let l = t.before.loop-register in
-    let s = start t.before in
+    let p = c in
+    let t = c in
+    let l = t.loop-register in
+    let s = start c.before.before.before.before.before in
     let a = s.args.a.now in
     let b = s.args.b.now in
-    let f = line_of t.before in
+    let f = line_of c.before.before.before.before.before in
     let n = l.register in
     record {
       from = omega (arith, l.invariant.from);
@@ -73,7 +73,7 @@ loop-again c =
 
 returns : tie.Need-returns invariant-loop decreases-loop
 returns c =
-    let l = c.before.loop-register in
+    let l = c.loop-register in
     let s = start c.before in
     let a = s.args.a.now in
     let b = s.args.b.now in
@@ -94,5 +94,5 @@ register_lines_spec =
     (λ c. search rules)
     (λ c. search rules)
     loop-again
-    (λ c. kept c.before.loop-register.invariant.written)
+    (λ c. kept c.loop-register.invariant.written)
     returns)

@@ -9,15 +9,15 @@ use Rattle.compare_listing.proofs.lines.register_text.Tie as tie
 
 fill-requires : tie.Need-fill-requires
 unfolding widths
-fill-requires c κs = (omega (arith, c.before.before.before.before.before.before.before.before.requires.0), omega arith)
+fill-requires c κs = (omega (arith, c.requires.0), omega arith)
 
 returns : tie.Need-returns
 unfolding widths
 returns c =
-    let p = c.before.before in
-    let y = p.before.before.before.before in
-    let x = y.before in
-    let start = x.before.before.before.before in
+    let p = c in
+    let y = c in
+    let x = c in
+    let start = c in
     let a = start.args in
     same_text
     (register-filled a.a.now a.b.now a.register x.outside_bits.ensures y.outside_bits-2.ensures (omega (arith, start.requires.1))

@@ -11,15 +11,15 @@ use Rattle.cutting.proofs.cuts.best_end.Tie as tie
 
 -- the candidates up to the last end, as high as they can be
 abbrev moved : tie.After-last_end-last → ℕ
-moved c = (c.before.args.candidates * 2 ^ (63 - c.last_end-last.result)) % 2 ^ 64
+moved c = (c.args.candidates * 2 ^ (63 - c.last_end-last.result)) % 2 ^ 64
 
 -- the one that is found
 found : (c : tie.After-last_end-last) → (count_leading_zeros 64 (moved c) ≤ c.last_end-last.result)
-    × Highest c.before.args.candidates c.last_end-last.result (c.last_end-last.result - count_leading_zeros 64 (moved c))
+    × Highest c.args.candidates c.last_end-last.result (c.last_end-last.result - count_leading_zeros 64 (moved c))
 found c =
     let e = c.last_end-last.ensures in
-    let a = c.before.args in
-    highest_is a.candidates c.last_end-last.result (suc a.start) (count_leading_zeros 64 (moved c)) (omega arith) (omega arith) c.before.requires.1 refl
+    let a = c.args in
+    highest_is a.candidates c.last_end-last.result (suc a.start) (count_leading_zeros 64 (moved c)) (omega arith) (omega arith) c.requires.1 refl
 
 returns : tie.Need-returns
 returns c = rw (← c.last_end-last.ensures) (found c).1

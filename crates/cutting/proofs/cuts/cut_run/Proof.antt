@@ -12,7 +12,7 @@ use Rattle.cutting.proofs.cuts.cut_run.Statement.{statement}
 use Rattle.cutting.proofs.cuts.cut_run.Tie as tie
 
 abbrev invariant-loop : tie.invariant-loop-at
-invariant-loop needed held first end limit ends cut₀ at₀ cut at = Cut needed held limit first end cut₀.true cut₀.starts cut.true cut.starts at
+invariant-loop needed held first end limit ends cut₀ at₀ cut at = Cut needed held limit first end cut₀.taken cut₀.starts cut.taken cut.starts at
 
 abbrev decreases-loop : tie.decreases-loop-at
 decreases-loop needed held first end limit ends cut₀ at₀ cut at = end - at
@@ -23,20 +23,20 @@ start c = c.before.before.before
 
 -- where the transaction of this round ends
 abbrev stop : tie.In-loop-at invariant-loop decreases-loop → ℕ
-stop c = get_or c.before.before.run_ends-ends.result c.before.loop-at.at 0
+stop c = get_or c.run_ends-ends.result c.loop-at.at 0
 
 known : (c : tie.In-loop-at invariant-loop decreases-loop)
     → stop c ≡ stop_of (run_task (start c).args.needed (start c).args.held (start c).args.limit (start c).args.end)
-    ((start c).args.end - suc c.before.loop-at.at) (suc c.before.loop-at.at) c.before.loop-at.at
+    ((start c).args.end - suc c.loop-at.at) (suc c.loop-at.at) c.loop-at.at
 known c =
-    let l = c.before.loop-at in
-    c.before.before.run_ends-ends.ensures l.at l.invariant.from c.loop-at-test.true (l.invariant.need c.loop-at-test.true)
+    let l = c.loop-at in
+    c.run_ends-ends.ensures l.at l.invariant.from c.loop-at-test.true (l.invariant.need c.loop-at-test.true)
 
 -- that is past its start, and in the run
-inside : (c : tie.In-loop-at invariant-loop decreases-loop) → (c.before.loop-at.at < stop c) × (stop c ≤ (start c).args.end)
+inside : (c : tie.In-loop-at invariant-loop decreases-loop) → (c.loop-at.at < stop c) × (stop c ≤ (start c).args.end)
 inside c =
     let a = (start c).args in
-    let at = c.before.loop-at.at in
+    let at = c.loop-at.at in
     let q = stop_in (run_task a.needed a.held a.limit a.end) (a.end - suc at) (suc at) at in
     let q₀ = q.0 in
     let q₁ = q.1 in
@@ -45,24 +45,24 @@ inside c =
 
 loop-holds : tie.Need-loop-at-init invariant-loop decreases-loop
 loop-holds c =
-    let a = c.before.args in
-    cut-none a.needed a.held a.limit a.first a.end a.spans.true a.spans.starts c.before.requires.0.0 c.before.requires.1
+    let a = c.args in
+    cut-none a.needed a.held a.limit a.first a.end a.spans.taken a.spans.starts c.requires.0.0 c.requires.1
 
 loop-again : tie.Need-loop-at-preserved invariant-loop decreases-loop
 loop-again c =
     let i = c.before.before in
     let a = (start i).args in
-    let l = i.before.loop-at in
-    let v = c.before.with_span-cut in
-    cut_round a.needed a.held a.limit a.first a.end a.spans.true a.spans.starts l.cut.true l.cut.starts
-    v.result.true v.result.starts
+    let l = i.loop-at in
+    let v = c.with_span-cut in
+    cut_round a.needed a.held a.limit a.first a.end a.spans.taken a.spans.starts l.cut.taken l.cut.starts
+    v.result.taken v.result.starts
     l.at (stop i) c.lowest.result (start i).ranges.needed.fits (start i).requires.0.1.0 i.loop-at-test.true (known i) c.lowest.ensures
     v.ensures.0 v.ensures.1 l.invariant
 
 returns : tie.Need-returns invariant-loop decreases-loop
 returns c allowed w π ρ ts s =
-    let l = c.before.loop-at in
-    let a = c.before.before.before.args in
+    let l = c.loop-at in
+    let a = c.args in
     let m : min l.at a.end ≡ a.end = omega arith in
     rw m at (l.invariant.sofar allowed w π ρ ts s)
 

@@ -40,8 +40,8 @@ inside c = (loop c).loop-at.invariant.best.inside c.best_end-stop.result c.best_
 
 -- what the table has there
 bound : (c : tie.After-best_end-stop invariant-loop decreases-loop)
-    → (byte_weight * c.best_end-stop.result ≤ get_or (loop c).loop-at.weights-1 c.best_end-stop.result 0)
-    × (get_or (loop c).loop-at.weights-1 c.best_end-stop.result 0 ≤ largest_weight)
+    → (byte_weight * c.best_end-stop.result ≤ get_or (loop c).loop-at.weights c.best_end-stop.result 0)
+    × (get_or (loop c).loop-at.weights c.best_end-stop.result 0 ≤ largest_weight)
 bound c =
     let s = start (loop c) in
     let a = s.args in
@@ -54,7 +54,7 @@ either false x y m h k = k
 
 loop-holds : tie.Need-loop-at-init invariant-loop decreases-loop
 loop-holds c =
-    let a = c.before.args in
+    let a = c.args in
     table-begin a.needed a.held a.limit a.end a.first (replicate 64 0) (replicate 64 0) c.end_weight.result
     (small c.before) (omega arith) refl refl c.end_weight.ensures
 
@@ -64,7 +64,7 @@ best-end-requires c κs =
     let t = l.loop-at.invariant in
     let e : suc (l.loop-at.at - 1) ≡ l.loop-at.at = omega arith in (
       ((omega (arith, t.to), small (start l)), (omega arith, omega arith)),
-      rw e (candidates_first (λ i. get_or l.loop-at.weights-1 i 0) l.loop-at.candidates l.loop-at.at (start l).args.end t.to t.best),
+      rw e (candidates_first (λ i. get_or l.loop-at.weights i 0) l.loop-at.candidates l.loop-at.at (start l).args.end t.to t.best),
     )
 
 rest-weight-requires : tie.Need-rest_weight-rest-requires invariant-loop decreases-loop
@@ -82,17 +82,17 @@ end-weight-requires-2 c κs =
 
 loop-again : tie.Need-loop-at-preserved invariant-loop decreases-loop
 loop-again c =
-    let w = c.before.before in
-    let b = w.before.before in
+    let w = c in
+    let b = c.before.before.before.before in
     let l = loop b in
     let a = (start l).args in
-    round a.needed a.held a.limit a.end a.first l.loop-at.ends l.loop-at.weights-1 l.loop-at.rest l.loop-at.candidates l.loop-at.at
-    b.best_end-stop.result w.before.rest_weight-rest.result w.end_weight-in-loop-at.result c.with_candidate-candidates.result (small (start l)) (omega arith) (omega arith)
-    l.loop-at.invariant b.best_end-stop.ensures w.before.rest_weight-rest.ensures w.end_weight-in-loop-at.ensures c.with_candidate-candidates.ensures
+    round a.needed a.held a.limit a.end a.first l.loop-at.ends l.loop-at.weights l.loop-at.rest l.loop-at.candidates l.loop-at.at
+    b.best_end-stop.result w.rest_weight-rest.result w.end_weight-in-loop-at.result c.with_candidate-candidates.result (small (start l)) (omega arith) (omega arith)
+    l.loop-at.invariant b.best_end-stop.ensures w.rest_weight-rest.ensures w.end_weight-in-loop-at.ensures c.with_candidate-candidates.ensures
 
 returns : tie.Need-returns invariant-loop decreases-loop
 returns c i a b n =
-    let t = c.before.loop-at.invariant in
+    let t = c.loop-at.invariant in
     t.ends i (omega (arith, t.from)) b n
 
 pub run_ends_spec : {M : Type 1} → statement M

@@ -11,10 +11,16 @@ sub-registers c = some_power (c.args.end - c.args.start) (omega arith)
 
 returns : tie.Need-returns
 returns c =
-    let s = c.before.before in (
+    let s = c in (
       λ x. span_taken s.args.spans.true s.args.start s.args.end x s.requires.0 s.requires.1,
       λ x. one_more s.args.spans.starts s.args.start x (omega arith),
     )
 
 pub with_span_spec : {M : Type 1} → statement M
-with_span_spec = tie.close (tie.spec (λ c. search rules) (λ c. search rules) sub-registers (λ c. search rules) (λ c. search rules) returns)
+with_span_spec = tie.close (tie.spec
+    (λ c. search rules)
+    (λ c. search rules)
+    sub-registers
+    (λ c. search rules)
+    (λ c. search rules)
+    returns)

@@ -7,7 +7,11 @@ use Rattle.field_table.proofs.places.given.Statement.{statement}
 use Rattle.field_table.proofs.places.given.Tie as tie
 
 returns-2 : tie.Need-returns
-returns-2 c = sym (get_or-eq_default c.before.args.numbers.now (pos 0) c.if-index-numbers.false)
+returns-2 c = sym (get_or-eq_default c.args.numbers.now (pos 0) c.if-index-numbers.false)
 
 pub given_spec : {M : Type 1} → statement M
-given_spec = tie.close (tie.spec (λ c. search rules) (λ c. search rules) (λ c. search rules) returns-2)
+given_spec = tie.close (tie.spec
+    (λ c. search rules)
+    (λ c. search rules)
+    (λ c. search rules)
+    returns-2)

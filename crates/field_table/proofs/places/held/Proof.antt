@@ -14,8 +14,12 @@ none k j = ap (λ (x : ℕ). x % 2 ^ j) (zero-div (2 ^ k)) ∙ zero-mod (2 ^ j)
 
 returns-2 : tie.Need-returns
 returns-2 c =
-    let a = c.before.before.args in
+    let a = c.args in
     sym (ap (field a.row.bit a.row.width) (get_or-eq_default a.image.now 0 c.if-register-image.false) ∙ none a.row.bit a.row.width)
 
 pub held_spec : {M : Type 1} → statement M
-held_spec = tie.close (tie.spec (λ c. search rules) (λ c κs. search rules) (λ c. search rules) returns-2)
+held_spec = tie.close (tie.spec
+    (λ c. search rules)
+    (λ c κs. search rules)
+    (λ c. search rules)
+    returns-2)

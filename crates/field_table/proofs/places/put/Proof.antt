@@ -12,4 +12,10 @@ returns-2 : tie.Need-returns-else-at-image
 returns-2 c = sym (set_out _ _ _ c.if-at-image.false)
 
 pub put_spec : {M : Type 1} → statement M
-put_spec = tie.close (tie.spec (λ c. search rules) (λ c κs. search rules) (λ c. search rules) (λ c. search rules) returns returns-2)
+put_spec = tie.close (tie.spec
+    (λ c. search rules)
+    (λ c κs. search rules)
+    (λ c. search rules)
+    (λ c. search rules)
+    returns
+    returns-2)

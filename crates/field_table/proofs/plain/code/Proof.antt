@@ -27,8 +27,8 @@ start c = c.before.before.before
 -- the flag of the range test
 judged : (c : tie.After-outside) → c.outside.result ≡ outside (start c).args.row (start c).args.setting
 judged c =
-    let low = to_z-of_z w32 (start c).args.row.low (record { sfits = c.before.before.struct_told-1.given.1.1.1.1.1.0.1 }) in
-    let high = to_z-of_z w32 (start c).args.row.high (record { sfits = c.before.struct_told-2-1.given.1.1.1.1.1.1.0.1 }) in
+    let low = to_z-of_z w32 (start c).args.row.low (record { sfits = c.struct_told-1.given.1.1.1.1.1.0.1 }) in
+    let high = to_z-of_z w32 (start c).args.row.high (record { sfits = c.struct_told-2-1.given.1.1.1.1.1.1.0.1 }) in
     rw (same (start c), low, high) at c.outside.ensures
 
 refusal-requires : tie.Need-refusal-requires
@@ -38,7 +38,7 @@ returns : tie.Need-returns-then-outside
 returns c =
     let a = c.before.before in
     let s = start a in
-    code_out s.args.row s.args.setting _ (sym (judged a) ∙ c.before.if-outside.true) (rw (same s) at c.refusal.ensures)
+    code_out s.args.row s.args.setting _ (sym (judged a) ∙ c.if-outside.true) (rw (same s) at c.refusal.ensures)
 
 -- a setting in the range
 inside : (c : tie.Else-outside) → outside (start c.before).args.row (start c.before).args.setting ≡ false
@@ -56,4 +56,9 @@ returns-2 c =
     ap (λ (z : ℤ). accepted (nat_abs z)) (same s) ∙ code_in s.args.row s.args.setting (inside c)
 
 pub code_spec : {M : Type 1} → statement M
-code_spec = tie.close (tie.spec (λ c κs. search rules) refusal-requires returns cast-t5 returns-2)
+code_spec = tie.close (tie.spec
+    (λ c κs. search rules)
+    refusal-requires
+    returns
+    cast-t5
+    returns-2)

@@ -9,4 +9,6 @@ returns : tie.Need-returns
 returns c = one_shl c.args.width 32 (omega arith)
 
 pub codes_spec : {M : Type 1} → statement M
-codes_spec = tie.close (tie.spec (λ c. search rules) returns)
+codes_spec = tie.close (tie.spec
+    (λ c. search rules)
+    returns)

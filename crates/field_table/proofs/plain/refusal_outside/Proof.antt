@@ -10,4 +10,6 @@ returns-2 : tie.Need-returns
 returns-2 c = rw (ne_eqb _ 3 c.if-row-eq3.false)
 
 pub refusal_outside_spec : {M : Type 1} → statement M
-refusal_outside_spec = tie.close (tie.spec returns returns-2)
+refusal_outside_spec = tie.close (tie.spec
+    returns
+    returns-2)

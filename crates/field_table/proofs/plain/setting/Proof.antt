@@ -27,8 +27,8 @@ start c = c.before.before.before
 -- the flag of the range test
 judged : (c : tie.After-outside) → c.outside.result ≡ outside (start c).args.row (pos (start c).args.code)
 judged c =
-    let low = to_z-of_z w32 (start c).args.row.low (record { sfits = c.before.before.struct_told-1.given.1.1.1.1.1.0.1 }) in
-    let high = to_z-of_z w32 (start c).args.row.high (record { sfits = c.before.struct_told-2-1.given.1.1.1.1.1.1.0.1 }) in
+    let low = to_z-of_z w32 (start c).args.row.low (record { sfits = c.struct_told-1.given.1.1.1.1.1.0.1 }) in
+    let high = to_z-of_z w32 (start c).args.row.high (record { sfits = c.struct_told-2-1.given.1.1.1.1.1.1.0.1 }) in
     rw (same (start c), low, high) at c.outside.ensures
 
 refusal-requires : tie.Need-refusal-requires
@@ -38,7 +38,7 @@ returns : tie.Need-returns-then-outside
 returns c =
     let a = c.before.before in
     let s = start a in
-    read_out s.args.row (fits s) s.args.code _ (sym (judged a) ∙ c.before.if-outside.true) (rw (same s) at c.refusal.ensures)
+    read_out s.args.row (fits s) s.args.code _ (sym (judged a) ∙ c.if-outside.true) (rw (same s) at c.refusal.ensures)
 
 returns-2 : tie.Need-returns
 returns-2 c =
@@ -46,4 +46,9 @@ returns-2 c =
     ap accepted (same s) ∙ read_in s.args.row (fits s) s.args.code (sym (judged c.before) ∙ c.if-outside.false)
 
 pub setting_spec : {M : Type 1} → statement M
-setting_spec = tie.close (tie.spec (λ c. search rules) (λ c κs. search rules) refusal-requires returns returns-2)
+setting_spec = tie.close (tie.spec
+    (λ c. search rules)
+    (λ c κs. search rules)
+    refusal-requires
+    returns
+    returns-2)

@@ -6,15 +6,17 @@ use Rattle.field_table.proofs.row.outside.Tie as tie
 
 returns : tie.Need-returns-then-s-low
 returns c =
-    let a = c.before.args in
-    let f = c.before.ranges in
+    let a = c.args in
+    let f = c.ranges in
     simp (rw (to_z-of_z w32 a.s f.s, to_z-of_z w32 a.low f.low) at c.if-s-low.true)
 
 returns-2 : tie.Need-returns-else-s-low
 returns-2 c =
-    let a = c.before.args in
-    let f = c.before.ranges in
+    let a = c.args in
+    let f = c.ranges in
     simp (rw (to_z-of_z w32 a.s f.s, to_z-of_z w32 a.low f.low) at c.if-s-low.false, to_z-of_z w32 a.s f.s, to_z-of_z w32 a.high f.high)
 
 pub outside_spec : {M : Type 1} → statement M
-outside_spec = tie.close (tie.spec returns returns-2)
+outside_spec = tie.close (tie.spec
+    returns
+    returns-2)

@@ -18,10 +18,10 @@ columns p l h =
 
 returns : tie.Need-returns
 returns c =
-    let low = c.before.signed12 in
+    let low = c.signed12 in
     let high = c.signed12-2 in
-    ap₂ (columns c.before.before.args.packed) (to_z-of_z w32 _ (record { sfits = low.type-inv }) ∙ low.ensures)
-    (to_z-of_z w32 _ (record { sfits = high.type-inv }) ∙ high.ensures)
+    ap₂ (columns c.args.packed) (to_z-of_z w32 _ (record { sfits = low.type_inv }) ∙ low.ensures)
+    (to_z-of_z w32 _ (record { sfits = high.type_inv }) ∙ high.ensures)
 
 pub row_of_spec : {M : Type 1} → statement M
 row_of_spec =

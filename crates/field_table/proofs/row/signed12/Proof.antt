@@ -21,18 +21,23 @@ small n = record { sfits = omega arith }
 
 returns : tie.Need-returns-then-n-lt2048
 returns c =
-    let n = c.before.args.n in
+    let n = c.args.n in
     as_signed n (omega arith) ∙ sym (rw (lt-ltb n 0x800 c.if-n-lt2048.true))
 
 sub-result : tie.Need-overflow_sub-result
 sub-result c =
-    let n = c.before.args.n in
+    let n = c.args.n in
     rw (as_signed n (omega arith), less-all n (omega arith)) (small n)
 
 returns-2 : tie.Need-returns
 returns-2 c =
-    let n = c.before.args.n in
+    let n = c.args.n in
     rw (as_signed n (omega arith), less-all n (omega arith), le-ltb n 0x800 c.if-n-lt2048.false) (to_z-of_z w32 (negsuc (0xFFF - n)) (small n))
 
 pub signed12_spec : {M : Type 1} → statement M
-signed12_spec = tie.close (tie.spec (λ c. search rules) returns (λ c. search rules) sub-result returns-2)
+signed12_spec = tie.close (tie.spec
+    (λ c. search rules)
+    returns
+    (λ c. search rules)
+    sub-result
+    returns-2)

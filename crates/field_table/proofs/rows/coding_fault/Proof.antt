@@ -4,7 +4,11 @@ use Rattle.field_table.proofs.rows.coding_fault.Statement.{statement}
 use Rattle.field_table.proofs.rows.coding_fault.Tie as tie
 
 returns-2 : tie.Need-returns-in-Refused
-returns-2 c = rw c.before.coded-1.given.1
+returns-2 c = rw c.in-Refused.is
 
 pub coding_fault_spec : {M : Type 1} → statement M
-coding_fault_spec = tie.close (tie.spec (λ c. search rules) (λ c. search rules) (λ c. search rules) returns-2)
+coding_fault_spec = tie.close (tie.spec
+    (λ c. search rules)
+    (λ c. search rules)
+    (λ c. search rules)
+    returns-2)

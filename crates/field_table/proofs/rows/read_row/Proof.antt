@@ -23,16 +23,16 @@ row_in c = row_of (start c).args.packed
 -- what is read is the row's code
 reading : (c : tie.After-setting-decoded) → decoded_as c.setting-decoded.result ≡ reading_of (start c).args.image.now (plain_of (row_in c))
 reading c =
-    let r = c.before.before.row_of-row in
-    c.setting-decoded.ensures ∙ ap (decode (plain_of r.result)) c.before.held.ensures
+    let r = c.row_of-row in
+    c.setting-decoded.ensures ∙ ap (decode (plain_of r.result)) c.held.ensures
     ∙ ap (λ x. decode (plain_of x) (held (start c).args.image.now x)) r.ensures
 
 returns : tie.Need-returns
 returns c =
-    let w = c.before in
-    let k = w.before.before in (
+    let w = c in
+    let k = c.before.before.before in (
       w.read_decoded.ensures.0 ∙ ap (λ j. after (checked_as (start k).args.before) (fault_of (row_in k).field j)) (reading k),
-      w.read_decoded.ensures.1 ∙ ap (λ j. set (start k).args.numbers-1.now (row_in k).index (value_or (pos 0) j)) (reading k),
+      w.read_decoded.ensures.1 ∙ ap (λ j. set (start k).args.numbers.now (row_in k).index (value_or (pos 0) j)) (reading k),
     )
 
 pub read_row_spec : {M : Type 1} → statement M
@@ -40,8 +40,8 @@ read_row_spec =
     tie.close
     (tie.spec
     (λ c κs. search rules)
-    (λ c κs. held_fits c.row_of-row.ensures c.before.before.requires)
-    (λ c κs. same-fits c.before.row_of-row.ensures c.before.before.before.requires)
+    (λ c κs. held_fits c.row_of-row.ensures c.requires)
+    (λ c κs. same-fits c.row_of-row.ensures c.requires)
     (λ c κs. search rules)
     (λ c. search rules)
     returns)

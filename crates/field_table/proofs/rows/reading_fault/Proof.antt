@@ -4,7 +4,11 @@ use Rattle.field_table.proofs.rows.reading_fault.Statement.{statement}
 use Rattle.field_table.proofs.rows.reading_fault.Tie as tie
 
 returns-2 : tie.Need-returns-in-Unreadable
-returns-2 c = rw c.before.decoded-1.given.1
+returns-2 c = rw c.in-Unreadable.is
 
 pub reading_fault_spec : {M : Type 1} → statement M
-reading_fault_spec = tie.close (tie.spec (λ c. search rules) (λ c. search rules) (λ c. search rules) returns-2)
+reading_fault_spec = tie.close (tie.spec
+    (λ c. search rules)
+    (λ c. search rules)
+    (λ c. search rules)
+    returns-2)

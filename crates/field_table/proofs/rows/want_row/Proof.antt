@@ -27,9 +27,9 @@ row_in c = row_of (start c).args.packed
 -- what is coded is the row's setting
 coding : (c : tie.After-code-coded) → coded_as c.code-coded.result ≡ coding_of (start c).args.numbers.now (plain_of (row_in c))
 coding c =
-    let g = c.before.given in
-    let r = c.before.before.row_of-row in
-    c.code-coded.ensures ∙ ap (encode (plain_of r.result)) (to_z-of_z w32 g.result (record { sfits = g.type-inv }) ∙ g.ensures)
+    let g = c.given in
+    let r = c.row_of-row in
+    c.code-coded.ensures ∙ ap (encode (plain_of r.result)) (to_z-of_z w32 g.result (record { sfits = g.type_inv }) ∙ g.ensures)
     ∙ ap (λ x. encode (plain_of x) (given (start c).args.numbers.now x)) r.ensures
 
 want-coded-requires : tie.Need-want_coded-requires
@@ -42,10 +42,10 @@ want-coded-requires c κs =
 
 returns : tie.Need-returns
 returns c =
-    let w = c.before.before in
-    let k = w.before.before in (
+    let w = c in
+    let k = c.before.before.before.before in (
       w.want_coded.ensures.0 ∙ ap (λ j. after (checked_as (start k).args.before) (fault_of (row_in k).field j)) (coding k),
-      w.want_coded.ensures.1 ∙ ap (λ j. put (start k).args.image-1.now (row_write (row_in k) (value_or 0 j))) (coding k),
+      w.want_coded.ensures.1 ∙ ap (λ j. put (start k).args.image.now (row_write (row_in k) (value_or 0 j))) (coding k),
     )
 
 pub want_row_spec : {M : Type 1} → statement M
@@ -54,7 +54,7 @@ want_row_spec =
     (tie.spec
     (λ c κs. search rules)
     (λ c κs. search rules)
-    (λ c κs. same-fits c.before.row_of-row.ensures c.before.before.before.requires)
+    (λ c κs. same-fits c.row_of-row.ensures c.requires)
     want-coded-requires
     (λ c. search rules)
     returns)

@@ -46,16 +46,16 @@ abbrev field_in : tie.At-loop-i invariant-loop decreases-loop → Field
 field_in c = plain_of (row_of (get_or (table c) c.loop-i.i 0))
 
 -- it and those after it fit
-fits-now : (c : tie.In-loop-i invariant-loop decreases-loop) → T (all_fit (field_in c.before ∷ plain_fields (drop (c.before.loop-i.i + 1) (table c.before))))
-fits-now c = fits_next (table c.before) _ c.loop-i-test.true c.before.loop-i.invariant.fits
+fits-now : (c : tie.In-loop-i invariant-loop decreases-loop) → T (all_fit (field_in c.before ∷ plain_fields (drop (c.loop-i.i + 1) (table c.before))))
+fits-now c = fits_next (table c.before) _ c.loop-i-test.true c.loop-i.invariant.fits
 
 loop-again : tie.Need-loop-i-preserved invariant-loop decreases-loop
 loop-again c =
-    let w = c.before in
-    let i = w.before.before.before in
-    let l = i.before.loop-i in
-    let image = registers i.before in
-    let rest = plain_fields (drop (l.i + 1) (table i.before)) in
+    let w = c in
+    let i = c.before.before.before.before in
+    let l = i.loop-i in
+    let image = registers c.before.before.before.before.before in
+    let rest = plain_fields (drop (l.i + 1) (table c.before.before.before.before.before)) in
     let v = checked_as l.verdict in
     record {
       inside = omega (arith, i.loop-i-test.true);
@@ -63,20 +63,20 @@ loop-again c =
       fits = fits-rest _ _ (fits-now i);
       verdict =
           ap (λ u. after u (judge_of image rest)) w.read_row-verdict.ensures.0
-          ∙ after_assoc v (reading_fault image (field_in i.before)) (judge_of image rest)
-          ∙ ap (after v) (sym (judge_next (table i.before) l.i i.loop-i-test.true image)) ∙ l.invariant.verdict;
+          ∙ after_assoc v (reading_fault image (field_in c.before.before.before.before.before)) (judge_of image rest)
+          ∙ ap (after v) (sym (judge_next (table c.before.before.before.before.before) l.i i.loop-i-test.true image)) ∙ l.invariant.verdict;
       numbers =
           ap (λ x. numbers_of image x rest) w.read_row-verdict.ensures.1
-          ∙ sym (numbers-next (table i.before) l.i i.loop-i-test.true image l.numbers-1) ∙ l.invariant.numbers-1;
+          ∙ sym (numbers-next (table c.before.before.before.before.before) l.i i.loop-i-test.true image l.numbers) ∙ l.invariant.numbers;
     }
 
 returns : tie.Need-returns invariant-loop decreases-loop
 returns c =
-    let l = c.before.loop-i in
+    let l = c.loop-i in
     let image = registers c.before in
     let v = checked_as l.verdict in (
       sym (after-good v) ∙ ap (after v) (sym (judge_end (table c.before) l.i c.loop-i-test.false l.invariant.inside image)) ∙ l.invariant.verdict,
-      sym (numbers-end (table c.before) l.i c.loop-i-test.false l.invariant.inside image l.numbers-1) ∙ l.invariant.numbers-1,
+      sym (numbers-end (table c.before) l.i c.loop-i-test.false l.invariant.inside image l.numbers) ∙ l.invariant.numbers,
     )
 
 pub read_spec : {M : Type 1} → statement M
@@ -85,12 +85,12 @@ read_spec =
     (tie.spec
     invariant-loop
     decreases-loop
-    (λ c. record { inside = omega arith; size = refl; fits = c.before.before.requires; verdict = refl; numbers = refl })
+    (λ c. record { inside = omega arith; size = refl; fits = c.requires; verdict = refl; numbers = refl })
     (λ c. search rules)
     (λ c. search rules)
     (λ c κs. fits-first _ _ (fits-now c.before.before))
     (λ c. omega arith)
     (λ c. omega arith)
     loop-again
-    (λ c. c.before.loop-i.invariant.size)
+    (λ c. c.loop-i.invariant.size)
     returns)

@@ -47,16 +47,16 @@ abbrev field_in : tie.At-loop-i invariant-loop decreases-loop → Field
 field_in c = plain_of (row_of (get_or (table c) c.loop-i.i 0))
 
 -- it and those after it fit
-fits-now : (c : tie.In-loop-i invariant-loop decreases-loop) → T (all_fit (field_in c.before ∷ plain_fields (drop (c.before.loop-i.i + 1) (table c.before))))
-fits-now c = fits_next (table c.before) _ c.loop-i-test.true c.before.loop-i.invariant.fits
+fits-now : (c : tie.In-loop-i invariant-loop decreases-loop) → T (all_fit (field_in c.before ∷ plain_fields (drop (c.loop-i.i + 1) (table c.before))))
+fits-now c = fits_next (table c.before) _ c.loop-i-test.true c.loop-i.invariant.fits
 
 loop-again : tie.Need-loop-i-preserved invariant-loop decreases-loop
 loop-again c =
-    let w = c.before.before in
-    let i = w.before.before.before in
-    let l = i.before.loop-i in
-    let zs = settings i.before in
-    let rest = plain_fields (drop (l.i + 1) (table i.before)) in
+    let w = c in
+    let i = c.before.before.before.before.before in
+    let l = i.loop-i in
+    let zs = settings c.before.before.before.before.before.before in
+    let rest = plain_fields (drop (l.i + 1) (table c.before.before.before.before.before.before)) in
     let v = checked_as l.verdict in
     record {
       inside = omega (arith, i.loop-i-test.true);
@@ -64,20 +64,20 @@ loop-again c =
       fits = fits-rest _ _ (fits-now i);
       verdict =
           ap (λ u. after u (check_of zs rest)) w.want_row-verdict.ensures.0
-          ∙ after_assoc v (coding_fault zs (field_in i.before)) (check_of zs rest)
-          ∙ ap (after v) (sym (check_next (table i.before) l.i i.loop-i-test.true zs)) ∙ l.invariant.verdict;
+          ∙ after_assoc v (coding_fault zs (field_in c.before.before.before.before.before.before)) (check_of zs rest)
+          ∙ ap (after v) (sym (check_next (table c.before.before.before.before.before.before) l.i i.loop-i-test.true zs)) ∙ l.invariant.verdict;
       registers =
           ap (λ x. puts x (writes_of zs rest)) w.want_row-verdict.ensures.1
-          ∙ sym (puts-next (table i.before) l.i i.loop-i-test.true zs l.image-1) ∙ l.invariant.registers;
+          ∙ sym (puts-next (table c.before.before.before.before.before.before) l.i i.loop-i-test.true zs l.image) ∙ l.invariant.registers;
     }
 
 returns : tie.Need-returns invariant-loop decreases-loop
 returns c =
-    let l = c.before.loop-i in
+    let l = c.loop-i in
     let zs = settings c.before in
     let v = checked_as l.verdict in (
       sym (after-good v) ∙ ap (after v) (sym (check_end (table c.before) l.i c.loop-i-test.false l.invariant.inside zs)) ∙ l.invariant.verdict,
-      sym (puts-end (table c.before) l.i c.loop-i-test.false l.invariant.inside zs l.image-1) ∙ l.invariant.registers,
+      sym (puts-end (table c.before) l.i c.loop-i-test.false l.invariant.inside zs l.image) ∙ l.invariant.registers,
     )
 
 pub want_spec : {M : Type 1} → statement M
@@ -86,12 +86,12 @@ want_spec =
     (tie.spec
     invariant-loop
     decreases-loop
-    (λ c. record { inside = omega arith; size = refl; fits = c.before.before.requires; verdict = refl; registers = refl })
+    (λ c. record { inside = omega arith; size = refl; fits = c.requires; verdict = refl; registers = refl })
     (λ c. search rules)
     (λ c. search rules)
     (λ c κs. fits-first _ _ (fits-now c.before.before))
     (λ c. omega arith)
     (λ c. omega arith)
     loop-again
-    (λ c. c.before.loop-i.invariant.size)
+    (λ c. c.loop-i.invariant.size)
     returns)

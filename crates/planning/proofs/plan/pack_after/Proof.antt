@@ -29,10 +29,10 @@ module _ (c : tie.After-count) where
 
   -- the registers taken, the starts, and the registers that transactions go on over
   abbrev taken : ℕ
-  taken = c.before.before.before.covered-taken.result
+  taken = c.before.before.before.covered.result
 
   abbrev starts : ℕ
-  starts = c.before.before.starts-starts.result
+  starts = c.before.before.starts.result
 
   abbrev goes : ℕ
   goes = bit_and taken (complement starts)
@@ -44,7 +44,7 @@ module _ (c : tie.After-count) where
   known : Mapped plan-of wanted taken starts goes
   known =
       joined_mapped start.args.needed start.args.allowed taken starts wanted (search rules) (search rules) start.requires.writable
-      c.before.before.before.covered-taken.ensures c.before.before.starts-starts.ensures start.requires.inside
+      c.before.before.before.covered.ensures c.before.before.starts.ensures start.requires.inside
 
   -- the first transaction, the others, and all
   abbrev lead : Transaction
@@ -61,18 +61,18 @@ module _ (c : tie.After-count) where
   same = ap (λ (l : List Transaction). lead ∷ l) known.list
 
   -- how many they are, and how many data they have
-  counted : c.before.count-all.result + 1 ≡ length all
-  counted = omega (arith, known.transactions, c.before.count-all.ensures)
+  counted : c.before.count.result + 1 ≡ length all
+  counted = omega (arith, known.transactions, c.before.count.ensures)
 
-  bytes : data_count all ≡ c.count.result + length start.args.bytes.now
+  bytes : data_count all ≡ c.count2.result + length start.args.bytes.now
   unfolding data_count
-  bytes = omega (arith, known.bytes, c.count.ensures)
+  bytes = omega (arith, known.bytes, c.count2.ensures)
 
   -- which are few
-  few : (c.before.count-all.result + 1 ≤ 63) × (c.count.result ≤ 63)
+  few : (c.before.count.result + 1 ≤ 63) × (c.count2.result ≤ 63)
   few =
       let n = start.requires.small in
-      (omega (arith, known.few, c.before.count-all.ensures), omega (arith, known.short, c.count.ensures))
+      (omega (arith, known.few, c.before.count.ensures), omega (arith, known.short, c.count2.ensures))
 
 -- the bytes of their packing
 long : (c : tie.After-packed_length-size) → c.packed_length-size.result ≡ length (packed (all c.before))
@@ -80,13 +80,13 @@ long c =
     c.packed_length-size.ensures ∙ ap₂ packed_length (counted c.before) (sym (bytes c.before)) ∙ sym (packed-length (all c.before))
 
 -- and what they cost on the bus
-cost : (c : tie.After-count) → cost_of (c.before.count-all.result + 1) (c.count.result + length (start c).args.bytes.now) ≡ bus_bytes (all c)
+cost : (c : tie.After-count) → cost_of (c.count-all.result + 1) (c.count.result + length (start c).args.bytes.now) ≡ bus_bytes (all c)
 cost c = ap₂ cost_of (counted c) (sym (bytes c)) ∙ sym (bytes_count (all c))
 
 returns : tie.Need-returns-then-plan-size
 returns c =
-    let p = c.before.before.before in
-    let t = too_short (all p) (lead p ∷ plan-of p) (start p).args.plan-1.now (same p) (omega (arith, c.before.if-plan-size.true, long c.before.before)) in
+    let p = c in
+    let t = too_short (all p) (lead p ∷ plan-of p) (start p).args.plan.now (same p) (omega (arith, c.if-plan-size.true, long c.before.before)) in
     (c.too_short.ensures ∙ t.0, t.1)
 
 -- where the plan was begun with the count
@@ -94,14 +94,14 @@ abbrev counted-at : tie.After-begin → tie.After-count
 counted-at c = c.before.before.before.before
 
 -- all fit
-fits : (c : tie.After-begin) → length (packed (all (counted-at c))) ≤ length (start (counted-at c)).args.plan-1.now
-fits c = omega (arith, c.before.before.if-plan-size.false, long c.before.before.before)
+fits : (c : tie.After-begin) → length (packed (all (counted-at c))) ≤ length (start (counted-at c)).args.plan.now
+fits c = omega (arith, c.if-plan-size.false, long c.before.before.before)
 
 pack-transaction-requires : tie.Need-pack_transaction-first-requires
 pack-transaction-requires c κs =
     let p = counted-at c in
-    let n = p.before.count-all.result + 1 in
-    let w = (start p).args.plan-1.now in (
+    let n = p.count-all.result + 1 in
+    let w = (start p).args.plan.now in (
       begun-sound (all p) w c.begin.result n (few p).0 (counted p) c.begin.ensures,
       omega (arith, (start p).requires.start),
       omega (arith, (start p).requires.short),
@@ -110,17 +110,17 @@ pack-transaction-requires c κs =
 
 pack-spans-requires : tie.Need-pack_spans-requires
 pack-spans-requires c κs =
-    let k = c.before.before.before in
-    let g = k.before in
+    let k = c in
+    let g = c.before.before.before.before in
     let p = counted-at g in
-    let n = p.before.count-all.result + 1 in
+    let n = p.count-all.result + 1 in
     let put = k.pack_transaction-first in
     record {
       inside = (known p).inside;
       over = (known p).over;
       small = omega (arith, (start p).requires.small);
       sound = put.ensures.sound;
-      room = later-room (lead p) (others p) (start p).args.plan-1.now g.begin.result n (few p).0 (counted p) g.begin.ensures (fits g)
+      room = later-room (lead p) (others p) (start p).args.plan.now g.begin.result n (few p).0 (counted p) g.begin.ensures (fits g)
           put.new.0 put.result put.auto.0 put.ensures;
     }
 
@@ -131,7 +131,7 @@ packed-at c = c.before.before.before.before.before.before
 cast-t13 : tie.Need-overflow_cast-result
 cast-t13 c =
     let l = (packed-at c).before.before.before.before in
-    omega (arith, l.packed_length-size.ensures, (few l.before).0, (few l.before).1, (start l.before).requires.short)
+    omega (arith, l.packed-length.ensures, (few l.before).0, (few l.before).1, (start l.before).requires.short)
 
 cast-t15 : tie.Need-overflow_cast-result-2
 cast-t15 c =
@@ -140,15 +140,15 @@ cast-t15 c =
 
 returns-2 : tie.Need-returns
 returns-2 c =
-    let r = c.before.before.before in
+    let r = c in
     let k = packed-at c.before in
-    let g = k.before in
+    let g = k in
     let p = counted-at g in
-    let n = p.before.count-all.result + 1 in
-    let w = (start p).args.plan-1.now in
+    let n = p.count-all.result + 1 in
+    let w = (start p).args.plan.now in
     let put = k.pack_transaction-first in
     let l = g.before.before.before in
-    has_room (all p) (lead p ∷ plan-of p) w r.pack_spans.new.0 l.packed_length-size.result n c.bus_bytes.result
+    has_room (all p) (lead p ∷ plan-of p) w r.pack_spans.new.0 l.packed-length.result n c.bus_bytes.result
     (same p) (fits g) (long l) (counted p) (c.bus_bytes.ensures ∙ cost p)
     (later-done (lead p) (others p) w g.begin.result n (few p).0 (counted p) g.begin.ensures (fits g) put.last.0 put.result put.kept.0
     put.ensures r.pack_spans.new.0 r.pack_spans.ensures)
@@ -160,7 +160,7 @@ pack_after_spec =
     (λ c κs. tt)
     (λ c κs. tt)
     (λ c κs. tt)
-    (λ c. omega (arith, c.count-all.ensures, ones-le 64 c.before.starts-starts.result (search rules)))
+    (λ c. omega (arith, c.count-all.ensures, ones-le 64 c.starts-starts.result (search rules)))
     (λ c κs. tt)
     (λ c. search rules)
     (λ c. omega (arith, (few c).1, (start c).requires.short))

@@ -35,34 +35,34 @@ start c = c.before.before.before
 rest-fits : (c : tie.At-loop-rest invariant-loop decreases-loop) → c.loop-rest.rest < 2 ^ 64
 rest-fits c = omega (arith, c.loop-rest.invariant.is, shr_le (start c).args.true c.loop-rest.from, (start c).ranges.true.fits)
 
-some_left : (c : tie.In-loop-rest invariant-loop decreases-loop) → 0 < c.before.loop-rest.rest
+some_left : (c : tie.In-loop-rest invariant-loop decreases-loop) → 0 < c.loop-rest.rest
 some_left c = omega (arith, c.loop-rest-test.true)
 
 -- its lowest register is one of 64
 near : (c : tie.After-lowest invariant-loop decreases-loop) → c.lowest.result < 64
-near c = (first-is c.before.before.loop-rest.rest c.lowest.result (some_left c.before) (rest-fits c.before.before) c.lowest.ensures).near
+near c = (first-is c.loop-rest.rest c.lowest.result (some_left c.before) (rest-fits c.before.before) c.lowest.ensures).near
 
 -- and has a wanted byte
-low : (c : tie.After-lowest invariant-loop decreases-loop) → c.before.before.loop-rest.from + c.lowest.result < length (start c.before.before).args.wanted.now
+low : (c : tie.After-lowest invariant-loop decreases-loop) → c.loop-rest.from + c.lowest.result < length (start c.before.before).args.wanted.now
 low c =
     let a = c.before.before in
     let s = start a in
     let l = a.loop-rest in
     starts_in s.args.true s.args.goes s.args.wanted.now s.requires.inside s.requires.over l.from l.rest c.lowest.result
-    s.fits.true.fits l.invariant.is (some_left c.before) c.lowest.ensures
+    s.ranges.true.fits l.invariant.is (some_left c.before) c.lowest.ensures
 
 -- the transaction of this round
 turn : (c : tie.After-run-more invariant-loop decreases-loop)
     → Round (start c.before.before.before).args.true (start c.before.before.before).args.goes
     (start c.before.before.before).args.wanted.now
-    c.before.before.before.loop-rest.from c.before.lowest.result c.run-more.result
+    c.loop-rest.from c.lowest.result c.run-more.result
 turn c =
     let a = c.before.before.before in
     let s = start a in
     let l = a.loop-rest in
-    round s.args.true s.args.goes s.args.wanted.now s.requires.inside s.requires.over l.from l.rest c.before.lowest.result
+    round s.args.true s.args.goes s.args.wanted.now s.requires.inside s.requires.over l.from l.rest c.lowest.result
     c.run-more.result
-    s.fits.true.fits s.fits.goes.fits l.invariant.within l.invariant.is (some_left c.before.before) c.before.lowest.ensures c.run-more.ensures
+    s.ranges.true.fits s.ranges.goes.fits l.invariant.within l.invariant.is (some_left c.before.before) c.lowest.ensures c.run-more.ensures
 
 -- the list
 abbrev list-of : tie.Start invariant-loop decreases-loop → List Transaction
@@ -74,7 +74,7 @@ loop-holds c =
     record {
       within = omega arith;
       is = sym (div-one s.args.true);
-      progress = progress_none (list-of s) s.args.first s.args.plan-1.now s.requires.sound s.requires.room;
+      progress = progress_none (list-of s) s.args.first s.args.plan.now s.requires.sound s.requires.room;
     }
 
 add_start : tie.Need-overflow_add-start invariant-loop decreases-loop
@@ -86,45 +86,45 @@ shr-run c = omega (arith, low c, (start c.before.before).requires.small)
 pack-transaction-requires : tie.Need-pack_transaction-pending-requires invariant-loop decreases-loop
 pack-transaction-requires c κs =
     let r = c.before.before in
-    let a = r.before.before.before in
+    let a = c.before.before.before.before.before in
     let s = start a in
     let t = turn r in
     let l = a.loop-rest in
     let w = s.args.wanted.now in
-    let first = l.from + r.before.lowest.result in
+    let first = l.from + r.lowest.result in
     let past = first + r.run-more.result + 1 in (
       l.invariant.progress.sofar.sound,
-      omega (arith, low r.before, s.requires.small),
+      omega (arith, low c.before.before.before, s.requires.small),
       omega (arith, span_size w first past (omega arith) t.inside, t.inside, s.requires.small),
-      progress_room (list-of s) s.args.first s.args.plan-1.now s.requires.sound s.requires.room l.invariant.progress (span w first past)
+      progress_room (list-of s) s.args.first s.args.plan.now s.requires.sound s.requires.room l.invariant.progress (span w first past)
           (list_from s.args.true s.args.goes w past) t.next,
     )
 
 loop-again : tie.Need-loop-rest-preserved invariant-loop decreases-loop
 loop-again c =
-    let p = c.before.before in
-    let r = p.before.before.before in
-    let a = r.before.before.before in
+    let p = c in
+    let r = c.before.before.before.before.before in
+    let a = c.before.before.before.before.before.before.before.before in
     let s = start a in
     let t = turn r in
     let l = a.loop-rest in
     let w = s.args.wanted.now in
-    let first = l.from + r.before.lowest.result in
+    let first = l.from + r.lowest.result in
     let past = first + r.run-more.result + 1 in
     record {
       within = t.inside;
       is = refl;
-      progress = progress_more (list-of s) s.args.first s.args.plan-1.now s.requires.sound s.requires.room l.invariant.progress (span w first past)
+      progress = progress_more (list-of s) s.args.first s.args.plan.now s.requires.sound s.requires.room l.invariant.progress (span w first past)
           (list_from s.args.true s.args.goes w past) t.next
           p.pack_transaction-pending.new.0 p.pack_transaction-pending.result p.pack_transaction-pending.auto.0 p.pack_transaction-pending.ensures;
     }
 
 -- no transaction is left
 none_left : (c : tie.After-loop-rest invariant-loop decreases-loop)
-    → list_from (start c.before).args.true (start c.before).args.goes (start c.before).args.wanted.now c.before.loop-rest.from ≡ []
+    → list_from (start c.before).args.true (start c.before).args.goes (start c.before).args.wanted.now c.loop-rest.from ≡ []
 none_left c =
     let s = start c.before in
-    let l = c.before.loop-rest in
+    let l = c.loop-rest in
     listed s.args.true s.args.goes s.args.wanted.now s.requires.inside s.requires.over l.from l.invariant.within
     (sym l.invariant.is ∙ c.loop-rest-test.false)
 
@@ -133,17 +133,17 @@ finish-requires c κs =
     let a = c.before.before in
     let s = start a in
     let g = a.loop-rest.invariant.progress in
-    (g.sofar.sound, progress_last (list-of s) s.args.first s.args.plan-1.now s.requires.sound s.requires.room g (none_left c.before))
+    (g.sofar.sound, progress_last (list-of s) s.args.first s.args.plan.now s.requires.sound s.requires.room g (none_left c.before))
 
 same_length : tie.Need-shape_of-plan invariant-loop decreases-loop
-same_length c = c.before.before.finish.auto.0 ∙ c.before.before.before.before.before.loop-rest.invariant.progress.long
+same_length c = c.finish.auto.0 ∙ c.loop-rest.invariant.progress.long
 
 returns : tie.Need-returns invariant-loop decreases-loop
 returns c =
-    let f = c.before.before in
-    let e = f.before.before in
-    let s = start e.before in
-    progress_done (list-of s) s.args.first s.args.plan-1.now s.requires.sound s.requires.room e.before.loop-rest.invariant.progress (none_left e)
+    let f = c in
+    let e = c.before.before.before.before in
+    let s = start c.before.before.before.before.before in
+    progress_done (list-of s) s.args.first s.args.plan.now s.requires.sound s.requires.room e.loop-rest.invariant.progress (none_left e)
     f.finish.new.0 f.finish.result f.finish.ensures.0 f.finish.ensures.1
 
 pub pack_spans_spec : {M : Type 1} → statement M
@@ -166,7 +166,7 @@ pack_spans_spec =
     (λ c. omega arith)
     (λ c. (turn c.before).inside)
     pack-transaction-requires
-    (λ c. let r = c.before.before.before.before.before in omega (arith, (turn r).inside, (start r.before.before.before).requires.small))
+    (λ c. let r = c.before.before.before.before.before in omega (arith, (turn r).inside, (start c.before.before.before.before.before.before.before.before).requires.small))
     (λ c. omega (arith, (turn c.before.before.before.before.before).inside))
     loop-again
     finish-requires

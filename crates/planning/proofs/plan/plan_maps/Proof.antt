@@ -12,25 +12,32 @@ use Rattle.planning.proofs.plan.plan_maps.Tie as tie
 
 returns : tie.Need-returns-then-count-limit
 returns c w π =
-    let n = c.before.before in
-    let s = n.before.before in
+    let n = c in
+    let s = c in
     let a = s.args in
-    let taken = n.before.covered-covered.result in
+    let taken = n.covered-covered.result in
     let m =
-    joined_mapped a.needed a.allowed taken c.starts-starts.result w (search rules) (search rules) π.writable n.before.covered-covered.ensures
+    joined_mapped a.needed a.allowed taken c.starts-starts.result w (search rules) (search rules) π.writable n.covered-covered.ensures
     c.starts-starts.ensures π.inside in
     let few : data_count (joined_by a.needed a.allowed w) ≤ a.limit =
-    omega (arith, sym (ap data_count m.list) ∙ m.bytes, n.count.ensures, c.before.if-count-limit.true) in
+    omega (arith, sym (ap data_count m.list) ∙ m.bytes, n.count.ensures, c.if-count-limit.true) in
     rw (few-joined a.needed a.allowed a.held a.limit w π few) m
 
 returns-2 : tie.Need-returns
 returns-2 c w π =
-    let s = c.before.before.before.before in
+    let s = c in
     let a = s.args in
     let e = c.plan_spans.ensures w π in
-    mapped a.needed a.allowed a.held a.limit w c.plan_spans.result.true c.plan_spans.result.starts-starts π (search rules) (search rules)
+    mapped a.needed a.allowed a.held a.limit w c.plan_spans.result.true c.plan_spans.result.starts π (search rules) (search rules)
     e.0 e.1
 
 pub plan_maps_spec : {M : Type 1} → statement M
 plan_maps_spec =
-    tie.close (tie.spec (λ c κs. tt) (λ c κs. tt) (λ c. search rules) (λ c κs. tt) returns (λ c κs. search rules) returns-2)
+    tie.close (tie.spec
+    (λ c κs. tt)
+    (λ c κs. tt)
+    (λ c. search rules)
+    (λ c κs. tt)
+    returns
+    (λ c κs. search rules)
+    returns-2)

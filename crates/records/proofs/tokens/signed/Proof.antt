@@ -26,21 +26,28 @@ below : (n : ℕ) → negative ≤ n → n % negative ≤ 2147483647 → neg_ℤ
 below n h k = rw (le-ltb n negative h, le-ltb 2147483647 (n % negative) k)
 
 returns : tie.Need-returns-then-magnitude-gt-HIGHEST_MAGNITUDE
-returns c = high c.before.before.args.number c.before.if-number-lt-NEGATIVE.true c.if-magnitude-gt-HIGHEST_MAGNITUDE.true
+returns c = high c.args.number c.if-number-lt-NEGATIVE.true c.if-magnitude-gt-HIGHEST_MAGNITUDE.true
 
 returns-2 : tie.Need-returns-then-number-lt-NEGATIVE
 returns-2 c =
-    let n = c.before.before.args.number in
-    as_signed (n % negative) (omega (arith, c.if-magnitude-gt-HIGHEST_MAGNITUDE.false)) ∙ above n c.before.if-number-lt-NEGATIVE.true c.if-magnitude-gt-HIGHEST_MAGNITUDE.false
+    let n = c.args.number in
+    as_signed (n % negative) (omega (arith, c.if-magnitude-gt-HIGHEST_MAGNITUDE.false)) ∙ above n c.if-number-lt-NEGATIVE.true c.if-magnitude-gt-HIGHEST_MAGNITUDE.false
 
 returns-3 : tie.Need-returns-then-magnitude-gt-HIGHEST_MAGNITUDE-2
-returns-3 c = low c.before.before.args.number c.before.if-number-lt-NEGATIVE.false c.if-magnitude-gt-HIGHEST_MAGNITUDE-2.true
+returns-3 c = low c.args.number c.if-number-lt-NEGATIVE.false c.if-magnitude-gt-HIGHEST_MAGNITUDE-2.true
 
 returns-4 : tie.Need-returns
 returns-4 c =
-    let e = c.before in
-    to_z-of_z w32 c.below_zero.result (record { sfits = c.below_zero.type-inv }) ∙ c.below_zero.ensures
-    ∙ below e.before.before.args.number e.before.if-number-lt-NEGATIVE.false e.if-magnitude-gt-HIGHEST_MAGNITUDE-2.false
+    let e = c in
+    to_z-of_z w32 c.below_zero.result (record { sfits = c.below_zero.type_inv }) ∙ c.below_zero.ensures
+    ∙ below e.args.number e.if-number-lt-NEGATIVE.false e.if-magnitude-gt-HIGHEST_MAGNITUDE-2.false
 
 pub signed_spec : {M : Type 1} → statement M
-signed_spec = tie.close (tie.spec returns (λ c. search rules) returns-2 returns-3 (λ c. search rules) (λ c κs. search rules) returns-4)
+signed_spec = tie.close (tie.spec
+    returns
+    (λ c. search rules)
+    returns-2
+    returns-3
+    (λ c. search rules)
+    (λ c κs. search rules)
+    returns-4)

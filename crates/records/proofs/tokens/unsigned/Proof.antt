@@ -16,4 +16,8 @@ fits n h = rw (le-ltb 4294967295 n h)
 
 pub unsigned_spec : {M : Type 1} → statement M
 unsigned_spec =
-    tie.close (tie.spec (λ c. search rules) (λ c. large _ c.if-number-gt-HIGHEST_UNSIGNED.true) (λ c. search rules) (λ c. fits _ c.if-number-gt-HIGHEST_UNSIGNED.false))
+    tie.close (tie.spec
+    (λ c. search rules)
+    (λ c. large _ c.if-number-gt-HIGHEST_UNSIGNED.true)
+    (λ c. search rules)
+    (λ c. fits _ c.if-number-gt-HIGHEST_UNSIGNED.false))

@@ -27,7 +27,7 @@ begun table start h =
     record { from = omega arith; within = h; column = ap (λ (k : ℕ). take k (drop start table) ++ column_in (drop start table) 0) none }
 
 loop-holds : tie.Need-loop-at-init invariant-loop decreases-loop
-loop-holds c = begun c.before.args.table.now c.before.args.start (omega arith)
+loop-holds c = begun c.args.table.now c.args.start (omega arith)
 
 -- a column is the bytes passed where nothing is left of it
 whole : (table : List ℕ) (start at : ℕ) → Inv table start at → column_in (drop at table) 0 ≡ []
@@ -37,18 +37,18 @@ whole table start at v e =
 
 returns : tie.Need-returns-then-is_end invariant-loop decreases-loop
 returns c =
-    let i = c.before.before.before in
-    let l = i.before.loop-at in
-    let a = i.before.before.before.args in
-    let e = closed a.table.now l.at i.loop-at-test.true (sym c.before.is_end.ensures ∙ c.if-is_end.true) in
+    let i = c in
+    let l = i.loop-at in
+    let a = i.args in
+    let e = closed a.table.now l.at i.loop-at-test.true (sym c.is_end.ensures ∙ c.if-is_end.true) in
     ((l.invariant.from, l.invariant.within), whole a.table.now a.start l.at l.invariant e)
 
 loop-again : tie.Need-loop-at-preserved invariant-loop decreases-loop
 loop-again c =
-    let i = c.before.before.before in
-    let l = i.before.loop-at in
-    let a = i.before.before.before.args in
-    let e = sym c.before.is_end.ensures ∙ c.if-is_end.false in
+    let i = c in
+    let l = i.loop-at in
+    let a = i.args in
+    let e = sym c.is_end.ensures ∙ c.if-is_end.false in
     record {
       from = omega (arith, l.invariant.from);
       within = omega (arith, i.loop-at-test.true);
@@ -57,8 +57,8 @@ loop-again c =
 
 returns-2 : tie.Need-returns invariant-loop decreases-loop
 returns-2 c =
-    let l = c.before.loop-at in
-    let a = c.before.before.before.args in
+    let l = c.loop-at in
+    let a = c.args in
     let e = at-end a.table.now l.at 0 (omega (arith, l.invariant.within, c.loop-at-test.false)) in
     ((l.invariant.from, l.invariant.within), whole a.table.now a.start l.at l.invariant e)
 

@@ -26,35 +26,35 @@ loop-holds c = record { within = omega arith; column = refl }
 
 returns : tie.Need-returns-then-at-table invariant-loop decreases-loop
 returns c =
-    let l = c.before.before.loop-left in
-    let a = c.before.before.before.before.args in
+    let l = c.loop-left in
+    let a = c.args in
     let none = at-end a.table.now l.at 0 c.if-at-table.true in
-    let left = at-end a.table.now l.at l.false c.if-at-table.true in
+    let left = at-end a.table.now l.at l.left c.if-at-table.true in
     (l.invariant.within, none ∙ sym left ∙ l.invariant.column)
 
 loop-again : tie.Need-loop-left-preserved invariant-loop decreases-loop
 loop-again c =
-    let e = c.before in
-    let n = e.before.before in
-    let i = n.before in
-    let l = i.before.loop-left in
-    let t = i.before.before.before.args.table.now in
+    let e = c in
+    let n = c in
+    let i = c in
+    let l = i.loop-left in
+    let t = i.args.table.now in
     let h : l.at < length t = omega (arith, l.invariant.within, n.if-at-table.false) in
     let same = sym e.is_end.ensures in
     record {
       within = omega (arith, h);
       column =
-          ⊎_elim (λ w. ap (column_in (drop (l.at + 1) t)) w.1 ∙ sym (one_less t l.at l.false h i.loop-left-test.true (same ∙ w.0.true)))
-          (λ w. ap (column_in (drop (l.at + 1) t)) w.1 ∙ sym (as_many t l.at l.false h i.loop-left-test.true (same ∙ w.0.false)))
+          ⊎_elim (λ w. ap (column_in (drop (l.at + 1) t)) w.1 ∙ sym (one_less t l.at l.left h i.loop-left-test.true (same ∙ w.0.taken)))
+          (λ w. ap (column_in (drop (l.at + 1) t)) w.1 ∙ sym (as_many t l.at l.left h i.loop-left-test.true (same ∙ w.0.left)))
           c.if-is_end.branch
           ∙ l.invariant.column;
     }
 
 returns-2 : tie.Need-returns invariant-loop decreases-loop
 returns-2 c =
-    let l = c.before.loop-left in
-    let t = c.before.before.before.args.table.now in
-    let none : l.false ≡ 0 = omega (arith, c.loop-left-test.false) in
+    let l = c.loop-left in
+    let t = c.args.table.now in
+    let none : l.left ≡ 0 = omega (arith, c.loop-left-test.false) in
     (l.invariant.within, ap (column_in (drop l.at t)) (sym none) ∙ l.invariant.column)
 
 pub column_start_spec : {M : Type 1} → statement M

@@ -58,13 +58,13 @@ module _ (n : ℕ) (bytes : List ℕ) (first rest : ℕ) (p : 0 < rest) (v : Inv
   }
 
 loop-again : tie.Need-loop-rest-preserved invariant-loop decreases-loop
-loop-again c = let l = c.before.loop-rest in turn c.before.before.args.n l.bytes l.first l.rest (omega arith) l.invariant
+loop-again c = let l = c.loop-rest in turn c.args.n l.bytes l.first l.rest (omega arith) l.invariant
 
 returns : tie.Need-returns invariant-loop decreases-loop
 unfolding decimal_digits
 returns c =
-    let l = c.before.loop-rest in
-    let n = c.before.before.args.n in
+    let l = c.loop-rest in
+    let n = c.args.n in
     let none : l.rest ≡ 0 = omega arith in
     let text : drop l.first l.bytes ≡ decimal n =
     ap (λ (t : List ℕ). t ++ drop l.first l.bytes) (sym (ap (leading n) none ∙ leading-zero n)) ∙ l.invariant.text in

@@ -9,4 +9,10 @@ unfolding hex_byte
 returns c = (cc, cc)
 
 pub hex_byte_spec : {M : Type 1} → statement M
-hex_byte_spec = tie.close (tie.spec (λ c κs. search rules) (λ c κs. search rules) (λ c. search rules) (λ c κs. search rules) (λ c. search rules) returns)
+hex_byte_spec = tie.close (tie.spec
+    (λ c κs. search rules)
+    (λ c κs. search rules)
+    (λ c. search rules)
+    (λ c κs. search rules)
+    (λ c. search rules)
+    returns)

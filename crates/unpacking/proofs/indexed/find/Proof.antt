@@ -34,7 +34,7 @@ abbrev invariant-loop : tie.invariant-loop-found
 invariant-loop plan index cursor₀ found₀ i₀ cursor found i = Inv plan cursor₀.order index cursor found i
 
 abbrev decreases-loop : tie.decreases-loop-found
-decreases-loop plan index cursor₀ found₀ i₀ cursor found i = cursor.false
+decreases-loop plan index cursor₀ found₀ i₀ cursor found i = cursor.left
 
 abbrev start : tie.At-loop-found invariant-loop decreases-loop → tie.Start invariant-loop decreases-loop
 start c = c.before.before.before
@@ -43,8 +43,8 @@ abbrev plan-at : tie.At-loop-found invariant-loop decreases-loop → List ℕ
 plan-at c = (start c).args.plan.now
 
 -- the walk keeps its order
-in_order : (l : tie.At-loop-found invariant-loop decreases-loop) → l.before.begin-cursor.result.order ≡ (start l).args.order
-in_order l = ap (λ (k : Cursor). k.order) l.before.begin-cursor.ensures
+in_order : (l : tie.At-loop-found invariant-loop decreases-loop) → l.begin-cursor.result.order ≡ (start l).args.order
+in_order l = ap (λ (k : Cursor). k.order) l.begin-cursor.ensures
 
 -- so what it answers is of that order
 abbrev answer-by : tie.At-loop-found invariant-loop decreases-loop → Order → Judged (Option Transaction)
@@ -52,63 +52,63 @@ answer-by l o = looked_up (unpack_by (start_after o) (plan-at l)) (start l).args
 
 loop-holds : tie.Need-loop-found-init invariant-loop decreases-loop
 loop-holds c =
-    let k = c.before in
+    let k = c in
     record {
       done = [];
-      walked = rw c.begin-cursor.ensures (walk_begins k.before.args.plan.now k.before.args.order (λ i. (k.shared_slice_known-1.given i).fits));
+      walked = rw c.begin-cursor.ensures (walk_begins k.args.plan.now k.args.order (λ i. (k.shared_slice_known-1.given i).fits));
       counts = refl;
       is = refl;
       placed = tt;
     }
 
 -- what the step says
-said : (c : tie.After-next invariant-loop decreases-loop) (r : Step) → c.next.result ≡ r → Stepped (plan-at c.before) c.before.loop-found.cursor r
-said c r e = subst (Stepped (plan-at c.before) c.before.loop-found.cursor) (sym c.next.ensures ∙ e)
-    (stepped (plan-at c.before) c.before.loop-found.cursor)
+said : (c : tie.After-next invariant-loop decreases-loop) (r : Step) → c.next.result ≡ r → Stepped (plan-at c.before) c.loop-found.cursor r
+said c r e = subst (Stepped (plan-at c.before) c.loop-found.cursor) (sym c.next.ensures ∙ e)
+    (stepped (plan-at c.before) c.loop-found.cursor)
 
 returns : tie.Need-returns-in-Fault invariant-loop decreases-loop
 returns c =
-    let n = c.before.before in
-    let l = n.before in (
+    let n = c.before in
+    let l = c.before.before in (
       sym (ap (λ (j : Judged (List Transaction)). looked_up j (start l).args.index)
-          (walk_fails l.loop-found.invariant.walked (said n _ c.enum_told-1.given.1)))
+          (walk_fails l.loop-found.invariant.walked (said n _ c.in-Fault.is)))
           ∙ ap (answer-by l) (in_order l),
       tt,
     )
 
 returns-2 : tie.Need-returns-in-End invariant-loop decreases-loop
 returns-2 c =
-    let n = c.before.before in
-    let l = n.before in
+    let n = c.before in
+    let l = c.before.before in
     let v = l.loop-found.invariant in (
       v.is ∙ sym (ap (λ (j : Judged (List Transaction)). looked_up j (start l).args.index)
-          (walk_ends v.walked (said n _ c.enum_told-in-End-1.given.1)))
+          (walk_ends v.walked (said n _ c.in-End.is)))
           ∙ ap (answer-by l) (in_order l),
       v.placed,
     )
 
 -- the transaction that was found
 went : (c : tie.In-Transaction-2 invariant-loop decreases-loop)
-    → Went (plan-at c.before.before.before) c.before.before.before.loop-found.cursor c.subaddress-1.given.0.0 c.subaddress-1.given.0.1.0
+    → Went (plan-at c.before.before) c.loop-found.cursor c.in-Transaction.subaddress c.subaddress-1.given.0.1.0
     c.subaddress-1.given.0.1.1.0 c.subaddress-1.given.0.1.1.1.0
-went c = said c.before.before _ c.subaddress-1.given.1
+went c = said c.before _ c.in-Transaction.is
 
 loop-again : tie.Need-loop-found-preserved invariant-loop decreases-loop
 loop-again c =
-    let s = c.before.before in
-    let l = s.before.before.before in
+    let s = c in
+    let l = c.before.before.before in
     let v = l.loop-found.invariant in
     let plan = plan-at l in
     let index = (start l).args.index in
     let g = went s in
-    let t = transaction_at plan s.subaddress-1.given.0.0 s.subaddress-1.given.0.1.0 s.subaddress-1.given.0.1.1.0 in
+    let t = transaction_at plan s.in-Transaction.subaddress s.subaddress-1.given.0.1.0 s.subaddress-1.given.0.1.1.0 in
     record {
       done = v.done ++ (t ∷ []);
       walked = walk_goes v.walked g;
       counts = ap (λ (n : ℕ). n + 1) v.counts ∙ sym (one_more v.done t);
       is = ⊎_elim
-          (λ w. ap (found_as plan) w.1 ∙ sym (ap accepted (ap (get_elem? (v.done ++ (t ∷ []))) (sym w.0.true ∙ v.counts) ∙ last_index v.done t)))
-          (λ w. ap (found_as plan) w.1 ∙ v.is ∙ sym (ap accepted (other_index v.done t index (λ e. w.0.false (v.counts ∙ e)))))
+          (λ w. ap (found_as plan) w.1 ∙ sym (ap accepted (ap (get_elem? (v.done ++ (t ∷ []))) (sym w.0.taken ∙ v.counts) ∙ last_index v.done t)))
+          (λ w. ap (found_as plan) w.1 ∙ v.is ∙ sym (ap accepted (other_index v.done t index (λ e. w.0.left (v.counts ∙ e)))))
           c.if-i-index.branch;
       placed = ⊎_elim (λ w. subst⁻¹ (FoundPlaced plan) w.1 (g.placed, g.room)) (λ w. subst⁻¹ (FoundPlaced plan) w.1 v.placed) c.if-i-index.branch;
     }
@@ -127,6 +127,6 @@ find_spec =
     (λ c. search rules)
     returns-2
     (λ c. search rules)
-    (λ c. let v = c.before.before.before.before.before.loop-found.invariant in record { fits = omega (arith, v.counts, v.walked.few) })
-    (λ c. omega (arith, (went c.before.before).false))
+    (λ c. let v = c.loop-found.invariant in record { fits = omega (arith, v.counts, v.walked.few) })
+    (λ c. omega (arith, (went c.before.before).left))
     loop-again)

@@ -25,14 +25,14 @@ use Rattle.unpacking.proofs.indexed.transaction.Tie as tie
 
 -- the plan, the memory, and what is answered
 abbrev plan-at : tie.After-find → List ℕ
-plan-at f = f.before.before.before.args.plan.now
+plan-at f = f.args.plan.now
 
 abbrev memory-at : tie.After-find → List ℕ
-memory-at f = f.before.before.before.args.memory-1.now
+memory-at f = f.args.memory.now
 
 abbrev answer_at : tie.After-find → Judged Transaction
 answer_at f =
-    let a = f.before.before.before.args in
+    let a = f.args in
     transaction_of (unpack_by (start_after a.order) (plan-at f)) a.index (length (memory-at f))
 
 -- by what was looked up
@@ -47,7 +47,7 @@ looked-up (refused n) index room = refl
 -- by what was found
 answered : (f : tie.After-find) (r : Found) → f.find.result ≡ r → answer_at f ≡ answer-by (length (memory-at f)) (found_as (plan-at f) r)
 answered f r e =
-    let a = f.before.before.before.args in
+    let a = f.args in
     looked-up (unpack_by (start_after a.order) (plan-at f)) a.index (length (memory-at f))
     ∙ ap (answer-by (length (memory-at f))) (sym f.find.ensures.0 ∙ ap (found_as (plan-at f)) e)
 
@@ -56,39 +56,39 @@ refuse : (f : tie.After-find) (n : ℕ) → answer_at f ≡ refused n → (refus
 refuse f n e = (sym (ap header_of e), sym (ap (λ (j : Judged Transaction). data_after j (memory-at f)) e))
 
 returns-2 : tie.Need-returns-in-Fault
-returns-2 c = let f = c.before.before in refuse f 9 (answered f _ c.enum_told-1.given.1)
+returns-2 c = let f = c.before in refuse f 9 (answered f _ c.in-Fault.is)
 
 returns-3 : tie.Need-returns-in-PastLast
-returns-3 c = let f = c.before.before in refuse f 3 (answered f _ c.enum_told-in-PastLast-1.given.1)
+returns-3 c = let f = c.before in refuse f 3 (answered f _ c.in-PastLast.is)
 
 -- the transaction that was found, and its data count
 abbrev found_at : tie.In-At-2 → Transaction
-found_at s = transaction_at (plan-at s.before.before) s.subaddress-1.given.0.0 s.subaddress-1.given.0.1.0 s.subaddress-1.given.0.1.1.0
+found_at s = transaction_at (plan-at s.before) s.in-At.subaddress s.subaddress-1.given.0.1.0 s.subaddress-1.given.0.1.1.0
 
 count_at : (s : tie.In-At-2) → size (found_at s) ≡ s.subaddress-1.given.0.1.0
-count_at s = first_bytes-length s.subaddress-1.given.0.1.0 (left_at (plan-at s.before.before) s.subaddress-1.given.0.1.1.0)
+count_at s = first_bytes-length s.subaddress-1.given.0.1.0 (left_at (plan-at s.before) s.subaddress-1.given.0.1.1.0)
 
-by_room_lem : (s : tie.In-At-2) (b : Bool) → leb (size (found_at s)) (length (memory-at s.before.before)) ≡ b
-    → answer_at s.before.before ≡ cond b (accepted (found_at s)) (refused 10)
-by_room_lem s b e = answered s.before.before _ s.subaddress-1.given.1 ∙ ap (λ (x : Bool). cond x (accepted (found_at s)) (refused 10)) e
+by_room_lem : (s : tie.In-At-2) (b : Bool) → leb (size (found_at s)) (length (memory-at s.before)) ≡ b
+    → answer_at s.before ≡ cond b (accepted (found_at s)) (refused 10)
+by_room_lem s b e = answered s.before _ s.in-At.is ∙ ap (λ (x : Bool). cond x (accepted (found_at s)) (refused 10)) e
 
 returns : tie.Need-returns-then-memory-count
 returns c =
-    let s = c.before.before in
-    let f = s.before.before in
+    let s = c in
+    let f = c.before.before in
     refuse f 10 (by_room_lem s false (lt-leb (size (found_at s)) (length (memory-at f)) (omega (arith, count_at s, c.if-memory-count.true))))
 
 returns-4 : tie.Need-returns-else-memory-count
 returns-4 c =
-    let k = c.before.before in
-    let o = k.before.before in
-    let s = o.before.before in
-    let f = s.before.before in
+    let k = c in
+    let o = c in
+    let s = c in
+    let f = c.before.before.before.before.before.before in
     let t = found_at s in
     let fits : size t ≤ length (memory-at f) = omega (arith, count_at s, o.if-memory-count.false) in
     let e = by_room_lem s true (le-leb (size t) (length (memory-at f)) fits) in
-    let p = subst (FoundPlaced (plan-at f)) s.subaddress-1.given.1 f.find.ensures.1 in (
-      ap (λ (n : ℕ). accepted (record { subaddress = t.subaddress-1; count = n })) (sym (count_at s)) ∙ sym (ap header_of e),
+    let p = subst (FoundPlaced (plan-at f)) s.in-At.is f.find.ensures.1 in (
+      ap (λ (n : ℕ). accepted (record { subaddress = t.subaddress; count = n })) (sym (count_at s)) ∙ sym (ap header_of e),
       k.copy_data.ensures
           ∙ data_copied_lem (plan-at f) s.subaddress-1.given.0.1.1.0 (memory-at f) 0 s.subaddress-1.given.0.1.0 p.0 p.1
           (omega (arith, o.if-memory-count.false))

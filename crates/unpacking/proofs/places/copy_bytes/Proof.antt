@@ -33,9 +33,9 @@ returns c =
     let a = s.args in
     let p = a.place in
     let n : p.at + a.count - p.at ≡ a.count = omega arith in
-    c.before.before.shift.ensures.1
-    ∙ ap (λ (m : ℕ). sets a.registers-1.now a.subaddress (shifted p.held (get_or a.plan.now (p.at - 1) 0) (take m (drop p.at a.plan.now)))) n
-    ∙ ap (sets a.registers-1.now a.subaddress) (sym (data_shifted a.count a.plan.now p s.requires.0 s.requires.1 (byte k)))
+    c.shift.ensures.1
+    ∙ ap (λ (m : ℕ). sets a.registers.now a.subaddress (shifted p.held (get_or a.plan.now (p.at - 1) 0) (take m (drop p.at a.plan.now)))) n
+    ∙ ap (sets a.registers.now a.subaddress) (sym (data_shifted a.count a.plan.now p s.requires.0 s.requires.1 (byte k)))
 
 pub copy_bytes_spec : {M : Type 1} → statement M
 copy_bytes_spec =

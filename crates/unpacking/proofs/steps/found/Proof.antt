@@ -8,4 +8,8 @@ returns : tie.Need-returns
 returns c = rw c.start_after.ensures refl
 
 pub found_spec : {M : Type 1} → statement M
-found_spec = tie.close (tie.spec (λ c. search rules) (λ c. search rules) (λ c κs. search rules) returns)
+found_spec = tie.close (tie.spec
+    (λ c. search rules)
+    (λ c. search rules)
+    (λ c κs. search rules)
+    returns)

@@ -22,45 +22,45 @@ use Rattle.unpacking.proofs.steps.next.Tie as tie
 
 -- the plan, the cursor, and the bits left there
 abbrev plan-at : tie.After-within → List ℕ
-plan-at w = w.before.before.before.args.plan.now
+plan-at w = w.args.plan.now
 
 abbrev cursor-at : tie.After-within → Cursor
-cursor-at w = w.before.before.before.args.cursor
+cursor-at w = w.args.cursor
 
 abbrev bits_at : tie.After-within → List Bool
-bits_at w = left_at (plan-at w) (cursor-at w).place-1
+bits_at w = left_at (plan-at w) (cursor-at w).place
 
 -- ---- the place
 
 returns : tie.Need-returns-then-not-within
 returns c = let w = c.before in sym (outside (plan-at w) (cursor-at w) (sym w.within.ensures ∙ not-true _ c.if-not-within.true))
 
-right : (c : tie.Else-not-within) → inside (plan-at c.before) (cursor-at c.before).place-1 ≡ true
-right c = sym c.before.within.ensures ∙ not-false _ c.if-not-within.false
+right : (c : tie.Else-not-within) → inside (plan-at c.before) (cursor-at c.before).place ≡ true
+right c = sym c.within.ensures ∙ not-false _ c.if-not-within.false
 
-placed : (c : tie.Else-not-within) → Placed (plan-at c.before) (cursor-at c.before).place-1
-placed c = inside-placed (plan-at c.before) (cursor-at c.before).place-1 (right c)
+placed : (c : tie.Else-not-within) → Placed (plan-at c.before) (cursor-at c.before).place
+placed c = inside-placed (plan-at c.before) (cursor-at c.before).place (right c)
 
 -- ---- the last transaction passed
 
 returns-2 : tie.Need-returns-then-filling
 returns-2 c =
-    let f = c.before in
-    let e = f.before.before in
-    let w = e.before in
-    sym (at-end (plan-at w) (cursor-at w) (right e) true f.before.if-left-eq0.true (sym f.filling.ensures ∙ c.if-filling.true))
+    let f = c in
+    let e = c.before.before.before in
+    let w = c.before.before.before.before in
+    sym (at-end (plan-at w) (cursor-at w) (right e) true f.if-left-eq0.true (sym f.filling.ensures ∙ c.if-filling.true))
 
 returns-3 : tie.Need-returns-else-filling
 returns-3 c =
-    let f = c.before in
-    let e = f.before.before in
-    let w = e.before in
-    sym (at-end (plan-at w) (cursor-at w) (right e) false f.before.if-left-eq0.true (sym f.filling.ensures ∙ c.if-filling.false))
+    let f = c in
+    let e = c.before.before.before in
+    let w = c.before.before.before.before in
+    sym (at-end (plan-at w) (cursor-at w) (right e) false f.if-left-eq0.true (sym f.filling.ensures ∙ c.if-filling.false))
 
 -- ---- a transaction to come
 
 -- how many follow it
-turn : (c : tie.Else-left-eq0) → (cursor-at c.before.before).false ≡ suc ((cursor-at c.before.before).false - 1)
+turn : (c : tie.Else-left-eq0) → (cursor-at c.before.before).left ≡ suc ((cursor-at c.before.before).left - 1)
 turn c = let some = lt_of_le-ne zero-le (λ z. c.if-left-eq0.false (sym z)) in omega (arith, some)
 
 -- it isn't there
@@ -68,12 +68,12 @@ faulty : (c : tie.Else-left-eq0) → (Front (cursor-at c.before.before).free (bi
     → Fault ≡ next_of (plan-at c.before.before) (cursor-at c.before.before)
 faulty c f =
     let w = c.before.before in
-    sym (not_in_front (plan-at w) (cursor-at w) (right c.before) ((cursor-at w).false - 1) (turn c) f)
+    sym (not_in_front (plan-at w) (cursor-at w) (right c.before) ((cursor-at w).left - 1) (turn c) f)
 
 -- how many bits are left
-bits-length : (c : tie.Else-not-within) → length (bits_at c.before) ≡ (length (plan-at c.before) - (cursor-at c.before).place-1.at) * 8 + (cursor-at
-    c.before).place-1.held
-bits-length c = left_at-length (plan-at c.before) (cursor-at c.before).place-1 (placed c)
+bits-length : (c : tie.Else-not-within) → length (bits_at c.before) ≡ (length (plan-at c.before) - (cursor-at c.before).place.at) * 8 + (cursor-at
+    c.before).place.held
+bits-length c = left_at-length (plan-at c.before) (cursor-at c.before).place (placed c)
 
 returns-4 : tie.Need-returns-then-plan-place-lt-HEADER_BYTES
 returns-4 c =
@@ -82,9 +82,9 @@ returns-4 c =
       arith,
       f.some,
       f.held,
-      length-drop 12 (bits_at e.before.before),
-      bits-length e.before,
-      (placed e.before).few,
+      length-drop 12 (bits_at c.before.before.before.before),
+      bits-length c.before.before.before,
+      (placed c.before.before.before).few,
       c.if-plan-place-lt-HEADER_BYTES.true,
     ))
 
@@ -133,11 +133,11 @@ front : (c : tie.Else-plan-data) → Front (cursor-at (located (header c)).befor
 front c =
     let h = header c in
     let e = h.header_at-header.ensures in
-    let some = lt_of_le-ne zero-le (λ z. c.before.before.before.before.if-count-eq0.false (sym z)) in
+    let some = lt_of_le-ne zero-le (λ z. c.if-count-eq0.false (sym z)) in
     record {
-      long = omega (arith, h.before.if-plan-place-lt-HEADER_BYTES.false, bits-length (located h).before);
+      long = omega (arith, h.if-plan-place-lt-HEADER_BYTES.false, bits-length (located h).before);
       some = omega (arith, some, e.count);
-      from = omega (arith, c.before.before.if-subaddress-cursor.false, e.subaddress);
+      from = omega (arith, c.if-subaddress-cursor.false, e.subaddress);
       held = omega (arith, c.if-plan-data.false, e.count, data_length h);
     }
 
@@ -147,17 +147,17 @@ found-requires c κs =
     let h = header c in
     let e = h.header_at-header.ensures in
     let k = small h in
-    (omega (arith, k.0, k.1), omega (arith, c.if-plan-data.false, e.placed.inside, (located h).before.before.before.before.before.good.0.0))
+    (omega (arith, k.0, k.1), omega (arith, c.if-plan-data.false, e.placed.inside, (located h).good.0.0))
 
 returns-8 : tie.Need-returns
 returns-8 c =
     let s = c.before in
     let h = header s in
     let w = (located h).before.before in
-    let n = (cursor-at w).false - 1 in
+    let n = (cursor-at w).left - 1 in
     let there : in_front (cursor-at w).free (bits_at w) ≡ true =
     holds (in_front (cursor-at w).free (bits_at w)) (front_from (cursor-at w).free (bits_at w) (front s)) in
-    c.found.ensures ∙ header_first (plan-at w) (cursor-at w).place-1 h.header_at-header.result n (cursor-at w).order h.header_at-header.ensures
+    c.found.ensures ∙ header_first (plan-at w) (cursor-at w).place h.header_at-header.result n (cursor-at w).order h.header_at-header.ensures
     ∙ sym (in_front_lem (plan-at w) (cursor-at w) (right (located h).before) n true (turn (located h)) there)
 
 pub next_spec : {M : Type 1} → statement M

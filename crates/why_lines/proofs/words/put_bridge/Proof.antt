@@ -10,11 +10,11 @@ use Rattle.why_lines.proofs.words.put_bridge.Tie as tie
 returns : tie.Need-returns
 unfolding reason_text
 returns c =
-    let s = c.before.before in
-    let a = s.before.before.before.before in
-    let f = a.before.before.before.before.before in
-    let w = f.before.before.before.before in
-    let h = w.before.before.before.before.requires in
+    let s = c in
+    let a = c in
+    let f = c in
+    let w = c in
+    let h = w.requires in
     let first = more (put w.put-word.ensures.0 w.put-word.ensures.1) f.put_hex-first.ensures (omega arith) in
     wider reason_width (omega arith) (more (more first (put a.put-and.ensures.0 a.put-and.ensures.1) (omega arith)) s.put_hex.ensures (omega arith))
 

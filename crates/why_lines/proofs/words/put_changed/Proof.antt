@@ -16,9 +16,9 @@ use Rattle.why_lines.proofs.words.put_changed.Tie as tie
 returns : tie.Need-returns
 unfolding reason_text
 returns c =
-    let p = c.before.before in
-    let n = p.before.before.before.before.before in
-    let start = n.before.before.before in
+    let p = c in
+    let n = c in
+    let start = c in
     let h = start.requires in
     let w = more n.put_column-name.ensures (put p.put.ensures.0 p.put.ensures.1) (omega arith) in
     wider reason_width (omega arith) (same_text (ap (λ (t : List ℕ). t ++ ascii " changed") (name-is (named start.args.field))) w)

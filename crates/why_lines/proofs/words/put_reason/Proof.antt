@@ -20,38 +20,38 @@ found e p = same_text (sym (ap (λ (w : Explained). answer_words (why_as w)) e))
 
 returns : tie.Need-returns-in-Refused
 returns c =
-    let start = c.before.before.before in
-    found c.enum_told-1.given.1 (unwritten start.args.line-1.now start.args.at (omega (arith, start.requires)))
+    let start = c in
+    found c.in-Refused.is (unwritten start.args.line.now start.args.at (omega (arith, start.requires)))
 
 returns-2 : tie.Need-returns-in-NotSent
 unfolding reason_text
 returns-2 c =
-    let p = c.before.before in
-    found p.before.before.before.enum_told-in-NotSent-1.given.1 (wider reason_width (omega arith) (put p.put.ensures.0 p.put.ensures.1))
+    let p = c in
+    found p.in-NotSent.is (wider reason_width (omega arith) (put p.put.ensures.0 p.put.ensures.1))
 
 returns-3 : tie.Need-returns-in-Unknown
 unfolding reason_text
 returns-3 c =
-    let p = c.before.before in
-    found p.before.before.before.enum_told-in-Unknown-1.given.1 (wider reason_width (omega arith) (put p.put-in-Unknown.ensures.0 p.put-in-Unknown.ensures.1))
+    let p = c in
+    found p.in-Unknown.is (wider reason_width (omega arith) (put p.put-in-Unknown.ensures.0 p.put-in-Unknown.ensures.1))
 
 returns-4 : tie.Need-returns-in-Changed
-returns-4 c = let p = c.before.before in found p.before.before.before.answer-1.given.1 p.put_changed.ensures
+returns-4 c = let p = c in found p.in-Changed.is p.put_changed.ensures
 
 returns-5 : tie.Need-returns-in-Zeroed
 unfolding reason_text
 returns-5 c =
-    let p = c.before.before in
-    found p.before.before.before.enum_told-in-Zeroed-1.given.1 (wider reason_width (omega arith) (put p.put-in-Zeroed.ensures.0 p.put-in-Zeroed.ensures.1))
+    let p = c in
+    found p.in-Zeroed.is (wider reason_width (omega arith) (put p.put-in-Zeroed.ensures.0 p.put-in-Zeroed.ensures.1))
 
 returns-6 : tie.Need-returns-in-Companion
 unfolding reason_text
 returns-6 c =
-    let p = c.before.before in
-    found p.before.before.before.enum_told-in-Companion-1.given.1 (put p.put-in-Companion.ensures.0 p.put-in-Companion.ensures.1)
+    let p = c in
+    found p.in-Companion.is (put p.put-in-Companion.ensures.0 p.put-in-Companion.ensures.1)
 
 returns-7 : tie.Need-returns-in-Bridge
-returns-7 c = let p = c.before.before in found p.before.before.before.answer-in-Bridge-1.given.1 p.put_bridge.ensures
+returns-7 c = let p = c in found p.in-Bridge.is p.put_bridge.ensures
 
 pub put_reason_spec : {M : Type 1} → statement M
 put_reason_spec =

@@ -25,7 +25,7 @@ abbrev invariant-loop : tie.invariant-loop-subaddress
 invariant-loop line₀ at image plan cursor₀ place₀ line cursor place = Listing (house_reason image) line₀ at plan line cursor place
 
 abbrev decreases-loop : tie.decreases-loop-subaddress
-decreases-loop line₀ at image plan cursor₀ place₀ line cursor place = cursor.false
+decreases-loop line₀ at image plan cursor₀ place₀ line cursor place = cursor.left
 
 -- where the function was entered
 abbrev start : tie.At-loop-subaddress invariant-loop decreases-loop → tie.Start invariant-loop decreases-loop
@@ -39,33 +39,33 @@ why c = house_reason (start c).args.image.now
 
 loop-holds : tie.Need-loop-subaddress-init invariant-loop decreases-loop
 loop-holds c =
-    let k = c.before in
-    let s = k.before.before.before in
-    listing_begins (house_reason s.args.image.now) s.args.line-1.now s.args.plan.now s.args.at c.begin-cursor.result c.begin-cursor.ensures
+    let k = c in
+    let s = c in
+    listing_begins (house_reason s.args.image.now) s.args.line.now s.args.plan.now s.args.at c.begin-cursor.result c.begin-cursor.ensures
     (λ i. (k.shared_slice_known-2-1.given i).fits) (omega (arith, s.requires.1.0))
 
 -- what the step says
-said : (c : tie.After-next invariant-loop decreases-loop) (r : Step) → c.next.result ≡ r → Stepped (plan-at c.before) c.before.loop-subaddress.cursor r
+said : (c : tie.After-next invariant-loop decreases-loop) (r : Step) → c.next.result ≡ r → Stepped (plan-at c.before) c.loop-subaddress.cursor r
 said c r e =
     let plan = plan-at c.before in
-    let cursor = c.before.loop-subaddress.cursor in
+    let cursor = c.loop-subaddress.cursor in
     subst (Stepped plan cursor) (sym c.next.ensures ∙ e) (stepped plan cursor)
 
 returns : tie.Need-returns-in_default invariant-loop decreases-loop
 returns c =
     let n = c.before in
-    let l = n.before.loop-subaddress.invariant in
-    let s = start n.before in
-    let plan = plan-at n.before in
+    let l = n.loop-subaddress.invariant in
+    let s = start c.before.before in
+    let plan = plan-at c.before.before in
     let all = all_passed l.walked s.requires.0 n.next.result c.in-Transaction.keys2 (said n n.next.result refl) in
-    same_text (ap (flat_map (transaction_text (why n.before))) (sym all))
+    same_text (ap (flat_map (transaction_text (why c.before.before))) (sym all))
     (wider (byte_width * length plan) (omega (arith, plan-width plan s.requires.0, ap list_width all)) l.written)
 
 -- the transaction that was found
 went : (c : tie.In-Transaction-2 invariant-loop decreases-loop)
-    → Went (plan-at c.before.before.before) c.before.before.before.loop-subaddress.cursor c.subaddress-1.given.0.0 c.subaddress-1.given.0.1.0
+    → Went (plan-at c.before.before) c.loop-subaddress.cursor c.in-Transaction.subaddress c.subaddress-1.given.0.1.0
     c.subaddress-1.given.0.1.1.0 c.subaddress-1.given.0.1.1.1.0
-went c = said c.before.before _ c.subaddress-1.given.1
+went c = said c.before _ c.in-Transaction.is
 
 -- its data were copied
 abbrev found : tie.After-copy_data invariant-loop decreases-loop → tie.In-Transaction-2 invariant-loop decreases-loop
@@ -81,29 +81,29 @@ as_many : (c : tie.After-copy_data invariant-loop decreases-loop) → (let n = (
 as_many c = ap length (copied c).0 ∙ first_bytes-length _ _
 
 -- there is room for the lines
-room : (c : tie.After-copy_data invariant-loop decreases-loop) → (let l = (found c).before.before.before.loop-subaddress in
-    l.place + transaction_width (found c).subaddress-1.given.0.1.0 ≤ length l.line-1)
+room : (c : tie.After-copy_data invariant-loop decreases-loop) → (let l = (found c).loop-subaddress in
+    l.place + transaction_width (found c).subaddress-1.given.0.1.0 ≤ length l.line)
 room c =
     let a = (found c).before.before.before in
     let s = start a in
-    omega (arith, lines-room a.loop-subaddress.invariant s.requires.0 s.requires.1.0 (went (found c)), kept a.loop-subaddress.invariant.written)
+    omega (arith, lines-room a.loop.invariant s.requires.0 s.requires.1.0 (went (found c)), kept a.loop.invariant.written)
 
 transaction-lines-requires : tie.Need-transaction_lines-place-requires invariant-loop decreases-loop
 transaction-lines-requires c κs =
-    let d = c.before.before.before.before in
+    let d = c.before.before.before in
     let g = went (found d) in
     let many = as_many d in
     (omega (arith, room d), ((start (found d).before.before.before).requires.1.1, omega (arith, g.low, g.few)))
 
 loop-again : tie.Need-loop-subaddress-preserved invariant-loop decreases-loop
 loop-again c =
-    let p = c.before.before in
-    let d = p.before.before.before.before.before in
+    let p = c in
+    let d = c.before.before.before.before.before.before in
     let f = found d in
-    let a = f.before.before.before in
+    let a = f in
     let s = start a in
-    let text : List ℕ → List ℕ = λ bs. transaction_text (why a) (record { subaddress = f.subaddress-1.given.0.0; bytes = bs }) in
-    listing_goes a.loop-subaddress.invariant s.requires.0 s.requires.1.0 (went f)
+    let text : List ℕ → List ℕ = λ bs. transaction_text (why a) (record { subaddress = f.in-Transaction.subaddress; bytes = bs }) in
+    listing_goes a.loop.invariant s.requires.0 s.requires.1.0 (went f)
     (wider _ (omega (arith, as_many d)) (same_text (ap text (copied d).0) p.transaction_lines-place.ensures))
 
 pub plan_lines_spec : {M : Type 1} → statement M
@@ -116,14 +116,14 @@ plan_lines_spec =
     loop-holds
     (λ c κs. search rules)
     (λ c. search rules)
-    (λ c. kept c.before.before.loop-subaddress.invariant.written)
+    (λ c. kept c.loop-subaddress.invariant.written)
     returns
     (λ c. refl)
     (λ c κs. search rules)
     (λ c. record { fits = omega (arith, (went (found c.before)).few) })
     (λ c. omega arith)
     (λ c. omega arith)
-    (λ c. (copied c.before.before.before).1)
+    (λ c. (copied c.before.before).1)
     transaction-lines-requires
-    (λ c. omega (arith, (went (found c.before.before.before.before.before.before.before)).false))
+    (λ c. omega (arith, (went (found c.before.before.before.before.before.before)).left))
     loop-again)

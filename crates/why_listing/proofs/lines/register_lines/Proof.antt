@@ -34,31 +34,31 @@ why c = house_reason (start c).args.image.now
 
 loop-holds : tie.Need-loop-i-init invariant-loop decreases-loop
 loop-holds c =
-    let s = c.before.before in
+    let s = c in
     let a = s.args in
     record {
       inside = omega arith;
       text = [];
-      written = unwritten a.line-1.now a.at (omega (arith, s.requires.0));
+      written = unwritten a.line.now a.at (omega (arith, s.requires.0));
       rest = lines-all (house_reason a.image.now) a.first a.count;
     }
 
 register-line-requires : tie.Need-register_line-place-requires invariant-loop decreases-loop
 register-line-requires c κs =
-    let t = c.before in
-    let w = t.before.loop-i.invariant.written in
-    let s = start t.before in
+    let t = c in
+    let w = t.loop-i.invariant.written in
+    let s = start c.before.before in
     (omega (arith, kept w, w.most, s.requires.0, t.loop-i-test.true), s.requires.1.0)
 
 loop-again : tie.Need-loop-i-preserved invariant-loop decreases-loop
 loop-again c =
-    let p = c.before.before in
-    let t = p.before.before in
-    let l = t.before.loop-i in
-    let s = start t.before in
+    let p = c in
+    let t = c in
+    let l = t.loop-i in
+    let s = start c.before.before.before.before.before in
     let a = s.args in
     let r = a.first + l.i in
-    let one = register_line r (why t.before r) in
+    let one = register_line r (why c.before.before.before.before.before r) in
     record {
       inside = omega (arith, t.loop-i-test.true);
       text = l.invariant.text ++ one;
@@ -66,15 +66,15 @@ loop-again c =
           wider (register_width * (l.i + 1)) (omega arith)
           (more l.invariant.written p.register_line-place.ensures (omega (arith, s.requires.0, t.loop-i-test.true)));
       rest =
-          append_assoc l.invariant.text one (lines_from (why t.before) a.first a.count (l.i + 1))
-          ∙ ap (λ (x : List ℕ). l.invariant.text ++ x) (sym (lines_turn (why t.before) a.first a.count l.i t.loop-i-test.true)) ∙ l.invariant.rest;
+          append_assoc l.invariant.text one (lines_from (why c.before.before.before.before.before) a.first a.count (l.i + 1))
+          ∙ ap (λ (x : List ℕ). l.invariant.text ++ x) (sym (lines_turn (why c.before.before.before.before.before) a.first a.count l.i t.loop-i-test.true)) ∙ l.invariant.rest;
     }
 
 returns : tie.Need-returns invariant-loop decreases-loop
 returns c =
-    let v = c.before.loop-i.invariant in
+    let v = c.loop-i.invariant in
     let a = (start c.before).args in
-    let none = lines_end (why c.before) a.first a.count c.before.loop-i.i c.loop-i-test.false in
+    let none = lines_end (why c.before) a.first a.count c.loop-i.i c.loop-i-test.false in
     same_text (sym (append-nil v.text) ∙ ap (λ (x : List ℕ). v.text ++ x) (sym none) ∙ v.rest)
     (wider (register_width * a.count) (omega (arith, v.inside)) v.written)
 
@@ -85,10 +85,10 @@ register_lines_spec =
     invariant-loop
     decreases-loop
     loop-holds
-    (λ c. let t = c.before in record { fits = omega (arith, (start t.before).requires.1.1, t.loop-i-test.true) })
+    (λ c. let t = c in record { fits = omega (arith, (start c.before.before).requires.1.1, t.loop-i-test.true) })
     register-line-requires
-    (λ c. let t = c.before.before.before.before in record { fits = omega (arith, (start t.before).requires.1.1, t.loop-i-test.true) })
-    (λ c. omega (arith, c.before.before.before.before.loop-i-test.true))
+    (λ c. let t = c in record { fits = omega (arith, (start c.before.before.before.before.before).requires.1.1, t.loop-i-test.true) })
+    (λ c. omega (arith, c.loop-i-test.true))
     loop-again
-    (λ c. kept c.before.loop-i.invariant.written)
+    (λ c. kept c.loop-i.invariant.written)
     returns)
