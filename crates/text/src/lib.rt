@@ -1,4 +1,6 @@
 // Text written into a lent line: byte strings and numbers.
+#![tactic(auto)]
+
 mod number;
 
 ghost use Rattle.std.specs.Prelude.{◌≡◌, ◌+◌, ◌≤◌, length};
