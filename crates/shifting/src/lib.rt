@@ -1,4 +1,6 @@
 // Bytes shifted by a few bits, each with the low bits of the one before it in front.
+#![tactic(auto)]
+
 ghost use Rattle.std.specs.Prelude.{◌≡◌, ◌+◌, ◌≤◌, ◌<◌, length};
 ghost use Rattle.std.proofs.lemmas.List.Edits.{sets};
 ghost use Rattle.shifting.specs.Shifted.{between as between_of, shifted, last_from};

@@ -1,7 +1,7 @@
 -- `shift` meets its contract: with each turn one byte more is shifted. Assumes nothing.
 use mathlib.Core.Path.{◌≡◌, sym, ap, ap₂, ◌∙◌}
 use mathlib.Core.List.{List, [], ◌∷◌, ◌++◌}
-use Prim.Native.Nat.{ℕ, ◌+◌, ◌-◌, ◌≤◌, ◌<◌}
+use Prim.Native.Nat.{ℕ, ◌+◌, ◌-◌, ◌≤◌, ◌<◌, ◌^◌}
 use native.Mathlib.Numerals.{add-one}
 use native.Mathlib.Omega.{arith}
 use lib.ListN.{length, take, get_or, set, length-set}
@@ -109,7 +109,9 @@ room : tie.Need-bounds-to-at-in-loop-i invariant-loop decreases-loop
 room c = omega (arith, (start (turn c)).requires.0, kept (turn c), tested c)
 
 add-to : tie.Need-overflow_add-to invariant-loop decreases-loop
-add-to c = record { fits = omega (arith, room c, kept (turn c), (start (turn c)).good.0.0) }
+add-to c =
+    let whole : length c.args.to.now < 2 ^ 64 = search rules in
+    record { fits = omega (arith, room c, kept (turn c)) }
 
 pub shift_spec : {M : Type 1} → statement M
 shift_spec =
