@@ -1,4 +1,6 @@
 // Two images side by side: which fields differ, and which registers do in bits outside all fields.
+#![tactic(auto)]
+
 ghost use Rattle.std.specs.Prelude.{◌≡◌, ◌&&◌, length};
 ghost use Rattle.adv7194_compare.specs.Compare.{compared_as, can_be_read, is_taken, taken_into, whole as whole_of, compare_by, compare_of, OnlyEqual};
 

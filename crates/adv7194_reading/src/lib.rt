@@ -1,4 +1,6 @@
 // A board judged and read: the settings that it holds, as 49 numbers. The house setting is handed out in the same way.
+#![tactic(auto)]
+
 ghost use Rattle.std.specs.Prelude.{◌≡◌, length};
 ghost use Rattle.refusals.specs.Order.{Exactly};
 ghost use Rattle.field_table.specs.Answers.{checked_as};

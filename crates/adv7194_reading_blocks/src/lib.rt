@@ -1,4 +1,6 @@
 // The ADV7194's fields that fill whole registers: an image judged and read, field by field.
+#![tactic(auto)]
+
 mod curves;
 mod places;
 mod signals;

@@ -1,4 +1,6 @@
 // The ADV7194's fields of one number, row by row: an image judged and read, group by group.
+#![tactic(auto)]
+
 mod brightness;
 mod clamp_delay;
 mod dnr;

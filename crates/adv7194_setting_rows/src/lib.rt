@@ -1,4 +1,6 @@
 // The ADV7194's settings of one number, row by row: checked and placed in an image, group by group.
+#![tactic(auto)]
+
 mod brightness;
 mod clamp_delay;
 mod dnr;

@@ -11,14 +11,14 @@ use Rattle.adv7194_settings.proofs.house_setting.put_ratio.Statement.{statement}
 use Rattle.adv7194_settings.proofs.house_setting.put_ratio.Tie as tie
 
 -- the block's index, which is one byte
-at : (c : tie.After-block_of-index) → c.Block-of.result.index ≡ (block_of c.args.packed).index
-at c = ap (λ (b : Block). b.index) c.Block-of.ensures
+at : (c : tie.After-block_of-index) → c.block_of-index.result.index ≡ (block_of c.args.packed).index
+at c = ap (λ (b : Block). b.index) c.block_of-index.ensures
 
-small : (c : tie.After-block_of-index) → c.Block-of.result.index < 256
+small : (c : tie.After-block_of-index) → c.block_of-index.result.index < 256
 small c = let e = at c in omega arith
 
 -- the numbers reach past it
-room : (c : tie.After-block_of-index) → c.Block-of.result.index + 2 < length c.args.numbers.now
+room : (c : tie.After-block_of-index) → c.block_of-index.result.index + 2 < length c.args.numbers.now
 room c = let e = at c in let h = c.requires in omega arith
 
 pub put_ratio_spec : {M : Type 1} → statement M
@@ -33,4 +33,4 @@ put_ratio_spec =
     (λ c. let h = small c in record { fits = omega arith })
     (λ c. let h = room c in simp length-set (omega arith))
     (λ c. search rules)
-    (λ c. ap (λ (b : Block). with_ratio b 1 1 c.args.numbers.now) c.Block-of.ensures))
+    (λ c. ap (λ (b : Block). with_ratio b 1 1 c.args.numbers.now) c.block_of-index.ensures))
