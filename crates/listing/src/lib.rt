@@ -1,4 +1,6 @@
 // The first line of a listing: written, and recognised by its word.
+#![tactic(auto)]
+
 ghost use Rattle.std.specs.Prelude.{◌≡◌, [], ◌∷◌, ◌++◌, ◌+◌, ◌≤◌, length};
 ghost use Rattle.text.specs.Line.{appended};
 ghost use Rattle.text.specs.Text.{decimal};

@@ -44,7 +44,7 @@ second-few : (c : tie.After-put-first) → length (decimal (start c).args.b) ≤
 second-few c = decimal-most 19 (start c).args.b (omega (arith, (start c).ranges.b.fits))
 
 -- the word is written
-word-written : (c : tie.After-put-first) → Written (zeros line_width) 0 (start c).args.word.now c.put-first.new.0 c.put-first.result
+word-written : (c : tie.After-put-first) → Written (zeros line_width) 0 (start c).args.word.now c.put-first.new.line c.put-first.result
 word-written c = record { fit = omega (arith, (start c).requires, length-zeros line_width); memory = c.put-first.ensures.1; here = c.put-first.ensures.0 }
 
 put-number-requires : tie.Need-put_number-second-requires
@@ -58,7 +58,7 @@ abbrev before-first : tie.After-put_number-second → tie.After-put-first
 before-first c = c.before.before.before
 
 first-written : (c : tie.After-put_number-second) → (let a = (start (before-first c)).args in
-    Written (zeros line_width) 0 (a.word.now ++ (decimal a.a ++ space)) c.put_number-second.new.0 c.put_number-second.result)
+    Written (zeros line_width) 0 (a.word.now ++ (decimal a.a ++ space)) c.put_number-second.new.line c.put_number-second.result)
 first-written c =
     let p = before-first c in
     let a = (start p).args in

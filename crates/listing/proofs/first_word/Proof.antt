@@ -27,10 +27,8 @@ pub first_word_spec : {M : Type 1} → statement M
 first_word_spec =
     tie.close
     (tie.spec
-    (λ c. search rules)
     (λ c κs. search rules)
     returns
-    (λ c. search rules)
     (λ c κs. search rules)
     returns-2
     returns-3)

@@ -37,12 +37,12 @@ returns c =
     let e = digits_part (digits s) in
     let h = start.requires in
     let text = decimal a.n in
-    let w : Written a.line.now a.at text p.put-next.new.0 p.put-next.result = record {
+    let w : Written a.line.now a.at text p.put-next.new.line p.put-next.result = record {
       fit = omega arith;
       memory = p.put-next.ensures.1 ∙ ap (appended a.line.now a.at) e;
       here = p.put-next.ensures.0 ∙ ap (λ (t : List ℕ). a.at + length t) e;
     } in
-    let more = next w (a.end ∷ []) (omega (arith, w.here)) (stored p.put-next.new.0 p.put-next.result a.end (omega (arith, w.here, kept w))) refl in
+    let more = next w (a.end ∷ []) (omega (arith, w.here)) (stored p.put-next.new.line p.put-next.result a.end (omega (arith, w.here, kept w))) refl in
     (omega (arith, w.here), more.memory)
 
 pub put_number_spec : {M : Type 1} → statement M
