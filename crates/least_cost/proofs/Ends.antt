@@ -1,5 +1,5 @@
 -- A list that holds the wanted bytes ends in them, and an ascending list holds the bytes that it ends in. Assumes nothing.
-use mathlib.Core.Path.{◌≡◌, sym, ap, ◌∙◌}
+use mathlib.Core.Path.{◌≡◌, sym, subst, ap, ◌∙◌}
 use mathlib.Core.Logic.{◌⊎◌, inl, inr, ⊎_elim}
 use mathlib.Core.List.{List, [], ◌∷◌, flat_map}
 use Prim.Native.Nat.{ℕ, ◌≤◌, ◌<◌}
@@ -43,7 +43,7 @@ module _ (κ : Kind) where
       let n = length-next κ c t in
       let e = run-list κ κ.address c t ts in (
         λ x u. sym (ap (λ d. get_or d.registers x 0) e ∙ same x u ∙ touched-next κ c t x k (omega (arith, (k x u).0)) u),
-        rw e (ascending-holds ts (next κ c t) (end t) a.1 ks (omega arith)),
+        subst (λ (d : Chip). Every (Holds (λ x. get_or d.registers x 0)) ts) (sym e) (ascending-holds ts (next κ c t) (end t) a.1 ks (omega arith)),
       )
     where
       -- the transactions after it touch none of its registers

@@ -1,13 +1,15 @@
 -- The plan among some lists is one: no list comes before another that comes before it. Assumes nothing.
 use mathlib.Core.Path.{◌≡◌, sym}
 use mathlib.Core.Logic.{inl, inr, ⊎_elim}
-use mathlib.Core.List.{List, ◌∷◌}
+use mathlib.Core.List.{List, [], ◌∷◌}
 use native.Mathlib.Omega.{arith}
 use Rattle.bus.specs.Transactions.{Transaction}
 use Rattle.least_cost.specs.Order.{Before, IsPlan}
 
 -- of two lists at most one comes before the other
 not_both_ways : (ts us : List Transaction) → Before ts us → Before us ts → ⊥
+not_both_ways [] us h k = elim k [ ]
+not_both_ways (t ∷ ts) [] h k = elim h [ ]
 not_both_ways (t ∷ ts) (u ∷ us) (inl a) (inl b) = omega (arith, a, b)
 not_both_ways (t ∷ ts) (u ∷ us) (inl a) (inr b) = omega (arith, a, b.0)
 not_both_ways (t ∷ ts) (u ∷ us) (inr a) (inl b) = omega (arith, a.0, b)

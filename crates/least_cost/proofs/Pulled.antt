@@ -1,7 +1,7 @@
 -- A list with one of its transactions set apart. Assumes nothing.
 use mathlib.Core.Path.{◌≡◌, refl}
 use mathlib.Core.Logic.{◌⊎◌, inl, inr, ⊎_elim}
-use mathlib.Core.List.{List, ◌∷◌}
+use mathlib.Core.List.{List, [], ◌∷◌}
 use Prim.Native.Nat.{ℕ, ◌+◌}
 use native.Mathlib.Omega.{arith}
 use Rattle.bus.specs.Transactions.{Transaction, Touches, Touched}
@@ -50,5 +50,6 @@ module _ (P : Transaction → Type 0) (r : ℕ) where
 
   -- where a register is touched there is one
   pub pulled : (ts : List Transaction) → Every P ts → Touched ts r → Pulled P ts r
+  pulled [] h u = elim u [ ]
   pulled (t ∷ ts) h (inl u) = pull_first t ts h u
   pulled (t ∷ ts) h (inr u) = pull_later t ts h.0 (pulled ts h.1 u)

@@ -39,6 +39,7 @@ spans_ascending (t ∷ ts) (u ∷ us) i e a =
 
 -- in an ascending list nothing is touched before the first start
 pub ascending-past : (i r : ℕ) (ts : List Transaction) → Ascending i ts → r < i → Touched ts r → ⊥
+ascending-past i r [] a h u = elim u [ ]
 ascending-past i r (t ∷ ts) a h (inl u) = omega arith
 ascending-past i r (t ∷ ts) a h (inr u) = ascending-past (end t) r ts a.1 (omega arith) u
 
