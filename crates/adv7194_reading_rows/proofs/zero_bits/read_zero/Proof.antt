@@ -1,11 +1,11 @@
--- `zero_bits_lem::read_zero` meets its contract. Assumes nothing.
+-- `zero_bits::read_zero` meets its contract. Assumes nothing.
 use borrow.Author.Rules.{rules}
 use Rattle.field_table.specs.Rows.{row_of}
 use Rattle.field_table.specs.Coding.{plain_of}
 use Rattle.field_table.specs.Answers.{checked_as}
 use Rattle.field_table.proofs.StepLaws.{decoded_step}
-use Rattle.adv7194_reading_rows.proofs.zero_bits_lem.read_zero.Statement.{statement}
-use Rattle.adv7194_reading_rows.proofs.zero_bits_lem.read_zero.Tie as tie
+use Rattle.adv7194_reading_rows.proofs.zero_bits.read_zero.Statement.{statement}
+use Rattle.adv7194_reading_rows.proofs.zero_bits.read_zero.Tie as tie
 
 returns : tie.Need-returns
 returns c =

@@ -1,11 +1,11 @@
--- `zero_bits_lem::zero_setting` meets its contract. Assumes nothing.
+-- `zero_bits::zero_setting` meets its contract. Assumes nothing.
 use mathlib.Core.Path.{◌≡◌, ap}
 use borrow.Author.Rules.{rules}
 use Rattle.field_table.specs.declared.row.Row.{Row}
 use Rattle.field_table.specs.Rows.{row_of}
 use Rattle.adv7194_reading_rows.proofs.ZeroLaws.{clear_read, set_read, past_read}
-use Rattle.adv7194_reading_rows.proofs.zero_bits_lem.zero_setting.Statement.{statement}
-use Rattle.adv7194_reading_rows.proofs.zero_bits_lem.zero_setting.Tie as tie
+use Rattle.adv7194_reading_rows.proofs.zero_bits.zero_setting.Statement.{statement}
+use Rattle.adv7194_reading_rows.proofs.zero_bits.zero_setting.Tie as tie
 
 -- the row's register
 at : (c : tie.After-row_of-register) → c.row_of-register.result.register ≡ (row_of c.args.packed).register

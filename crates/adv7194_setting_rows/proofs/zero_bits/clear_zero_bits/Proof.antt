@@ -1,11 +1,11 @@
--- `zero_bits_lem::clear_zero_bits` meets its contract: past the image there is no register. Assumes nothing.
+-- `zero_bits::clear_zero_bits` meets its contract: past the image there is no register. Assumes nothing.
 use mathlib.Core.Path.{◌≡◌, ap}
 use borrow.Author.Rules.{rules}
 use Rattle.field_table.specs.declared.row.Row.{Row}
 use Rattle.field_table.specs.Rows.{row_of}
 use Rattle.adv7194_setting_rows.proofs.ZeroLaws.{clear_there, clear-past}
-use Rattle.adv7194_setting_rows.proofs.zero_bits_lem.clear_zero_bits.Statement.{statement}
-use Rattle.adv7194_setting_rows.proofs.zero_bits_lem.clear_zero_bits.Tie as tie
+use Rattle.adv7194_setting_rows.proofs.zero_bits.clear_zero_bits.Statement.{statement}
+use Rattle.adv7194_setting_rows.proofs.zero_bits.clear_zero_bits.Tie as tie
 
 register : (c : tie.After-row_of-register) → c.row_of-register.result.register ≡ (row_of c.args.packed).register
 register c = ap (λ (r : Row). r.register) c.row_of-register.ensures
