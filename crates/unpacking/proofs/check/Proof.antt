@@ -60,21 +60,21 @@ add-transactions : tie.Need-overflow_add-transactions invariant-loop decreases-l
 add-transactions c = let v = c.loop-after.invariant in record { fits = omega (arith, v.counts, v.walked.few) }
 
 -- the transaction that was found
-went : (c : tie.In-Transaction-2 invariant-loop decreases-loop)
-    → Went (plan-at c.before.before) c.loop-after.cursor c.in-Transaction.subaddress c.after-1.given.0.1.0
-    c.after-1.given.0.1.1.0
-    c.after-1.given.0.1.1.1.0
+went : (c : tie.In-Transaction invariant-loop decreases-loop)
+    → Went c.args.plan.now c.loop-after.cursor c.in-Transaction.subaddress c.in-Transaction.count
+    c.in-Transaction.data
+    c.in-Transaction.after
 went c = said c.before _ c.in-Transaction.is
 
 loop-less : tie.Need-loop-after-smaller invariant-loop decreases-loop
-loop-less c = omega (arith, (went c.before).left)
+loop-less c = omega (arith, (went c).left)
 
 loop-again : tie.Need-loop-after-preserved invariant-loop decreases-loop
 loop-again c =
     let v = c.loop-after.invariant in
     record {
       done = v.done ++ (_ ∷ []);
-      walked = walk_goes v.walked (went c.before);
+      walked = walk_goes v.walked (went c);
       counts = ap (λ (n : ℕ). n + 1) v.counts
           ∙ sym (one_more v.done _);
     }

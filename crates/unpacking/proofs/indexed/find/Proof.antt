@@ -1,6 +1,5 @@
 -- `unpacking::indexed::find` meets its contract: it is a walk that remembers the transaction with the index. Assumes nothing.
 use mathlib.Core.Path.{◌≡◌, refl, sym, ap, ◌∙◌, subst, subst⁻¹}
-use mathlib.Core.Logic.{⊎_elim}
 use mathlib.Core.Option.{Option}
 use mathlib.Core.List.{List, [], ◌∷◌, ◌++◌}
 use Prim.Native.Nat.{ℕ, ◌+◌}
@@ -21,6 +20,7 @@ use Rattle.unpacking.proofs.Walking.{one_more, Walked, walk_begins, walk_goes, w
 use Rattle.unpacking.proofs.IndexLaws.{last_index, other_index}
 use Rattle.unpacking.proofs.indexed.find.Statement.{statement}
 use Rattle.unpacking.proofs.indexed.find.Tie as tie
+use Rattle.unpacking.proofs.indexed.find.Lts.{then-i-index, else-i-index}
 
 -- the transactions passed, of which the one with the index was remembered
 record Inv (plan : List ℕ) (order : Order) (index : ℕ) (cursor : Cursor) (found : Found) (i : ℕ) : Type 0 where
@@ -88,29 +88,34 @@ returns-2 c =
     )
 
 -- the transaction that was found
-went : (c : tie.In-Transaction-2 invariant-loop decreases-loop)
-    → Went (plan-at c.before.before) c.loop-found.cursor c.in-Transaction.subaddress c.subaddress-1.given.0.1.0
-    c.subaddress-1.given.0.1.1.0 c.subaddress-1.given.0.1.1.1.0
+went : (c : tie.In-Transaction invariant-loop decreases-loop)
+    → Went c.args.plan.now c.loop-found.cursor c.in-Transaction.subaddress c.in-Transaction.count
+    c.in-Transaction.data c.in-Transaction.after
 went c = said c.before _ c.in-Transaction.is
 
 loop-again : tie.Need-loop-found-preserved invariant-loop decreases-loop
 loop-again c =
-    let s = c in
+    let s = c.before in
     let l = c.before.before.before in
     let v = l.loop-found.invariant in
     let plan = plan-at l in
     let index = (start l).args.index in
     let g = went s in
-    let t = transaction_at plan s.in-Transaction.subaddress s.subaddress-1.given.0.1.0 s.subaddress-1.given.0.1.1.0 in
+    let t = transaction_at plan s.in-Transaction.subaddress s.in-Transaction.count s.in-Transaction.data in
     record {
       done = v.done ++ (t ∷ []);
       walked = walk_goes v.walked g;
       counts = ap (λ (n : ℕ). n + 1) v.counts ∙ sym (one_more v.done t);
-      is = ⊎_elim
-          (λ w. ap (found_as plan) w.1 ∙ sym (ap accepted (ap (get_elem? (v.done ++ (t ∷ []))) (sym w.0.taken ∙ v.counts) ∙ last_index v.done t)))
-          (λ w. ap (found_as plan) w.1 ∙ v.is ∙ sym (ap accepted (other_index v.done t index (λ e. w.0.left (v.counts ∙ e)))))
-          c.if-i-index.branch;
-      placed = ⊎_elim (λ w. subst⁻¹ (FoundPlaced plan) w.1 (g.placed, g.room)) (λ w. subst⁻¹ (FoundPlaced plan) w.1 v.placed) c.if-i-index.branch;
+      is = elim c.if-i-index.branch [
+        | then-i-index w ↦ ap (found_as plan) w.found-is
+            ∙ sym (ap accepted (ap (get_elem? (v.done ++ (t ∷ []))) (sym w.if-i-index.true ∙ v.counts) ∙ last_index v.done t))
+        | else-i-index w ↦ ap (found_as plan) w.found-is ∙ v.is
+            ∙ sym (ap accepted (other_index v.done t index (λ e. w.if-i-index.false (v.counts ∙ e))))
+      ];
+      placed = elim c.if-i-index.branch [
+        | then-i-index w ↦ subst⁻¹ (FoundPlaced plan) w.found-is (g.placed, g.room)
+        | else-i-index w ↦ subst⁻¹ (FoundPlaced plan) w.found-is v.placed
+      ];
     }
 
 pub find_spec : {M : Type 1} → statement M
@@ -128,5 +133,5 @@ find_spec =
     returns-2
     (λ c. search rules)
     (λ c. let v = c.loop-found.invariant in record { fits = omega (arith, v.counts, v.walked.few) })
-    (λ c. omega (arith, (went c.before.before).left))
+    (λ c. omega (arith, (went c.before).left))
     loop-again)

@@ -62,19 +62,19 @@ returns-3 : tie.Need-returns-in-PastLast
 returns-3 c = let f = c.before in refuse f 3 (answered f _ c.in-PastLast.is)
 
 -- the transaction that was found, and its data count
-abbrev found_at : tie.In-At-2 → Transaction
-found_at s = transaction_at (plan-at s.before) s.in-At.subaddress s.subaddress-1.given.0.1.0 s.subaddress-1.given.0.1.1.0
+abbrev found_at : tie.In-At → Transaction
+found_at s = transaction_at (plan-at s.before) s.in-At.subaddress s.in-At.count s.in-At.place
 
-count_at : (s : tie.In-At-2) → size (found_at s) ≡ s.subaddress-1.given.0.1.0
-count_at s = first_bytes-length s.subaddress-1.given.0.1.0 (left_at (plan-at s.before) s.subaddress-1.given.0.1.1.0)
+count_at : (s : tie.In-At) → size (found_at s) ≡ s.in-At.count
+count_at s = first_bytes-length s.in-At.count (left_at (plan-at s.before) s.in-At.place)
 
-by_room_lem : (s : tie.In-At-2) (b : Bool) → leb (size (found_at s)) (length (memory-at s.before)) ≡ b
+by_room_lem : (s : tie.In-At) (b : Bool) → leb (size (found_at s)) (length (memory-at s.before)) ≡ b
     → answer_at s.before ≡ cond b (accepted (found_at s)) (refused 10)
 by_room_lem s b e = answered s.before _ s.in-At.is ∙ ap (λ (x : Bool). cond x (accepted (found_at s)) (refused 10)) e
 
 returns : tie.Need-returns-then-memory-count
 returns c =
-    let s = c in
+    let s = c.before in
     let f = c.before.before in
     refuse f 10 (by_room_lem s false (lt-leb (size (found_at s)) (length (memory-at f)) (omega (arith, count_at s, c.if-memory-count.true))))
 
@@ -82,7 +82,7 @@ returns-4 : tie.Need-returns-else-memory-count
 returns-4 c =
     let k = c in
     let o = c in
-    let s = c in
+    let s = c.before.before.before.before.before in
     let f = c.before.before.before.before.before.before in
     let t = found_at s in
     let fits : size t ≤ length (memory-at f) = omega (arith, count_at s, o.if-memory-count.false) in
@@ -90,7 +90,7 @@ returns-4 c =
     let p = subst (FoundPlaced (plan-at f)) s.in-At.is f.find.ensures.1 in (
       ap (λ (n : ℕ). accepted (record { subaddress = t.subaddress; count = n })) (sym (count_at s)) ∙ sym (ap header_of e),
       k.copy_data.ensures
-          ∙ data_copied_lem (plan-at f) s.subaddress-1.given.0.1.1.0 (memory-at f) 0 s.subaddress-1.given.0.1.0 p.0 p.1
+          ∙ data_copied_lem (plan-at f) s.in-At.place (memory-at f) 0 s.in-At.count p.0 p.1
           (omega (arith, o.if-memory-count.false))
           ∙ sets_front t.bytes (memory-at f) fits
           ∙ sym (ap (λ (j : Judged Transaction). data_after j (memory-at f)) e),

@@ -2,12 +2,11 @@
 use mathlib.Core.Path.{◌≡◌, sym, ap, ◌∙◌, subst}
 use mathlib.Core.Bool.{Bool, true, false}
 use mathlib.Core.List.{List}
-use Prim.Native.Nat.{ℕ, suc, ◌+◌, ◌-◌, ◌*◌, ◌<◌, zero-le}
+use Prim.Native.Nat.{ℕ, suc, ◌+◌, ◌-◌, ◌*◌, ◌^◌, ◌<◌, zero-le}
 use native.Mathlib.Omega.{arith}
 use lib.Arith.{lt_of_le-ne}
 use lib.ListN.{length, drop, length-drop}
 use borrow.Author.Rules.{rules}
-use borrow.Author.Tests.{not-true, not-false}
 use Rattle.bits.proofs.FlagLaws.{holds}
 use Rattle.unpacking.specs.declared.steps.Cursor.{Cursor}
 use Rattle.unpacking.specs.declared.steps.Step.TheVariants.{Fault}
@@ -33,10 +32,10 @@ bits_at w = left_at (plan-at w) (cursor-at w).place
 -- ---- the place
 
 returns : tie.Need-returns-then-not-within
-returns c = let w = c.before in sym (outside (plan-at w) (cursor-at w) (sym w.within.ensures ∙ not-true _ c.if-not-within.true))
+returns c = let w = c.before in sym (outside (plan-at w) (cursor-at w) (sym w.within.ensures ∙ c.if-not-within.true))
 
 right : (c : tie.Else-not-within) → inside (plan-at c.before) (cursor-at c.before).place ≡ true
-right c = sym c.within.ensures ∙ not-false _ c.if-not-within.false
+right c = sym c.within.ensures ∙ c.if-not-within.false
 
 placed : (c : tie.Else-not-within) → Placed (plan-at c.before) (cursor-at c.before).place
 placed c = inside-placed (plan-at c.before) (cursor-at c.before).place (right c)
@@ -147,7 +146,8 @@ found-requires c κs =
     let h = header c in
     let e = h.header_at-header.ensures in
     let k = small h in
-    (omega (arith, k.0, k.1), omega (arith, c.if-plan-data.false, e.placed.inside, (located h).good.0.0))
+    let whole : length c.args.plan.now < 2 ^ 64 = search rules in
+    (omega (arith, k.0, k.1), omega (arith, c.if-plan-data.false, e.placed.inside))
 
 returns-8 : tie.Need-returns
 returns-8 c =
