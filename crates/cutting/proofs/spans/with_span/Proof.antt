@@ -12,7 +12,7 @@ sub-registers c = some_power (c.args.end - c.args.start) (omega arith)
 returns : tie.Need-returns
 returns c =
     let s = c in (
-      λ x. span_taken s.args.spans.true s.args.start s.args.end x s.requires.0 s.requires.1,
+      λ x. span_taken s.args.spans.taken s.args.start s.args.end x s.requires.0 s.requires.1,
       λ x. one_more s.args.spans.starts s.args.start x (omega arith),
     )
 
