@@ -1,1 +1,2 @@
 // Playing a packed plan, for any chip: definitions and theorems.
+#![tactic(auto)]
