@@ -192,7 +192,7 @@ module _ {A : Type 0} (j : Field → Judged A) (is-sound : (f : Field) → T (so
 
       by : (b : Bool) → eqb f g ≡ b → first_of (rows (x ∷ xs)) (places_in range_rows (g ∷ fields_after g xs)) tt ≡ faults j (x ∷ xs)
           → first_of (rows (x ∷ xs)) (places_in range_rows (f ∷ cond b (fields_after g xs) (g ∷ fields_after g xs))) tt ≡ faults j (x ∷ xs)
-      by true e h = rw (eqb-true f g e) h
+      by true e h = ap (λ y. first_of (rows (x ∷ xs)) (places_in range_rows (y ∷ fields_after g xs)) tt) (eqb-true f g e) ∙ h
       by false e h =
           let d = eqb-false f g e in
           let a = here k x xs t in

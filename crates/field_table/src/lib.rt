@@ -1,5 +1,7 @@
 // Fields of one number, by a table with a row a field: settings checked and placed in an image, an image judged and read. The table, the numbers and
 // the registers are slices, so that any chip's table serves.
+#![tactic(auto)]
+
 mod places;
 mod plain;
 pub mod row;
