@@ -1,5 +1,6 @@
 // The subcarrier word of the ADV7194, from the timing of each television standard.
 #![tactic(auto)]
+
 ghost use Rattle.std.specs.Prelude.{◌≡◌, ◌*◌, ◌^◌};
 ghost use Rattle.rounding.specs.Nearest.{Nearest};
 ghost use Rattle.adv7194_subcarrier.specs.Subcarrier.{cycles_of, divisor_of, clocks_of, word_of};
