@@ -12,7 +12,7 @@ fn main() {
     let archive = folder.join(ARCHIVE);
     assert!(
         archive.exists(),
-        "the archive {} isn't made yet: `rt staticlib` makes it",
+        "the archive {} isn't made yet: `tools/build adv7194_c` makes it",
         archive.display()
     );
     println!("cargo:rustc-link-search=native={}", folder.display());
