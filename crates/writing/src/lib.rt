@@ -1,4 +1,6 @@
 // Words and numbers written into a line that has room for them. Each function that writes answers the place after what it wrote.
+#![tactic(auto)]
+
 ghost use Rattle.std.specs.Prelude.{◌≡◌, ◌++◌, ◌+◌, ◌≤◌, pos, length, get_or};
 ghost use Rattle.text.specs.Text.{space, signed, decimal, hex_byte};
 ghost use Rattle.writing.specs.Put.{Put, number_width, count_width};

@@ -14,7 +14,6 @@ returns c =
 pub put_byte_spec : {M : Type 1} → statement M
 put_byte_spec =
     tie.close (tie.spec
-    (λ c. search rules)
     (λ c κs. search rules)
     (λ c κs. search rules)
     (λ c. search rules)
