@@ -2,7 +2,6 @@
 -- Assumes nothing.
 use mathlib.Core.Path.{◌≡◌, refl, sym, ap, ◌∙◌}
 use mathlib.Core.List.{List, [], ◌++◌}
-use mathlib.Core.Logic.{⊎_elim}
 use Prim.Native.Nat.{ℕ, ◌+◌, ◌-◌, ◌≤◌}
 use native.Mathlib.Omega.{arith}
 use lib.IntN.{ℤ, pos}
@@ -14,6 +13,7 @@ use Rattle.template.proofs.TemplateLaws.{takes, widths_from, filled_more, filled
 use borrow.Author.Rules.{rules}
 use Rattle.template.proofs.fill.Statement.{statement}
 use Rattle.template.proofs.fill.Tie as tie
+use Rattle.template.proofs.fill.Lts.{then-is_mark, else-is_mark}
 
 record Inv (line₀ : List ℕ) (at : ℕ) (template : List ℕ) (zs : List ℤ) (first : ℕ) (line : List ℕ) (place next i : ℕ) : Type 0 where
   turns : i ≤ length template
@@ -65,11 +65,13 @@ loop-again c =
     let longer = l.invariant.text ++ stands_for b (get_or a.numbers.now l.next (pos 0)) in
     let part = looked (stands_for b) g.type_inv g.ensures p.put_part-place.ensures in
     let next : l.next + taken b ≡ c.if-is_mark.next =
-    ⊎_elim (λ w. omega (arith, takes b (sym m.is_mark.ensures ∙ w.0.taken), w.1))
-    (λ w. omega (arith, takes b (sym m.is_mark.ensures ∙ w.0.left), w.1)) c.if-is_mark.branch in
+    elim c.if-is_mark.branch [
+      | then-is_mark w ↦ omega (arith, takes b (sym m.is_mark.ensures ∙ w.if-is_mark.true), w.next-is)
+      | else-is_mark w ↦ omega (arith, takes b (sym m.is_mark.ensures ∙ w.if-is_mark.false), w.next-is)
+    ] in
     record {
       turns = omega (arith, t.loop-i-test.true);
-      few = ⊎_elim (λ w. omega (arith, w.1, l.invariant.few)) (λ w. omega (arith, w.1, l.invariant.few)) c.if-is_mark.branch;
+      few = elim c.if-is_mark.branch [ then-is_mark w ↦ omega (arith, w.next-is, l.invariant.few) | else-is_mark w ↦ omega (arith, w.next-is, l.invariant.few) ];
       spent = l.invariant.spent + width b;
       text = longer;
       written = more l.invariant.written part (omega (arith, l.invariant.room, from, start.requires.0));

@@ -31,7 +31,7 @@ returns c =
     let p = c in
     let e = c.before.before.before.before.before in
     let a = e.args in
-    subst (λ (t : List ℕ). Put (widths t) a.line.now a.at (filled t (drop a.first a.numbers.now)) p.fill.new.0 p.fill.result) (part e)
+    subst (λ (t : List ℕ). Put (widths t) a.line.now a.at (filled t (drop a.first a.numbers.now)) p.fill.new.line p.fill.result) (part e)
     p.fill.ensures
 
 pub fill_column_spec : {M : Type 1} → statement M

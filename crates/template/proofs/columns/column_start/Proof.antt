@@ -1,7 +1,6 @@
 -- `columns::column_start` meets its contract. The loop's invariant: the column sought is as many columns on as are left. Assumes nothing.
 use mathlib.Core.Path.{◌≡◌, refl, sym, ap, ◌∙◌}
 use mathlib.Core.List.{List}
-use mathlib.Core.Logic.{⊎_elim}
 use Prim.Native.Nat.{ℕ, ◌+◌, ◌-◌, ◌≤◌, ◌<◌}
 use native.Mathlib.Omega.{arith}
 use lib.ListN.{length, drop}
@@ -10,6 +9,7 @@ use Rattle.template.specs.Columns.{column_in}
 use Rattle.template.proofs.ColumnLaws.{at-end, one_less, as_many}
 use Rattle.template.proofs.columns.column_start.Statement.{statement}
 use Rattle.template.proofs.columns.column_start.Tie as tie
+use Rattle.template.proofs.columns.column_start.Lts.{then-is_end, else-is_end}
 
 record Inv (table : List ℕ) (k at left : ℕ) : Type 0 where
   within : at ≤ length table
@@ -44,9 +44,10 @@ loop-again c =
     record {
       within = omega (arith, h);
       column =
-          ⊎_elim (λ w. ap (column_in (drop (l.at + 1) t)) w.1 ∙ sym (one_less t l.at l.left h i.loop-left-test.true (same ∙ w.0.taken)))
-          (λ w. ap (column_in (drop (l.at + 1) t)) w.1 ∙ sym (as_many t l.at l.left h i.loop-left-test.true (same ∙ w.0.left)))
-          c.if-is_end.branch
+          elim c.if-is_end.branch [
+            | then-is_end w ↦ ap (column_in (drop (l.at + 1) t)) w.left-is ∙ sym (one_less t l.at l.left h i.loop-left-test.true (same ∙ w.if-is_end.true))
+            | else-is_end w ↦ ap (column_in (drop (l.at + 1) t)) w.left-is ∙ sym (as_many t l.at l.left h i.loop-left-test.true (same ∙ w.if-is_end.false))
+          ]
           ∙ l.invariant.column;
     }
 
