@@ -24,7 +24,7 @@ start c = c.before.before.before.before.before.before
 
 -- the registers taken, the starts, and the registers that transactions go on over
 abbrev taken : tie.After-packed_length-length → ℕ
-taken c = c.plan_maps-found.result.true
+taken c = c.plan_maps-found.result.taken
 
 abbrev starts : tie.After-packed_length-length → ℕ
 starts c = c.plan_maps-found.result.starts
@@ -103,9 +103,9 @@ returns-2 c =
     let p = counted-at g in
     let n = p.count-transactions.result in
     let w = (start p).args.plan.now in
-    has_room (list p) (plan-of p) w r.pack_spans.new.0 p.packed_length-length.result n c.bus_bytes.result
+    has_room (list p) (plan-of p) w r.pack_spans.new.plan p.packed_length-length.result n c.bus_bytes.result
     (known p).list (omega (arith, g.if-plan-length.false, long p)) (long p) (sym (counted p)) (c.bus_bytes.ensures ∙ cost p)
-    (begun-done (list p) w g.begin.result n (few p).0 (sym (counted p)) g.begin.ensures r.pack_spans.new.0 r.pack_spans.ensures)
+    (begun-done (list p) w g.begin.result n (few p).0 (sym (counted p)) g.begin.ensures r.pack_spans.new.plan r.pack_spans.ensures)
 
 pub pack_spec : {M : Type 1} → statement M
 pack_spec =

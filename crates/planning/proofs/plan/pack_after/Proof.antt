@@ -29,10 +29,10 @@ module _ (c : tie.After-count) where
 
   -- the registers taken, the starts, and the registers that transactions go on over
   abbrev taken : ℕ
-  taken = c.before.before.before.covered.result
+  taken = c.covered-taken.result
 
   abbrev starts : ℕ
-  starts = c.before.before.starts.result
+  starts = c.starts-starts.result
 
   abbrev goes : ℕ
   goes = bit_and taken (complement starts)
@@ -44,7 +44,7 @@ module _ (c : tie.After-count) where
   known : Mapped plan-of wanted taken starts goes
   known =
       joined_mapped start.args.needed start.args.allowed taken starts wanted (search rules) (search rules) start.requires.writable
-      c.before.before.before.covered.ensures c.before.before.starts.ensures start.requires.inside
+      c.covered-taken.ensures c.starts-starts.ensures start.requires.inside
 
   -- the first transaction, the others, and all
   abbrev lead : Transaction
@@ -61,18 +61,18 @@ module _ (c : tie.After-count) where
   same = ap (λ (l : List Transaction). lead ∷ l) known.list
 
   -- how many they are, and how many data they have
-  counted : c.before.count.result + 1 ≡ length all
-  counted = omega (arith, known.transactions, c.before.count.ensures)
+  counted : c.count-all.result + 1 ≡ length all
+  counted = omega (arith, known.transactions, c.count-all.ensures)
 
-  bytes : data_count all ≡ c.count2.result + length start.args.bytes.now
+  bytes : data_count all ≡ c.count.result + length start.args.bytes.now
   unfolding data_count
-  bytes = omega (arith, known.bytes, c.count2.ensures)
+  bytes = omega (arith, known.bytes, c.count.ensures)
 
   -- which are few
-  few : (c.before.count.result + 1 ≤ 63) × (c.count2.result ≤ 63)
+  few : (c.count-all.result + 1 ≤ 63) × (c.count.result ≤ 63)
   few =
       let n = start.requires.small in
-      (omega (arith, known.few, c.before.count.ensures), omega (arith, known.short, c.count2.ensures))
+      (omega (arith, known.few, c.count-all.ensures), omega (arith, known.short, c.count.ensures))
 
 -- the bytes of their packing
 long : (c : tie.After-packed_length-size) → c.packed_length-size.result ≡ length (packed (all c.before))
@@ -85,7 +85,7 @@ cost c = ap₂ cost_of (counted c) (sym (bytes c)) ∙ sym (bytes_count (all c))
 
 returns : tie.Need-returns-then-plan-size
 returns c =
-    let p = c in
+    let p = c.before.before.before in
     let t = too_short (all p) (lead p ∷ plan-of p) (start p).args.plan.now (same p) (omega (arith, c.if-plan-size.true, long c.before.before)) in
     (c.too_short.ensures ∙ t.0, t.1)
 
@@ -121,7 +121,7 @@ pack-spans-requires c κs =
       small = omega (arith, (start p).requires.small);
       sound = put.ensures.sound;
       room = later-room (lead p) (others p) (start p).args.plan.now g.begin.result n (few p).0 (counted p) g.begin.ensures (fits g)
-          put.new.0 put.result put.auto.0 put.ensures;
+          put.new.plan put.result put.auto.plan put.ensures;
     }
 
 -- where the first transaction was packed
@@ -131,7 +131,7 @@ packed-at c = c.before.before.before.before.before.before
 cast-t13 : tie.Need-overflow_cast-result
 cast-t13 c =
     let l = (packed-at c).before.before.before.before in
-    omega (arith, l.packed-length.ensures, (few l.before).0, (few l.before).1, (start l.before).requires.short)
+    omega (arith, l.packed_length-size.ensures, (few l.before).0, (few l.before).1, (start l.before).requires.short)
 
 cast-t15 : tie.Need-overflow_cast-result-2
 cast-t15 c =
@@ -142,16 +142,16 @@ returns-2 : tie.Need-returns
 returns-2 c =
     let r = c in
     let k = packed-at c.before in
-    let g = k in
+    let g = k.before in
     let p = counted-at g in
     let n = p.count-all.result + 1 in
     let w = (start p).args.plan.now in
     let put = k.pack_transaction-first in
     let l = g.before.before.before in
-    has_room (all p) (lead p ∷ plan-of p) w r.pack_spans.new.0 l.packed-length.result n c.bus_bytes.result
+    has_room (all p) (lead p ∷ plan-of p) w r.pack_spans.new.plan l.packed_length-size.result n c.bus_bytes.result
     (same p) (fits g) (long l) (counted p) (c.bus_bytes.ensures ∙ cost p)
-    (later-done (lead p) (others p) w g.begin.result n (few p).0 (counted p) g.begin.ensures (fits g) put.last.0 put.result put.kept.0
-    put.ensures r.pack_spans.new.0 r.pack_spans.ensures)
+    (later-done (lead p) (others p) w g.begin.result n (few p).0 (counted p) g.begin.ensures (fits g) put.new.plan put.result put.auto.plan
+    put.ensures r.pack_spans.new.plan r.pack_spans.ensures)
 
 pub pack_after_spec : {M : Type 1} → statement M
 pack_after_spec =

@@ -33,7 +33,7 @@ start c = c.before.before.before
 
 -- what is left of the map fits, and is not empty
 rest-fits : (c : tie.At-loop-rest invariant-loop decreases-loop) → c.loop-rest.rest < 2 ^ 64
-rest-fits c = omega (arith, c.loop-rest.invariant.is, shr_le (start c).args.true c.loop-rest.from, (start c).ranges.true.fits)
+rest-fits c = omega (arith, c.loop-rest.invariant.is, shr_le (start c).args.taken c.loop-rest.from, (start c).ranges.taken.fits)
 
 some_left : (c : tie.In-loop-rest invariant-loop decreases-loop) → 0 < c.loop-rest.rest
 some_left c = omega (arith, c.loop-rest-test.true)
@@ -48,32 +48,32 @@ low c =
     let a = c.before.before in
     let s = start a in
     let l = a.loop-rest in
-    starts_in s.args.true s.args.goes s.args.wanted.now s.requires.inside s.requires.over l.from l.rest c.lowest.result
-    s.ranges.true.fits l.invariant.is (some_left c.before) c.lowest.ensures
+    starts_in s.args.taken s.args.goes s.args.wanted.now s.requires.inside s.requires.over l.from l.rest c.lowest.result
+    s.ranges.taken.fits l.invariant.is (some_left c.before) c.lowest.ensures
 
 -- the transaction of this round
 turn : (c : tie.After-run-more invariant-loop decreases-loop)
-    → Round (start c.before.before.before).args.true (start c.before.before.before).args.goes
+    → Round (start c.before.before.before).args.taken (start c.before.before.before).args.goes
     (start c.before.before.before).args.wanted.now
     c.loop-rest.from c.lowest.result c.run-more.result
 turn c =
     let a = c.before.before.before in
     let s = start a in
     let l = a.loop-rest in
-    round s.args.true s.args.goes s.args.wanted.now s.requires.inside s.requires.over l.from l.rest c.lowest.result
+    round s.args.taken s.args.goes s.args.wanted.now s.requires.inside s.requires.over l.from l.rest c.lowest.result
     c.run-more.result
-    s.ranges.true.fits s.ranges.goes.fits l.invariant.within l.invariant.is (some_left c.before.before) c.lowest.ensures c.run-more.ensures
+    s.ranges.taken.fits s.ranges.goes.fits l.invariant.within l.invariant.is (some_left c.before.before) c.lowest.ensures c.run-more.ensures
 
 -- the list
 abbrev list-of : tie.Start invariant-loop decreases-loop → List Transaction
-list-of s = list_of s.args.true s.args.goes s.args.wanted.now
+list-of s = list_of s.args.taken s.args.goes s.args.wanted.now
 
 loop-holds : tie.Need-loop-rest-init invariant-loop decreases-loop
 loop-holds c =
     let s = c.before.before in
     record {
       within = omega arith;
-      is = sym (div-one s.args.true);
+      is = sym (div-one s.args.taken);
       progress = progress_none (list-of s) s.args.first s.args.plan.now s.requires.sound s.requires.room;
     }
 
@@ -97,7 +97,7 @@ pack-transaction-requires c κs =
       omega (arith, low c.before.before.before, s.requires.small),
       omega (arith, span_size w first past (omega arith) t.inside, t.inside, s.requires.small),
       progress_room (list-of s) s.args.first s.args.plan.now s.requires.sound s.requires.room l.invariant.progress (span w first past)
-          (list_from s.args.true s.args.goes w past) t.next,
+          (list_from s.args.taken s.args.goes w past) t.next,
     )
 
 loop-again : tie.Need-loop-rest-preserved invariant-loop decreases-loop
@@ -115,17 +115,17 @@ loop-again c =
       within = t.inside;
       is = refl;
       progress = progress_more (list-of s) s.args.first s.args.plan.now s.requires.sound s.requires.room l.invariant.progress (span w first past)
-          (list_from s.args.true s.args.goes w past) t.next
-          p.pack_transaction-pending.new.0 p.pack_transaction-pending.result p.pack_transaction-pending.auto.0 p.pack_transaction-pending.ensures;
+          (list_from s.args.taken s.args.goes w past) t.next
+          p.pack_transaction-pending.new.plan p.pack_transaction-pending.result p.pack_transaction-pending.auto.plan p.pack_transaction-pending.ensures;
     }
 
 -- no transaction is left
 none_left : (c : tie.After-loop-rest invariant-loop decreases-loop)
-    → list_from (start c.before).args.true (start c.before).args.goes (start c.before).args.wanted.now c.loop-rest.from ≡ []
+    → list_from (start c.before).args.taken (start c.before).args.goes (start c.before).args.wanted.now c.loop-rest.from ≡ []
 none_left c =
     let s = start c.before in
     let l = c.loop-rest in
-    listed s.args.true s.args.goes s.args.wanted.now s.requires.inside s.requires.over l.from l.invariant.within
+    listed s.args.taken s.args.goes s.args.wanted.now s.requires.inside s.requires.over l.from l.invariant.within
     (sym l.invariant.is ∙ c.loop-rest-test.false)
 
 finish-requires : tie.Need-finish-requires invariant-loop decreases-loop
@@ -136,7 +136,7 @@ finish-requires c κs =
     (g.sofar.sound, progress_last (list-of s) s.args.first s.args.plan.now s.requires.sound s.requires.room g (none_left c.before))
 
 same_length : tie.Need-shape_of-plan invariant-loop decreases-loop
-same_length c = c.finish.auto.0 ∙ c.loop-rest.invariant.progress.long
+same_length c = c.finish.auto.plan ∙ c.loop-rest.invariant.progress.long
 
 returns : tie.Need-returns invariant-loop decreases-loop
 returns c =
@@ -144,7 +144,7 @@ returns c =
     let e = c.before.before.before.before in
     let s = start c.before.before.before.before.before in
     progress_done (list-of s) s.args.first s.args.plan.now s.requires.sound s.requires.room e.loop-rest.invariant.progress (none_left e)
-    f.finish.new.0 f.finish.result f.finish.ensures.0 f.finish.ensures.1
+    f.finish.new.plan f.finish.result f.finish.ensures.0 f.finish.ensures.1
 
 pub pack_spans_spec : {M : Type 1} → statement M
 pack_spans_spec =

@@ -28,7 +28,7 @@ returns-2 c w π =
     let s = c in
     let a = s.args in
     let e = c.plan_spans.ensures w π in
-    mapped a.needed a.allowed a.held a.limit w c.plan_spans.result.true c.plan_spans.result.starts π (search rules) (search rules)
+    mapped a.needed a.allowed a.held a.limit w c.plan_spans.result.taken c.plan_spans.result.starts π (search rules) (search rules)
     e.0 e.1
 
 pub plan_maps_spec : {M : Type 1} → statement M

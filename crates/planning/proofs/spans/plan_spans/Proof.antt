@@ -116,7 +116,7 @@ returns c w π =
     let a = (start l).args in
     let z : l.loop-rest.rest ≡ 0 = c.loop-rest-test.false in
     found_all a.needed a.allowed a.held a.limit (map l) l.covered-rest.ensures (start l).requires
-    l.loop-rest.found.true l.loop-rest.found.starts l.loop-rest.from (rw z at l.loop-rest.invariant) w π
+    l.loop-rest.found.taken l.loop-rest.found.starts l.loop-rest.from (rw z at l.loop-rest.invariant) w π
 
 pub plan_spans_spec : {M : Type 1} → statement M
 plan_spans_spec =
