@@ -1,4 +1,4 @@
--- Packing and unpacking are inverse: a plan is accepted with ts exactly when ts is well_formed_lem and the plan is its packing. Assumes nothing.
+-- Packing and unpacking are inverse: a plan is accepted with ts exactly when ts is well-formed and the plan is its packing. Assumes nothing.
 use mathlib.Core.Path.{◌≡◌, refl, sym, ap, ap₂, ◌∙◌, subst, subst⁻¹}
 use mathlib.Core.Bool.{Bool, true, false, cond, ◌&&◌}
 use mathlib.Core.List.{List, [], ◌∷◌, ◌++◌, append_assoc}
@@ -93,7 +93,7 @@ module _ (next : ℕ → ℕ) where
           )
       go false d f = let z : ◌≡◌ {A = ℕ} 0 1 = cc in absurd (omega arith)
 
-  -- the two as one: a plan is accepted with ts exactly when ts is well_formed_lem and the plan is its packing
+  -- the two as one: a plan is accepted with ts exactly when ts is well-formed and the plan is its packing
   pub exact : (plan : List ℕ) (ts : List Transaction) → (unpack_by next plan ≡ accepted ts) ↔ Packs next plan ts
   exact plan ts = (unpacks_packed plan ts, λ h. ap (unpack_by next) h.1 ∙ packed_unpacks ts h.0)
 

@@ -8,6 +8,6 @@ use Rattle.unpacking.specs.Unpacking.{unpack}
 abbrev pub listed : Judged (List Transaction) → List Transaction
 listed j = value_or [] j
 
--- the plan is well_formed_lem
+-- the plan is well-formed
 abbrev pub Accepted : List ℕ → Type 0
 Accepted plan = unpack plan ≡ accepted (listed (unpack plan))
