@@ -1,5 +1,6 @@
 // What C and Rust link: planning, playing, reading and comparing with settings and answers as numbers, why a register is sent, the house setting, planning,
 // playing and reading captions, and a plan's transactions. A slice is a pointer and a length.
+#![tactic(auto)]
 ghost use Rattle.std.specs.Prelude.{◌≡◌, ◌≤◌, ◌<◌, length, take};
 ghost use Rattle.packing.specs.Packing.{behind};
 ghost use Rattle.unpacking.specs.Unpacking.{CountedBy, UnpacksBy, unpack};

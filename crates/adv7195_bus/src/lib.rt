@@ -1,5 +1,7 @@
 // The ADV7195 in progressive-scan mode as a chip on the bus: how many registers it has, the rule for what is written to it, the bit that needs preparing, and
 // an image's bytes.
+#![tactic(auto)]
+
 ghost use Rattle.std.specs.Prelude.{◌≡◌, length};
 ghost use Rattle.std.specs.Bool.{xor};
 ghost use Rattle.bits.specs.Maps.{has};

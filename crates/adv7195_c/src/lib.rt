@@ -1,5 +1,6 @@
 // What C and Rust link for the ADV7195 in progressive-scan mode: planning, playing and reading with settings and answers as numbers, and a plan's
 // transactions. A slice is a pointer and a length.
+#![tactic(auto)]
 ghost use Rattle.std.specs.Prelude.{◌≡◌, ◌<◌, length, take};
 ghost use Rattle.packing.specs.Packing.{anywhere};
 ghost use Rattle.unpacking.specs.Unpacking.{CountedBy, UnpacksBy, unpack_by};

@@ -1,4 +1,6 @@
 // Playing a packed plan against the ADV7195 in progressive-scan mode.
+#![tactic(auto)]
+
 ghost use Rattle.std.specs.Prelude.{◌≡◌, true, length};
 ghost use Rattle.bus.specs.Address.{address_right};
 ghost use Rattle.refusals.specs.Order.{Exactly};

@@ -6,7 +6,6 @@ use Prim.Native.Nat.{ℕ, ◌^◌, ◌<◌}
 use lib.Dec.{lit<}
 use lib.IntN.{ℤ}
 use lib.ListN.{length, get_or}
-use borrow.Author.Tests.{not-true, not-false}
 use borrow.Author.Rules.{rules}
 use Rattle.refusals.specs.Refusal.{number_of}
 use Rattle.refusals.specs.Verdict.{Verdict, good, refused_at, after}
@@ -43,7 +42,7 @@ long c = c.if-image.false
 
 -- the address is right
 right : (c : tie.Else-not-address_right) → address_right (start2 c).args.address ≡ true
-right c = sym c.address_right.ensures ∙ not-false _ c.if-not-address_right.false
+right c = sym c.address_right.ensures ∙ c.if-not-address_right.false
 
 module _ (k : tie.After-want) where
   -- where the numbers were found to be 58
@@ -65,12 +64,12 @@ module _ (k : tie.After-want) where
   -- what was checked decides, and packing after it
   planned : planning_of image zs s.args.address (length plan) ≡ after (checked_as k.want.result) (packing_of (list_of image zs) (length plan))
   planned =
-      right-count image zs s.args.address (length plan) (long counted.before.before.before) (right counted.before) counted.if3.left
+      right-count image zs s.args.address (length plan) (long counted.before.before.before) (right counted.before) counted.if-numbers-ne-NUMBERS.false
       ∙ ap (λ (v : Verdict (Unit {0})). after v (packing_of (list_of image zs) (length plan))) (sym k.want.ensures.0)
 
   -- the wanted image stands where the copy was
-  wanted-is : k.want.last.1.0 ≡ wanted_by image zs
-  wanted-is = k.want.ensures.1 ∙ ap (λ (l : List ℕ). wanted_by l zs) k.before.before.copied.ensures
+  wanted-is : k.want.new.image ≡ wanted_by image zs
+  wanted-is = k.want.ensures.1 ∙ ap (λ (l : List ℕ). wanted_by l zs) k.copied-wanted.ensures
 
 -- ---- the answers
 
@@ -95,7 +94,7 @@ returns-2 c =
     let a = (start1 c.before.before).args in
     refused c.before.before.before 2 0
     (wrong_address a.image.now a.numbers.now a.address (length a.plan.now) (long c.before.before)
-    (sym r.address_right.ensures ∙ not-true _ c.if-not-address_right.true))
+    (sym r.address_right.ensures ∙ c.if-not-address_right.true))
 
 returns-3 : tie.Need-returns-then-numbers-ne-NUMBERS
 returns-3 c =
@@ -107,15 +106,15 @@ returns-3 c =
 
 plan-change-requires : tie.Need-plan_change-requires
 plan-change-requires c κs =
-    let k = c in
+    let k = c.before.before.before.before in
     let e = (counted k).before.before.before in
     subst (Change (image k)) (sym (wanted-is k)) (change (image k) (zs k) (bytes e.before) (long e))
 
 returns-4 : tie.Need-returns-in-Refused
 returns-4 c =
     let r = c in
-    let k = c in
-    refused (counted k).before.before.before.before (number_of r.in-Refused.refusal) r.refusal-1.given.0.1.0
+    let k = c.before.before in
+    refused (counted k).before.before.before.before (number_of r.in-Refused.refusal) r.in-Refused.field
     (planned k ∙ ap (λ (v : Verdict (Unit {0})). after v (packing_of (list_of (image k) (zs k)) (length (plan k)))) (ap checked_as r.in-Refused.is))
 
 returns-5 : tie.Need-returns-in-Good
@@ -123,7 +122,7 @@ unfolding list_of
 returns-5 c =
     let p = c in
     let t = c in
-    let k = c in
+    let k = c.before.before.before.before.before.before.before in
     let list = ap (plan_of (image k)) (wanted-is k) in
     let packed = p.plan_change.ensures.0 ∙ ap (λ (ts : List Transaction). packing_of ts (length (plan k))) list in
     let passed : checked_as k.want.result ≡ good tt = ap checked_as t.in-Good.is in

@@ -5,7 +5,6 @@ use mathlib.Core.List.{List}
 use Prim.Native.Nat.{ℕ}
 use lib.ListN.{length}
 use borrow.Author.Rules.{rules}
-use Rattle.bits.proofs.ByteLaws.{all_copied}
 use Rattle.refusals.specs.Refusal.{Judged, number_of}
 use Rattle.bus.specs.Transactions.{Transaction}
 use Rattle.unpacking.specs.Unpacking.{counted}
@@ -30,7 +29,7 @@ abbrev image : tie.After-write_plan → List ℕ
 image w = (start w).args.image.now
 
 abbrev left : tie.After-write_plan → List ℕ
-left w = w.write_plan.new.1.0
+left w = w.write_plan.new.registers
 
 -- the judgement of the plan, for the image and for a copy of it
 abbrev judged_for : tie.After-write_plan → List ℕ → Judged (List Transaction)
@@ -68,20 +67,20 @@ returns-2 c =
     as_left (plan_fault (call w) no_map p.0 p.1 p.2 n (refused-list (judgement w) n (answered w _ t.in-Refused.is)))
 
 -- where the plan was written at the chip's own address
-abbrev written_at : tie.After-copy → tie.After-write_plan
-written_at k = k.before.before.before.before.before.before.before.before
+abbrev written_at : tie.After-copy_from_slice → tie.After-write_plan
+written_at k = k.before.before.before.before.before.before
 
 -- the registers are as many
 still : (w : tie.After-write_plan) → length (left w) ≡ length (image w)
 still w = left_as_many (judgement w) (image w) (left w) (wrote w)
 
 -- the image became those registers
-became : (k : tie.After-copy) → k.copy.new.1.0 ≡ left (written_at k)
-became k = let w = written_at k in k.copy.ensures.1 ∙ all_copied (left w) (image w) (search (rules, still w))
+became : (k : tie.After-copy_from_slice) → k.copy_from_slice.new.self ≡ left (written_at k)
+became k = k.copy_from_slice.ensures.1
 
 returns-3 : tie.Need-returns-else-used-own
 returns-3 c =
-    let k = c in
+    let k = c.before.before in
     let o = c in
     let t = c in
     let w = written_at k in
@@ -92,7 +91,7 @@ returns-3 c =
     (p.0, became k ∙ p.1)
 
 same-length-3 : tie.Need-shape_of-image-else-used-own
-same-length-3 c = let k = c in ap length (became k) ∙ still (written_at k)
+same-length-3 c = let k = c.before.before in ap length (became k) ∙ still (written_at k)
 
 pub play_checked_spec : {M : Type 1} → statement M
 play_checked_spec =

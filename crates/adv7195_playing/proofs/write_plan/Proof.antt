@@ -6,7 +6,6 @@ use Prim.Native.Nat.{ℕ}
 use native.Mathlib.Omega.{arith}
 use lib.ListN.{length}
 use borrow.Author.Rules.{rules}
-use borrow.Author.Tests.{not-true, not-false}
 use Rattle.unpacking.specs.declared.steps.Step.{Step}
 use Rattle.unpacking.specs.declared.steps.Order.TheVariants.{Any}
 use Rattle.unpacking.proofs.StepLaws.{Went, Stepped, stepped}
@@ -48,9 +47,9 @@ returns-2 : tie.Need-returns-in-End invariant-loop decreases-loop
 returns-2 c = let n = c.before in end_answered n.loop-subaddress.invariant (start c.before.before).requires (said n _ c.in-End.is)
 
 -- the transaction that was found
-went : (c : tie.In-Transaction-2 invariant-loop decreases-loop)
-    → Went (plan-at c.before.before) c.loop-subaddress.cursor c.in-Transaction.subaddress c.subaddress-1.given.0.1.0
-    c.subaddress-1.given.0.1.1.0 c.subaddress-1.given.0.1.1.1.0
+went : (c : tie.In-Transaction invariant-loop decreases-loop)
+    → Went (plan-at c.before.before) c.loop-subaddress.cursor c.in-Transaction.subaddress c.in-Transaction.count
+    c.in-Transaction.data c.in-Transaction.after
 went c = said c.before _ c.in-Transaction.is
 
 returns-3 : tie.Need-returns-then-not-keeps_rules invariant-loop decreases-loop
@@ -58,20 +57,20 @@ returns-3 c =
     let k = c in
     let s = c in
     let l = c.before.before.before.before in
-    rule_answered l.loop-subaddress.invariant (start l).requires (went s) (sym k.keeps_rules.ensures ∙ not-true _ c.if-not-keeps_rules.true)
+    rule_answered l.loop-subaddress.invariant (start l).requires (went c.before.before) (sym k.keeps_rules.ensures ∙ c.if-not-keeps_rules.true)
 
 -- it keeps the rule, and its data were written
-abbrev found : tie.After-copy_data invariant-loop decreases-loop → tie.In-Transaction-2 invariant-loop decreases-loop
-found d = d.before.before.before.before.before.before
+abbrev found : tie.After-copy_data invariant-loop decreases-loop → tie.In-Transaction invariant-loop decreases-loop
+found d = d.before.before.before.before.before
 
 abbrev loop-at : tie.After-copy_data invariant-loop decreases-loop → tie.At-loop-subaddress invariant-loop decreases-loop
-loop-at d = (found d).before.before.before
+loop-at d = (found d).before.before
 
-kept : (d : tie.After-copy_data invariant-loop decreases-loop) → keeps_rules (found d).in-Transaction.subaddress (found d).subaddress-1.given.0.1.0 ≡ true
-kept d = let e = d in sym e.keeps_rules.ensures ∙ not-false _ e.if-not-keeps_rules.false
+kept : (d : tie.After-copy_data invariant-loop decreases-loop) → keeps_rules (found d).in-Transaction.subaddress (found d).in-Transaction.count ≡ true
+kept d = let e = d in sym e.keeps_rules.ensures ∙ e.if-not-keeps_rules.false
 
 -- the registers are as many
-still : (d : tie.After-copy_data invariant-loop decreases-loop) → length d.copy_data.new.1.1.0 ≡ length (start (loop-at d)).args.registers.now
+still : (d : tie.After-copy_data invariant-loop decreases-loop) → length d.copy_data.new.registers ≡ length (start (loop-at d)).args.registers.now
 still d = let l = loop-at d in still_as_many l.loop-subaddress.invariant (start l).requires (went (found d)) (kept d) d.copy_data.ensures
 
 -- where they were written, from where the flip was tested

@@ -44,7 +44,7 @@ judged c =
     ∙ judged_read image _ (lengths c).if-image.false (lengths c).if-numbers-ne-NUMBERS.false
 
 -- the table's numbers are those that the image holds
-parts_held_lem : (c : tie.After-read-judged) → c.read-judged.new.1.1.0 ≡ parts_held (start c).args.image.now
+parts_held_lem : (c : tie.After-read-judged) → c.read-judged.new.numbers ≡ parts_held (start c).args.image.now
 parts_held_lem c = c.read-judged.ensures.1 ∙ ap (table.numbers_of (start c).args.image.now _) c.rows.ensures
 
 returns-3 : tie.Need-returns-in_default
@@ -67,7 +67,7 @@ returns-4 c =
     let r = c.before.before.before.before.before.before in
     let a = (start r).args in
     let answer = sym (ap checked_as t.in-Good.is) ∙ judged r in
-    answered a.image.now a.numbers.now answer (c.Numbers-of.ensures ∙ ap numbers_of (parts_held_lem r))
+    answered a.image.now a.numbers.now answer (c.numbers_of.ensures ∙ ap numbers_of (parts_held_lem r))
 
 pub read_spec : {M : Type 1} → statement M
 read_spec =
