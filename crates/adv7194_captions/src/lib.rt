@@ -1,4 +1,6 @@
 // Captions: the registers of the two pairs, their characters with odd parity, and what a transaction of a pair is.
+#![tactic(auto)]
+
 ghost use Rattle.std.specs.Prelude.{◌≡◌, true};
 ghost use Rattle.adv7194_captions.specs.Characters.{is_character, caption_byte, is_odd};
 ghost use Rattle.adv7194_captions.specs.Pairs.{pair_right};

@@ -5,7 +5,6 @@ use mathlib.Core.List.{List}
 use Prim.Native.Nat.{ℕ}
 use lib.ListN.{length}
 use borrow.Author.Rules.{rules}
-use Rattle.bits.proofs.ByteLaws.{all_copied}
 use Rattle.refusals.specs.Refusal.{Judged, number_of}
 use Rattle.bus.specs.Transactions.{Transaction}
 use Rattle.unpacking.specs.Unpacking.{unpack, counted}
@@ -59,7 +58,7 @@ returns-2 c =
 
 -- the one that the walk left
 abbrev left : tie.After-write_plan → Walk → Board
-left w r = board_of w.write_plan.new.1.1.0 (map_of (start w).args.known r)
+left w r = board_of w.write_plan.new.registers (map_of (start w).args.known r)
 
 -- what was written on it
 wrote : (w : tie.After-write_plan) (r : Walk) → w.write_plan.result ≡ r → Written (judgement w) (board w) (left w r)
@@ -68,34 +67,29 @@ wrote w r e =
     (subst (λ (l : List ℕ). Written (judgement w) (board_of l (start w).args.known) (left w w.write_plan.result)) w.copied-registers.ensures
     w.write_plan.ensures.1)
 
--- where the plan was written at the chip's own address
-abbrev written_at : tie.After-copy → tie.After-write_plan
-written_at k = k.before.before.before.before.before.before.before.before
-
 -- its registers are as many
-still : (w : tie.After-write_plan) → length w.write_plan.new.1.1.0 ≡ length (start w).args.image.now
+still : (w : tie.After-write_plan) → length w.write_plan.new.registers ≡ length (start w).args.image.now
 still w = left_as_many (judgement w) (board w) (left w w.write_plan.result) (wrote w w.write_plan.result refl)
 
--- the image became those registers
-became : (k : tie.After-copy) → k.copy.new.1.0 ≡ (written_at k).write-plan.new.1.1.0
-became k =
-    let w = written_at k in
-    k.copy.ensures.1 ∙ all_copied w.write-plan.last.1.1.0 (start w).args.image.now (search (rules, still w))
+-- where the plan was written at the chip's own address
+abbrev written_at : tie.Else-used-own → tie.After-write_plan
+written_at k = k.before.before.before
 
 returns-3 : tie.Need-returns-else-used-own
 returns-3 c =
-    let k = c in
-    let o = c in
-    let t = c in
-    let w = written_at k in
+    let w = written_at c.before.before.before.before.before in
     let a = (start w).args in
-    let e = t.in-Taken.is in
+    let e = c.in-Taken.is in
     let r = (start w).requires in
-    let p = own_played a.kind (board w) a.used a.own o.if-used-own.false a.plan.now r.0 r.1 r.2 _ _ (answered w _ e) (wrote w _ e) in
-    (p.0, ap (λ (l : List ℕ). board_of l t.transactions-1.given.0.1.0) (became k) ∙ p.1)
+    let p = own_played a.kind (board w) a.used a.own c.if-used-own.false a.plan.now r.0 r.1 r.2 _ _ (answered w _ e) (wrote w _ e) in
+    (p.0, ap (λ (l : List ℕ). board_of l c.in-Taken.written) c.copy_from_slice.ensures.1 ∙ p.1)
 
 same-length-3 : tie.Need-shape_of-image-else-used-own
-same-length-3 c = let k = c in ap length (became k) ∙ still (written_at k)
+same-length-3 c =
+    ap length c.copy_from_slice.ensures.1 ∙ still (written_at c.before.before.before.before.before)
+
+copied_whole : tie.Need-copy_from_slice-requires
+copied_whole c κs = (search rules, sym (still (written_at c.before.before)))
 
 pub play_checked_spec : {M : Type 1} → statement M
 play_checked_spec =
@@ -109,7 +103,7 @@ play_checked_spec =
     (λ c. search rules)
     returns
     (λ c. search rules)
-    (λ c κs. search rules)
+    copied_whole
     (λ c. search rules)
     returns-2
     same-length-3

@@ -5,7 +5,6 @@ use mathlib.Core.List.{List}
 use Prim.Native.Nat.{ℕ}
 use lib.Dec.{lit<}
 use lib.ListN.{length}
-use borrow.Author.Tests.{not-true, not-false}
 use borrow.Author.Rules.{rules}
 use Rattle.refusals.specs.Verdict.{Verdict}
 use Rattle.refusals.specs.Order.{Exactly}
@@ -52,7 +51,7 @@ returns-2 : tie.Need-returns-then-not-address_right
 returns-2 c =
     let r = c in
     let s = c.before.before.before.before.before in
-    promised s (used_fault (call s) s.args.known r.if-image.false (sym r.address_right.ensures ∙ not-true _ c.if-not-address_right.true))
+    promised s (used_fault (call s) s.args.known r.if-image.false (sym r.address_right.ensures ∙ c.if-not-address_right.true))
 
 returns-3 : tie.Need-returns-then-not-address_right-2
 returns-3 c =
@@ -60,8 +59,8 @@ returns-3 c =
     let r = c in
     let s = c.before.before.before.before.before.before.before in
     promised s
-    (own_fault (call s) s.args.known r.if-image.false (sym r.address_right.ensures ∙ not-false _ q.if-not-address_right.false)
-    (sym q.address_right-2.ensures ∙ not-true _ c.if-not-address_right-2.true))
+    (own_fault (call s) s.args.known r.if-image.false (sym r.address_right.ensures ∙ q.if-not-address_right.false)
+    (sym q.address_right-2.ensures ∙ c.if-not-address_right-2.true))
 
 -- where the function was entered, from where both addresses were judged right
 abbrev start : tie.Else-not-address_right-2 → tie.Start
@@ -72,10 +71,10 @@ long : (c : tie.Else-not-address_right-2) → length (start c).args.image.now �
 long c = c.if-image.false
 
 used-right : (c : tie.Else-not-address_right-2) → address_right (start c).args.used ≡ true
-used-right c = sym c.address_right.ensures ∙ not-false _ c.if-not-address_right.false
+used-right c = sym c.address_right.ensures ∙ c.if-not-address_right.false
 
 own-right : (c : tie.Else-not-address_right-2) → address_right (start c).args.own ≡ true
-own-right c = sym c.address_right-2.ensures ∙ not-false _ c.if-not-address_right-2.false
+own-right c = sym c.address_right-2.ensures ∙ c.if-not-address_right-2.false
 
 returns-4 : tie.Need-returns
 returns-4 c =

@@ -74,67 +74,61 @@ returns-3 c =
     end_answered (start c.before.before.before.before).args.kind n.loop-subaddress.invariant (said n _ e.in-End.is) (tested c.before false c.if-transactions-needs_transaction.false)
 
 -- the transaction that was found
-went : (c : tie.In-Transaction-2 invariant-loop decreases-loop)
-    → Went (plan-at c.before.before) c.loop-subaddress.cursor c.in-Transaction.subaddress c.subaddress-1.given.0.1.0
-    c.subaddress-1.given.0.1.1.0 c.subaddress-1.given.0.1.1.1.0
+went : (c : tie.In-Transaction invariant-loop decreases-loop)
+    → Went (plan-at c.before.before) c.loop-subaddress.cursor c.in-Transaction.subaddress c.in-Transaction.count
+    c.in-Transaction.«data» c.in-Transaction.after
 went c = said c.before _ c.in-Transaction.is
 
 returns-4 : tie.Need-returns-then-written-eq-NONE invariant-loop decreases-loop
 returns-4 c =
-    let k = c in
-    let s = c in
-    let l = c.before.before.before.before in
+    let s = c.before.before in
+    let l = s.before.before in
     header_answered (start l).args.kind l.loop-subaddress.invariant (went s) (start l).args.known
-    (not_touched _ _ _ (went s).some (sym k.touched-written.ensures ∙ c.if-written-eq-NONE.true))
+    (not_touched _ _ _ (went s).some (sym c.touched-written.ensures ∙ c.if-written-eq-NONE.true))
 
 -- its header was taken, and its data were written
-abbrev found : tie.After-takes-data-arg invariant-loop decreases-loop → tie.In-Transaction-2 invariant-loop decreases-loop
-found c = c.before.before.before.before.before.before.before.before
+abbrev found : tie.After-slice_known-in-Transaction-1 invariant-loop decreases-loop → tie.In-Transaction invariant-loop decreases-loop
+found c = c.before.before.before.before.before.before
 
-header : (c : tie.After-takes-data-arg invariant-loop decreases-loop)
-    → takes_header (start (found c).before.before.before).args.kind (found c).subaddress.given.0.0 (found c).subaddress.given.0.1.0 ≡ true
+header : (c : tie.After-slice_known-in-Transaction-1 invariant-loop decreases-loop)
+    → takes_header c.args.kind c.in-Transaction.subaddress c.in-Transaction.count ≡ true
 header c =
-    let e = c.before.before.before.before.before in
-    is-touched _ (found c).subaddress.given.0.0 (found c).subaddress.given.0.1.0 (λ z. e.if2.false (e.before.touched.ensures ∙ z))
+    is-touched _ c.in-Transaction.subaddress c.in-Transaction.count (λ z. c.if-written-eq-NONE.false (c.touched-written.ensures ∙ z))
 
 returns-5 : tie.Need-returns-then-not-takes_data invariant-loop decreases-loop
 returns-5 c =
-    let a = c in
-    let l = (found a).before.before.before in
-    data_answered (start l).args.kind l.loop.invariant (went (found a)) (start l).requires (header a) a.copy_data.ensures
-    (start l).args.known (sym c.takes_data.ensures ∙ not-true _ c.if-not-takes_data.true)
+    let a = c.before.before in
+    data_answered c.args.kind c.loop-subaddress.invariant (went (found a)) c.requires (header a) c.copy_data.ensures
+    c.args.known (sym c.takes_data.ensures ∙ c.if-not-takes_data.true)
 
 add-transactions : tie.Need-overflow_add-transactions invariant-loop decreases-loop
-add-transactions c = let v = (found c.before.before).before.before.before.loop.invariant in record { fits = omega (arith, v.counts, v.walked.few) }
+add-transactions c = let v = c.loop-subaddress.invariant in record { fits = omega (arith, v.counts, v.walked.few) }
 
 -- its registers are joined to those known
-joined : (c : tie.After-takes-data-arg invariant-loop decreases-loop) (map : ℕ)
+joined : (c : tie.After-slice_known-in-Transaction-1 invariant-loop decreases-loop) (map : ℕ)
     → bit_or map c.touched-written.result
-    ≡ marks map (found c).subaddress.given.0.0 (found c).subaddress.given.0.1.0
+    ≡ marks map c.in-Transaction.subaddress c.in-Transaction.count
 joined c map =
-    let subaddress = (found c).subaddress.given.0.0 in
-    let count = (found c).subaddress.given.0.1.0 in
+    let subaddress = c.in-Transaction.subaddress in
+    let count = c.in-Transaction.count in
     ap (bit_or map)
-    (c.before.before.before.before.before.before.touched.ensures ∙ ap (λ (b : Bool). cond b (marks 0 subaddress count) 0) (header c))
+    (c.touched-written.ensures ∙ ap (λ (b : Bool). cond b (marks 0 subaddress count) 0) (header c))
     ∙ sym (marks-joined count subaddress map)
 
 loop-again : tie.Need-loop-subaddress-preserved invariant-loop decreases-loop
 loop-again c =
-    let a = c in
-    let l = (found a).before.before.before in
-    written_on (start l).args.kind l.loop.invariant (went (found a)) (start l).requires (header a) a.copy_data.ensures
-    (sym c.takes_data.ensures ∙ not-false _ c.if-not-takes_data.false) (joined a l.loop.map)
+    let a = c.before.before in
+    written_on c.args.kind c.loop-subaddress.invariant (went (found a)) c.requires (header a) c.copy_data.ensures
+    (sym c.takes_data.ensures ∙ c.if-not-takes_data.false) (joined a c.loop-subaddress.map)
 
 same-length-5 : tie.Need-shape_of-registers-then-not-takes_data invariant-loop decreases-loop
 same-length-5 c =
-    let a = c in
-    let l = (found a).before.before.before in
-    still_as_many (start l).args.kind l.loop.invariant (went (found a)) (start l).requires (header a) a.copy_data.ensures
+    let a = c.before.before in
+    still_as_many c.args.kind c.loop-subaddress.invariant (went (found a)) c.requires (header a) c.copy_data.ensures
 
 takes-data-requires : tie.Need-takes_data-requires invariant-loop decreases-loop
 takes-data-requires c κs =
-    let l = (found c).before.before.before in
-    data_there (start l).args.kind l.loop.invariant (went (found c)) (start l).requires (header c) c.copy_data.ensures
+    data_there c.args.kind c.loop-subaddress.invariant (went (found c)) c.requires (header c) c.copy_data.ensures
 
 pub write_plan_spec : {M : Type 1} → statement M
 write_plan_spec =
