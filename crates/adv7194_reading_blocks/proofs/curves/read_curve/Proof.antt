@@ -22,9 +22,9 @@ start c = c.before.before.before
 bytes : (c : tie.After-curve_setting)
     → curve_read_as c.curve_setting.result ≡ accepted (slice 0 (start c).args.image.now (block_of (start c).args.packed).register 7)
 bytes c =
-    let e = ap (λ (b : Block). b.register) c.Block-of.ensures in
+    let e = ap (λ (b : Block). b.register) c.block_of-block.ensures in
     let image = (start c).args.image.now in
-    bytes_read c.Block-of.result.register (length image) c.curve_setting.ensures
+    bytes_read c.block_of-block.result.register (length image) c.curve_setting.ensures
     (subst (λ (r : ℕ). r + 7 ≤ length image) (sym e) (start c).requires.1)
     ∙ ap (λ (r : ℕ). accepted (slice 0 image r 7)) e
 
@@ -33,7 +33,7 @@ returns c = absurd (never_refused (bytes c.before) (ap curve_read_as c.in_defaul
 
 keep-curve-requires : tie.Need-keep_curve-requires
 keep-curve-requires c κs =
-    let e = ap (λ (b : Block). b.index) c.Block-of.ensures in
+    let e = ap (λ (b : Block). b.index) c.block_of-block.ensures in
     omega arith
 
 returns-2 : tie.Need-returns
@@ -47,7 +47,7 @@ returns-2 c =
       sym (after-good _),
       kept_block s.args.image.now zs b s.requires.0 (same_bytes_lem (bytes q) (ap curve_read_as p.in-Points.is))
           (k.keep_curve.ensures
-          ∙ ap (λ (x : Block). store_from zs x.index (curve_numbers (bytes_in p.in-Points.points))) q.Block-of.ensures),
+          ∙ ap (λ (x : Block). store_from zs x.index (curve_numbers (bytes_in p.in-Points.points))) q.block_of-block.ensures),
     )
 
 pub read_curve_spec : {M : Type 1} → statement M

@@ -11,7 +11,7 @@ use Rattle.adv7194_wanted.proofs.curves.code_fault.Tie as tie
 returns-2 : tie.Need-returns-in-Refused
 returns-2 c =
     fault_is (block_of c.args.packed).field (ap judged c.in-Refused.is)
-    (ap (λ (b : Block). b.field) c.Block-of.ensures)
+    (ap (λ (b : Block). b.field) c.block_of.ensures)
 
 pub code_fault_spec : {M : Type 1} → statement M
 code_fault_spec =

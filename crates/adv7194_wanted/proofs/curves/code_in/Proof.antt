@@ -12,8 +12,8 @@ use Rattle.field_table.specs.Blocks.{slice}
 use lib.IntN.{pos}
 
 -- where the numbers begin
-at : (c : tie.After-block_of-first) → c.Block-of.result.index ≡ (block_of c.args.packed).index
-at c = ap (λ (b : Block). b.index) c.Block-of.ensures
+at : (c : tie.After-block_of-first) → c.block_of-first.result.index ≡ (block_of c.args.packed).index
+at c = ap (λ (b : Block). b.index) c.block_of-first.ensures
 
 add-end : tie.Need-overflow_add-end
 add-end c = let e = at c in record { fits = omega arith }

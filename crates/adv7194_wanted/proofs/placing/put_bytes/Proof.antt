@@ -26,8 +26,8 @@ abbrev decreases-loop : tie.decreases-loop-i
 decreases-loop packed bytes image₀ first i₀ image i = length bytes - i
 
 -- the first register, which is one byte
-register : (c : tie.After-block_of-first invariant-loop decreases-loop) → c.Block-of.result.register ≡ (block_of c.args.packed).register
-register c = ap (λ (b : Block). b.register) c.Block-of.ensures
+register : (c : tie.After-block_of-first invariant-loop decreases-loop) → c.block_of-first.result.register ≡ (block_of c.args.packed).register
+register c = ap (λ (b : Block). b.register) c.block_of-first.ensures
 
 loop-holds : tie.Need-loop-i-init invariant-loop decreases-loop
 loop-holds c =
@@ -35,7 +35,7 @@ loop-holds c =
     record {
       inside = omega arith;
       size = refl;
-      registers = ap (λ (r : ℕ). puts s.image.now (byte_writes r s.bytes.now)) (add-zero c.Block-of.result.register);
+      registers = ap (λ (r : ℕ). puts s.image.now (byte_writes r s.bytes.now)) (add-zero c.block_of-first.result.register);
     }
 
 add-put : tie.Need-overflow_add-first invariant-loop decreases-loop
@@ -62,8 +62,8 @@ loop-again c =
       inside = omega (arith, t.loop-i-test.true);
       size = ap length p.put.ensures ∙ simp length-set l.invariant.size;
       registers =
-          ap (λ (x : List ℕ). puts x (byte_writes (k.Block-of.result.register + (l.i + 1)) (drop (l.i + 1) bs))) p.put.ensures
-          ∙ sym (puts-bytes-next k.Block-of.result.register bs l.i l.image t.loop-i-test.true) ∙ l.invariant.registers;
+          ap (λ (x : List ℕ). puts x (byte_writes (k.block_of-first.result.register + (l.i + 1)) (drop (l.i + 1) bs))) p.put.ensures
+          ∙ sym (puts-bytes-next k.block_of-first.result.register bs l.i l.image t.loop-i-test.true) ∙ l.invariant.registers;
     }
 
 returns : tie.Need-returns invariant-loop decreases-loop
@@ -71,7 +71,7 @@ returns c =
     let l = c.loop-i in
     let k = c.before.before in
     let s = k.args in
-    sym (puts-bytes-end k.Block-of.result.register s.bytes.now l.i l.image c.loop-i-test.false l.invariant.inside)
+    sym (puts-bytes-end k.block_of-first.result.register s.bytes.now l.i l.image c.loop-i-test.false l.invariant.inside)
     ∙ l.invariant.registers ∙ ap (λ (r : ℕ). puts s.image.now (byte_writes r s.bytes.now)) (register k)
 
 pub put_bytes_spec : {M : Type 1} → statement M

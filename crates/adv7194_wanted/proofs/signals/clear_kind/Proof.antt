@@ -11,7 +11,7 @@ returns : tie.Need-returns
 unfolding puts
 returns c =
     let k = c in
-    c.put.ensures ∙ ap (λ (b : Block). put k.args.image.now (off_write b)) k.Block-of.ensures
+    c.put.ensures ∙ ap (λ (b : Block). put k.args.image.now (off_write b)) k.block_of.ensures
 
 pub clear_kind_spec : {M : Type 1} → statement M
 clear_kind_spec = tie.close (tie.spec

@@ -8,7 +8,7 @@ use Rattle.adv7194_wanted.proofs.signals.code_fault.Statement.{statement}
 use Rattle.adv7194_wanted.proofs.signals.code_fault.Tie as tie
 
 returns-3 : tie.Need-returns-in-Refused
-returns-3 c = fault_is 11 (ap code_as c.in-Refused.is) (ap (λ (b : Block). b.field) c.Block-of.ensures)
+returns-3 c = fault_is 11 (ap code_as c.in-Refused.is) (ap (λ (b : Block). b.field) c.block_of.ensures)
 
 pub code_fault_spec : {M : Type 1} → statement M
 code_fault_spec =

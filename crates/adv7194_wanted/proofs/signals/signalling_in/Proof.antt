@@ -9,8 +9,8 @@ use Rattle.adv7194_wanted.proofs.signals.signalling_in.Statement.{statement}
 use Rattle.adv7194_wanted.proofs.signals.signalling_in.Tie as tie
 
 -- where the numbers begin
-at : (c : tie.After-block_of-first) → c.Block-of.result.index ≡ (block_of 0x0B_0A_05_19_03).index
-at c = ap (λ (b : Block). b.index) c.Block-of.ensures
+at : (c : tie.After-block_of-first) → c.block_of-first.result.index ≡ (block_of 0x0B_0A_05_19_03).index
+at c = ap (λ (b : Block). b.index) c.block_of-first.ensures
 
 add-end : tie.Need-overflow_add-end
 add-end c = let e = at c in record { fits = omega arith }

@@ -26,7 +26,7 @@ returns c =
     (c.fault.ensures
     ∙ ap₂ (λ (t : Bool) (f : ℕ). fault_where t 7 f)
     (b.signalling_conflict-conflict.ensures ∙ ap (λ (z : ℤ). signalling_conflict z (numbers_of s.setting)) number)
-    (ap (λ (x : Block). x.field) b.Block-of.ensures))
+    (ap (λ (x : Block). x.field) b.block_of.ensures))
 
 pub signalling_with_standard_spec : {M : Type 1} → statement M
 signalling_with_standard_spec =

@@ -31,9 +31,9 @@ verdict c =
     ∙ check_parts zs
 
 -- the image
-image : (c : tie.After-want_second) → c.want_second.new.1.1.0 ≡ wanted_by (start c).args.image.now (start c).args.numbers.now
+image : (c : tie.After-want_second) → c.want_second.new.image ≡ wanted_by (start c).args.image.now (start c).args.numbers.now
 image c =
-    wanted_parts (start c).args.numbers.now (start c).args.image.now (first_of c).want_first-first.new.1.1.0
+    wanted_parts (start c).args.numbers.now (start c).args.image.now (first_of c).want_first-first.new.image
     c.want_second.ensures.1 (first_of c).want_first-first.ensures.1
 
 returns : tie.Need-returns

@@ -36,38 +36,38 @@ pal_of c = c.before.before
 
 step1 : (c : tie.After-want_timing-timing)
     → Step (checked_as (start c).args.before) (start c).args.image.now (check_of (numbers c) timing) (writes_of (numbers c) timing)
-    (checked_as c.want_timing-timing.result) c.want_timing-timing.new.1.1.0
+    (checked_as c.want_timing-timing.result) c.want_timing-timing.new.image
 step1 c = step c.want_timing-timing.ensures
 
 step2 : (c : tie.After-square_with_oversampling-square)
     → let t = timing_of c in
-    Step (checked_as t.want_timing-timing.result) t.want_timing-timing.last.1.1.0 (fault_where (square_with_oversampling (numbers t)) 5 3) []
-    (checked_as c.square_with_oversampling-square.result) t.want_timing-timing.last.1.1.0
+    Step (checked_as t.want_timing-timing.result) t.want_timing-timing.new.image (fault_where (square_with_oversampling (numbers t)) 5 3) []
+    (checked_as c.square_with_oversampling-square.result) t.want_timing-timing.new.image
 step2 c = checks c.square_with_oversampling-square.ensures
 
 step3 : (c : tie.After-want_row-pedestal)
     → let t = timing_of (square_of c) in
-    Step (checked_as (square_of c).square_with_oversampling-square.result) t.want-timing.last.1.1.0 (coding_fault (numbers t) pedestal)
-    (write_of (numbers t) pedestal ∷ []) (checked_as c.want_row-pedestal.result) c.want_row-pedestal.new.1.1.1.0
+    Step (checked_as (square_of c).square_with_oversampling-square.result) t.want_timing-timing.new.image (coding_fault (numbers t) pedestal)
+    (write_of (numbers t) pedestal ∷ []) (checked_as c.want_row-pedestal.result) c.want_row-pedestal.new.image
 step3 c = one c.want_row-pedestal.ensures
 
 step4 : (c : tie.After-pedestal_with_pal-pal)
     → let r = row_of c in
-    Step (checked_as r.want_row-pedestal.result) r.want_row-pedestal.last.1.1.1.0 (fault_where (pedestal_with_pal (numbers (timing_of (square_of r)))) 6 4) []
-    (checked_as c.pedestal_with_pal-pal.result) r.want_row-pedestal.last.1.1.1.0
+    Step (checked_as r.want_row-pedestal.result) r.want_row-pedestal.new.image (fault_where (pedestal_with_pal (numbers (timing_of (square_of r)))) 6 4) []
+    (checked_as c.pedestal_with_pal-pal.result) r.want_row-pedestal.new.image
 step4 c = checks c.pedestal_with_pal-pal.ensures
 
 step5 : (c : tie.After-want_output)
     → let r = row_of (pal_of c) in
     let zs = numbers (timing_of (square_of r)) in
-    Step (checked_as (pal_of c).pedestal_with_pal-pal.result) r.want-row.last.1.1.1.0 (check_of zs output) (writes_of zs output)
-    (checked_as c.want_output.result) c.want_output.new.1.1.0
+    Step (checked_as (pal_of c).pedestal_with_pal-pal.result) r.want_row-pedestal.new.image (check_of zs output) (writes_of zs output)
+    (checked_as c.want_output.result) c.want_output.new.image
 step5 c = step c.want_output.ensures
 
 all : (c : tie.After-want_output)
     → let s = start (timing_of (square_of (row_of (pal_of c)))) in
     Step (checked_as s.args.before) s.args.image.now (first_faults s.args.numbers.now) (entries_writes s.args.numbers.now first_part)
-    (checked_as c.want_output.result) c.want_output.new.1.1.0
+    (checked_as c.want_output.result) c.want_output.new.image
 unfolding entries_writes first_part timing output writes_of flat_map
 all c =
     let r = row_of (pal_of c) in

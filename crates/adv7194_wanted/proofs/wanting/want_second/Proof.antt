@@ -39,47 +39,47 @@ curve2_of c = c.before.before.before.before
 
 step1 : (c : tie.After-want_signalling-signalling)
     → Step (checked_as (start c).args.before) (start c).args.image.now (signal_fault (numbers c)) (entry_writes (numbers c) (whole signals signalling))
-    (checked_as c.want_signalling-signalling.result) c.want_signalling-signalling.new.1.1.0
+    (checked_as c.want_signalling-signalling.result) c.want_signalling-signalling.new.image
 step1 c = step c.want_signalling-signalling.ensures
 
 step2 : (c : tie.After-want_picture-picture)
     → let p = signal_of c in
-    Step (checked_as p.want_signalling-signalling.result) p.want_signalling-signalling.last.1.1.0 (check_of (numbers p) picture) (writes_of (numbers p) picture)
-    (checked_as c.want_picture-picture.result) c.want_picture-picture.new.1.1.0
+    Step (checked_as p.want_signalling-signalling.result) p.want_signalling-signalling.new.image (check_of (numbers p) picture) (writes_of (numbers p) picture)
+    (checked_as c.want_picture-picture.result) c.want_picture-picture.new.image
 step2 c = step c.want_picture-picture.ensures
 
 step3 : (c : tie.After-want_dnr-dnr)
     → let p = picture_of c in
     let zs = numbers (signal_of p) in
-    Step (checked_as p.want_picture-picture.result) p.want_picture-picture.last.1.1.0 (check_of zs dnr) (writes_of zs dnr)
-    (checked_as c.want_dnr-dnr.result) c.want_dnr-dnr.new.1.1.0
+    Step (checked_as p.want_picture-picture.result) p.want_picture-picture.new.image (check_of zs dnr) (writes_of zs dnr)
+    (checked_as c.want_dnr-dnr.result) c.want_dnr-dnr.new.image
 step3 c = step c.want_dnr-dnr.ensures
 
 step4 : (c : tie.After-want_curve-curve_a)
     → let p = dnr_of c in
     let zs = numbers (signal_of (picture_of p)) in
-    Step (checked_as p.want_dnr-dnr.result) p.want_dnr-dnr.last.1.1.0 (curve_fault zs curve_a) (entry_writes zs (whole curve curve_a))
-    (checked_as c.want_curve-curve_a.result) c.want_curve-curve_a.new.1.1.1.0
+    Step (checked_as p.want_dnr-dnr.result) p.want_dnr-dnr.new.image (curve_fault zs curve_a) (entry_writes zs (whole curve curve_a))
+    (checked_as c.want_curve-curve_a.result) c.want_curve-curve_a.new.image
 step4 c = step c.want_curve-curve_a.ensures
 
 step5 : (c : tie.After-want_curve-curve_b)
     → let p = curve_of c in
     let zs = numbers (signal_of (picture_of (dnr_of p))) in
-    Step (checked_as p.want_curve-curve_a.result) p.want_curve-curve_a.last.1.1.1.0 (curve_fault zs curve_b) (entry_writes zs (whole curve curve_b))
-    (checked_as c.want_curve-curve_b.result) c.want_curve-curve_b.new.1.1.1.0
+    Step (checked_as p.want_curve-curve_a.result) p.want_curve-curve_a.new.image (curve_fault zs curve_b) (entry_writes zs (whole curve curve_b))
+    (checked_as c.want_curve-curve_b.result) c.want_curve-curve_b.new.image
 step5 c = step c.want_curve-curve_b.ensures
 
 step6 : (c : tie.After-want_word)
     → let p = curve2_of c in
     let zs = numbers (signal_of (picture_of (dnr_of (curve_of p)))) in
-    Step (checked_as p.want_curve-curve_b.result) p.want_curve-curve_b.last.1.1.1.0 (good tt) (entry_writes zs (whole subcarrier word))
-    (checked_as p.want_curve-curve_b.result) c.want_word.new.1.0
+    Step (checked_as p.want_curve-curve_b.result) p.want_curve-curve_b.new.image (good tt) (entry_writes zs (whole subcarrier word))
+    (checked_as p.want_curve-curve_b.result) c.want_word.new.image
 step6 c = writes c.want_word.ensures
 
 all : (c : tie.After-want_word)
     → let s = start (signal_of (picture_of (dnr_of (curve_of (curve2_of c))))) in
     Step (checked_as s.args.before) s.args.image.now (second_faults s.args.numbers.now) (entries_writes s.args.numbers.now second_part)
-    (checked_as (curve2_of c).want_curve-curve_b.result) c.want_word.new.1.0
+    (checked_as (curve2_of c).want_curve-curve_b.result) c.want_word.new.image
 unfolding entries_writes second_part picture dnr writes_of flat_map
 all c =
     let b = curve2_of c in
