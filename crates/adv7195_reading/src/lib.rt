@@ -1,5 +1,6 @@
 // An image of the ADV7195 judged and read: the settings that it holds, as 58 numbers.
 #![tactic(auto)]
+
 ghost use Rattle.std.specs.Prelude.{◌≡◌, length};
 ghost use Rattle.refusals.specs.Order.{Exactly};
 ghost use Rattle.field_table.specs.Answers.{checked_as};

@@ -1,5 +1,6 @@
 // The ADV7195's settings in progressive-scan mode: its table of fields, and settings checked and placed in an image.
 #![tactic(auto)]
+
 ghost use Rattle.std.specs.Prelude.{◌≡◌, length};
 ghost use Rattle.field_table.specs.Answers.{checked_as};
 ghost use Rattle.adv7195_settings.specs.Numbers.{number_count};
