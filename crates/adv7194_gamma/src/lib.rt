@@ -1,5 +1,6 @@
 // The gamma curves of the ADV7194 that a ratio gives.
 #![tactic(auto)]
+
 ghost use Rattle.std.specs.Prelude.{◌≡◌, ℕ, ◌+◌, ◌*◌};
 ghost use Rattle.field_table.specs.Blocks.{between};
 ghost use Rattle.adv7194_gamma.specs.Power.{Ratio};
