@@ -1,5 +1,6 @@
 // The ADV7194 as a chip on the bus: how many registers it has, which of them drop a byte, one event at it, and the three rules for what is written to it.
 #![tactic(auto)]
+
 ghost use Rattle.std.specs.Prelude.{◌≡◌, cond, ◌+◌, ◌-◌, ◌*◌, ◌^◌, ◌≤◌};
 ghost use Rattle.adv7194_bus.specs.Kind.{register_count};
 ghost use Rattle.adv7194_bus.specs.Limit.{limit_right};

@@ -1,5 +1,6 @@
 // The codings of the ADV7194 in which the setting isn't the code, setting to code and back.
 #![tactic(auto)]
+
 mod brightness;
 mod clamp_delay;
 mod hue;

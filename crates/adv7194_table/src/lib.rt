@@ -1,6 +1,7 @@
 // The ADV7194's table of fields as data: a packed row for each field of one number and for must-be-zero bits, a packed block for each field that fills whole
 // registers, the masks of every register, and the registers of every field.
 #![tactic(auto)]
+
 pub mod blocks;
 mod masks;
 mod own;

@@ -28,7 +28,7 @@ found c = rw (to_z-of_z w32 c.args.tenths c.ranges.tenths) at c.nearest_level-le
 
 -- what is computed at each level
 at : (P : ℤ → Bool) → T (everywhere 15 30 P) → (c : tie.After-nearest_level-level) → T (P c.nearest_level-level.result)
-at P t c = in_range 15 30 P t c.nearest-level.result c.nearest-level.ensures.1
+at P t c = in_range 15 30 P t c.nearest_level-level.result c.nearest_level-level.ensures.1
 
 -- the code's values
 abbrev negative : ℤ → Bool
@@ -49,7 +49,7 @@ nearest-level-requires c κs = rw (to_z-of_z w32 c.args.tenths c.ranges.tenths) 
 
 -- what is computed at each negative level
 below : (P : ℤ → Bool) → T (everywhere 15 30 (λ l. imp (negative l) (P l))) → (c : tie.Then-level-lt0) → T (P c.nearest_level-level.result)
-below P t c = imp→ _ _ (at (λ l. imp (negative l) (P l)) t c.before) c.if2.true
+below P t c = imp→ _ _ (at (λ l. imp (negative l) (P l)) t c.before) c.if-level-lt0.true
 
 cast-complement : tie.Need-overflow_cast-level
 cast-complement c = (

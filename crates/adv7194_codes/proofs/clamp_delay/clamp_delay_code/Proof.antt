@@ -20,7 +20,7 @@ judged c = rw (to_z-of_z w32 c.args.clocks c.ranges.clocks) at c.out_of_range.en
 
 -- what is computed at each setting of the range
 at : (P : ℤ → Bool) → T (everywhere 3 3 P) → (c : tie.Else-out_of_range) → T (P c.args.clocks)
-at P t c = in_range 3 3 P t c.before.before.args.clocks (sym (judged c.before) ∙ c.if1.false)
+at P t c = in_range 3 3 P t c.args.clocks (sym (judged c.before) ∙ c.if-out_of_range.false)
 
 -- the code's values
 abbrev negative : ℤ → Bool

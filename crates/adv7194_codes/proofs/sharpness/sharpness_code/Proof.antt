@@ -20,7 +20,7 @@ judged c = rw (to_z-of_z w32 c.args.step c.ranges.step) at c.out_of_range.ensure
 
 -- what is computed at each step of the range
 at : (P : ℤ → Bool) → T (everywhere 6 6 P) → (c : tie.Else-out_of_range) → T (P c.args.step)
-at P t c = in_range 6 6 P t c.before.before.args.step (sym (judged c.before) ∙ c.if1.false)
+at P t c = in_range 6 6 P t c.args.step (sym (judged c.before) ∙ c.if-out_of_range.false)
 
 -- the code's sum
 abbrev sum : ℤ → ℤ

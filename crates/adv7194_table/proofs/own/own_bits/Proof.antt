@@ -1,12 +1,12 @@
--- `own::own_bits_lem` meets its contract: the register's byte under the field's mask. Assumes nothing.
+-- `own::own_bits` meets its contract: the register's byte under the field's mask. Assumes nothing.
 use mathlib.Core.Path.{ap, sym}
 use Prim.Native.Nat.{ℕ}
 use lib.Bits.{bit_and}
 use lib.ListN.{get_or, get_or-eq_default}
 use borrow.Author.Rules.{rules}
 use Rattle.adv7194_table.specs.Masks.{own_mask}
-use Rattle.adv7194_table.proofs.own.own_bits_lem.Statement.{statement}
-use Rattle.adv7194_table.proofs.own.own_bits_lem.Tie as tie
+use Rattle.adv7194_table.proofs.own.own_bits.Statement.{statement}
+use Rattle.adv7194_table.proofs.own.own_bits.Tie as tie
 
 returns : tie.Need-returns-then-register-image
 returns c =

@@ -1,4 +1,4 @@
--- `own::zero_bits_lem` meets its contract: the register's byte under the mask of its must-be-zero bits. Assumes nothing.
+-- `own::zero_bits` meets its contract: the register's byte under the mask of its must-be-zero bits. Assumes nothing.
 use mathlib.Core.Path.{ap, sym, ◌∙◌}
 use Prim.Native.Nat.{ℕ}
 use lib.Bits.{bit_and}
@@ -6,8 +6,8 @@ use lib.ListN.{get_or, get_or-eq_default}
 use borrow.Author.Rules.{rules}
 use Rattle.adv7194_table.specs.Masks.{zero_mask}
 use Rattle.adv7194_table.proofs.MaskLaws.{zero-mask-at}
-use Rattle.adv7194_table.proofs.own.zero_bits_lem.Statement.{statement}
-use Rattle.adv7194_table.proofs.own.zero_bits_lem.Tie as tie
+use Rattle.adv7194_table.proofs.own.zero_bits.Statement.{statement}
+use Rattle.adv7194_table.proofs.own.zero_bits.Tie as tie
 
 returns : tie.Need-returns-then-register-image
 returns c =
