@@ -13,18 +13,16 @@ returns c = rw c.number.ensures (sym (ap (λ p. compare_answer (compared_as p)) 
 
 returns-2 : tie.Need-returns-then-readable
 returns-2 c =
-    let told = c.compared-in-Done-1.given in
     sym (
-    ap (λ p. compare_answer (compared_as p)) told.1
-    ∙ ap (λ (b : Bool). compare_answer (good (record { readable = b; fields = told.0.1.0; registers = told.0.1.1.0 }))) c.if-readable.true
+    ap (λ p. compare_answer (compared_as p)) c.in-Done.is
+    ∙ ap (λ (b : Bool). compare_answer (good (record { readable = b; fields = c.in-Done.fields; registers = c.in-Done.registers }))) c.if-readable.true
     )
 
 returns-3 : tie.Need-returns-else-readable
 returns-3 c =
-    let told = c.compared-in-Done-1.given in
     sym (
-    ap (λ p. compare_answer (compared_as p)) told.1
-    ∙ ap (λ (b : Bool). compare_answer (good (record { readable = b; fields = told.0.1.0; registers = told.0.1.1.0 }))) c.if-readable.false
+    ap (λ p. compare_answer (compared_as p)) c.in-Done.is
+    ∙ ap (λ (b : Bool). compare_answer (good (record { readable = b; fields = c.in-Done.fields; registers = c.in-Done.registers }))) c.if-readable.false
     )
 
 pub compare_answer_spec : {M : Type 1} → statement M

@@ -15,18 +15,16 @@ returns c =
 
 returns-2 : tie.Need-returns-then-acknowledged
 returns-2 c =
-    let told = c.played-in-Done-1.given in
     sym (
-    ap (λ p. play_answer (answer_of p) (known_of c.args.known p)) told.1
-    ∙ ap (λ (b : Bool). play_answer (good b) told.0.1.0) c.if-acknowledged.true
+    ap (λ p. play_answer (answer_of p) (known_of c.args.known p)) c.in-Done.is
+    ∙ ap (λ (b : Bool). play_answer (good b) c.in-Done.after) c.if-acknowledged.true
     )
 
 returns-3 : tie.Need-returns-else-acknowledged
 returns-3 c =
-    let told = c.played-in-Done-1.given in
     sym (
-    ap (λ p. play_answer (answer_of p) (known_of c.args.known p)) told.1
-    ∙ ap (λ (b : Bool). play_answer (good b) told.0.1.0) c.if-acknowledged.false
+    ap (λ p. play_answer (answer_of p) (known_of c.args.known p)) c.in-Done.is
+    ∙ ap (λ (b : Bool). play_answer (good b) c.in-Done.after) c.if-acknowledged.false
     )
 
 pub play_answer_spec : {M : Type 1} → statement M
