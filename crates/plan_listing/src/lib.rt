@@ -1,4 +1,6 @@
 // The lines of a packed plan: one for each transaction, below a heading.
+#![tactic(auto)]
+
 ghost use Rattle.std.specs.Prelude.{◌≡◌, ◌+◌, ◌*◌, ◌≤◌, length};
 ghost use mathlib.Core.List.{◌++◌, flat_map};
 ghost use Rattle.bus.specs.Cost.{data_count};

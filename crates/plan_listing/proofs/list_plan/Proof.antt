@@ -23,47 +23,38 @@ module _ (heading out : List ℕ) {j k : Judged (List Transaction)} (e : j ≡ k
 -- a refusal, which leaves the memory
 returns : tie.Need-returns-in-Refused
 returns c =
-    let r = c in
-    let k = c in
-    let a = k.args in
+    let a = c.args in
     let plan = a.plan.now in
-    let e = refused-list (unpack plan) (number_of r.in-Refused.refusal) (sym k.check.ensures ∙ ap answer_of r.in-Refused.is) in
+    let e = refused-list (unpack plan) (number_of c.in-Refused.refusal) (sym c.check.ensures ∙ ap answer_of c.in-Refused.is) in
     (sym (answer-of a.heading.now a.out.now e), sym (left-of a.heading.now a.out.now e))
 
--- where the function was entered
-abbrev start : tie.In-WellFormed-2 → tie.Start
-start c = c.before.before.before.before.before
-
--- the plan is well_formed_lem, with that many transactions
-well : (c : tie.In-WellFormed-2) → counted (unpack (start c).args.plan.now) ≡ accepted c.in-WellFormed.transactions
+-- the plan is well formed, with that many transactions
+well : (c : tie.In-WellFormed) → counted (unpack c.args.plan.now) ≡ accepted c.in-WellFormed.transactions
 well c = sym c.check.ensures ∙ ap answer_of c.in-WellFormed.is
 
-list : (c : tie.In-WellFormed-2) → Accepted (start c).args.plan.now
-list c = accepted-plan (start c).args.plan.now _ (well c)
+list : (c : tie.In-WellFormed) → Accepted c.args.plan.now
+list c = accepted-plan c.args.plan.now _ (well c)
 
 put-plan-requires : tie.Need-put_plan-requires
 put-plan-requires c κs =
-    let t = c in
-    (list t, listed-length (unpack (start t).args.plan.now) _ (well t))
+    let t = c.before in
+    (list t, listed-length (unpack t.args.plan.now) _ (well t))
 
 -- the text, or that it does not fit
 returns-2 : tie.Need-returns-in-After
 returns-2 c =
-    let e = c in
-    let p = c in
-    let t = c in
-    let a = (start t).args in (
-      ap accepted (sym e.in-After.is ∙ p.put_plan.ensures.0) ∙ sym (answer-of a.heading.now a.out.now (list t)),
-      p.put_plan.ensures.1 ∙ sym (left-of a.heading.now a.out.now (list t)),
+    let t = c.before.before.before.before.before in
+    let a = c.args in (
+      ap accepted (sym c.in-After.is ∙ c.put_plan.ensures.0) ∙ sym (answer-of a.heading.now a.out.now (list t)),
+      c.put_plan.ensures.1 ∙ sym (left-of a.heading.now a.out.now (list t)),
     )
 
 returns-3 : tie.Need-returns-in-TooShort
 returns-3 c =
-    let p = c in
-    let t = c in
-    let a = (start t).args in (
-      ap accepted (sym c.in-TooShort.is ∙ p.put_plan.ensures.0) ∙ sym (answer-of a.heading.now a.out.now (list t)),
-      p.put_plan.ensures.1 ∙ sym (left-of a.heading.now a.out.now (list t)),
+    let t = c.before.before.before.before.before in
+    let a = c.args in (
+      ap accepted (sym c.in-TooShort.is ∙ c.put_plan.ensures.0) ∙ sym (answer-of a.heading.now a.out.now (list t)),
+      c.put_plan.ensures.1 ∙ sym (left-of a.heading.now a.out.now (list t)),
     )
 
 pub list_plan_spec : {M : Type 1} → statement M

@@ -35,7 +35,7 @@ abbrev start : tie.At-loop-i invariant-loop decreases-loop → tie.Start invaria
 start c = (written c).before.before.before.before
 
 -- the memory lent kept its length over the subaddress
-first-kept : (c : tie.After-hex_byte invariant-loop decreases-loop) → length c.hex_byte.new.0 ≡ length c.args.out.now
+first-kept : (c : tie.After-hex_byte invariant-loop decreases-loop) → length c.hex_byte.new.line ≡ length c.args.out.now
 first-kept c = ap length c.hex_byte.ensures.1 ∙ length-appended _ _ _
 
 loop-holds : tie.Need-loop-i-init invariant-loop decreases-loop

@@ -33,10 +33,9 @@ plan-at c = (start c).args.plan.now
 
 loop-holds : tie.Need-loop-subaddress-init invariant-loop decreases-loop
 loop-holds c =
-    let k = c in
     let s = c in
     listing_begins s.args.out.now s.args.plan.now s.args.at c.begin-cursor.result c.begin-cursor.ensures
-    (λ i. (k.shared_slice_known-1.given i).fits) (omega (arith, s.requires.1))
+    (λ i. (c.shared_slice_known-1.given i).fits) (omega (arith, s.requires.1))
 
 -- what the step says
 said : (c : tie.After-next invariant-loop decreases-loop) (r : Step) → c.next.result ≡ r → Stepped (plan-at c.before) c.loop-subaddress.cursor r
@@ -51,36 +50,34 @@ returns c =
     let l = n.loop-subaddress in
     let s = start c.before.before in
     let w = l.invariant.written in
-    let all = all_passed l.invariant.walked s.requires.0 n.next.result c.in-Transaction.keys2 (said n n.next.result refl) in (
+    let all = all_passed l.invariant.walked s.requires.0 n.next.result c.in_default.in_default-own.keys2 (said n n.next.result refl) in (
       w.here ∙ ap (λ (ts : List Transaction). s.args.at + length (flat_map transaction_line ts)) (sym all),
       w.memory ∙ ap (λ (ts : List Transaction). appended s.args.out.now s.args.at (flat_map transaction_line ts)) (sym all),
     )
 
 -- the transaction that was found
-went : (c : tie.In-Transaction-2 invariant-loop decreases-loop)
-    → Went (plan-at c.before.before) c.loop-subaddress.cursor c.in-Transaction.subaddress c.subaddress-1.given.0.1.0
-    c.subaddress-1.given.0.1.1.0 c.subaddress-1.given.0.1.1.1.0
+went : (c : tie.In-Transaction invariant-loop decreases-loop) → (let g = c.in-Transaction in
+    Went (plan-at c.before.before) c.loop-subaddress.cursor g.subaddress g.count g.«data» g.after)
 went c = said c.before _ c.in-Transaction.is
 
 -- its data were copied
-abbrev found : tie.After-copy_data invariant-loop decreases-loop → tie.In-Transaction-2 invariant-loop decreases-loop
-found c = c.before.before.before
+abbrev found : tie.After-copy_data invariant-loop decreases-loop → tie.In-Transaction invariant-loop decreases-loop
+found c = c.before.before
 
-copied : (c : tie.After-copy_data invariant-loop decreases-loop) → (let g = (found c).subaddress-1.given.0 in
-    (take (g.1.0 - 0) c.copy_data.new.1.1.0 ≡ first_bytes g.1.0 (left_at (plan-at (found c).before.before.before) g.1.1.0))
-    × (g.1.0 ≤ length c.copy_data.new.1.1.0))
-copied c = data_in_front (went (found c)) c.copy_data.new.1.1.0 c.copy_data.ensures
+copied : (c : tie.After-copy_data invariant-loop decreases-loop) → (let g = c.in-Transaction in
+    (take (g.count - 0) c.copy_data.new.registers ≡ first_bytes g.count (left_at (plan-at (found c).before.before) g.«data»))
+    × (g.count ≤ length c.copy_data.new.registers))
+copied c = data_in_front (went (found c)) c.copy_data.new.registers c.copy_data.ensures
 
 -- there is room for its line
-room : (c : tie.After-copy_data invariant-loop decreases-loop) → (let l = (found c).loop-subaddress in
-    l.end + 3 * ((found c).subaddress-1.given.0.1.0 + 1) ≤ length l.out)
+room : (c : tie.After-copy_data invariant-loop decreases-loop) → (let l = c.loop-subaddress in
+    l.end + 3 * (c.in-Transaction.count + 1) ≤ length l.out)
 room c =
-    let a = (found c).before.before.before in
-    let s = start a in
-    omega (arith, line_room a.loop.invariant s.requires.0 s.requires.1 (went (found c)), kept a.loop.invariant.written)
+    let v = c.loop-subaddress.invariant in
+    omega (arith, line_room v c.requires.0 c.requires.1 (went (found c)), kept v.written)
 
 -- the data copied are as many as the header says
-as_many : (c : tie.After-copy_data invariant-loop decreases-loop) → (let n = (found c).subaddress-1.given.0.1.0 in length (take (n - 0) c.copy_data.new.1.1.0) ≡ n)
+as_many : (c : tie.After-copy_data invariant-loop decreases-loop) → (let n = c.in-Transaction.count in length (take (n - 0) c.copy_data.new.registers) ≡ n)
 as_many c = ap length (copied c).0 ∙ first_bytes-length _ _
 
 put-line-requires : tie.Need-put_line-end-requires invariant-loop decreases-loop
@@ -88,15 +85,12 @@ put-line-requires c κs = let d = c.before.before.before in omega (arith, room d
 
 loop-again : tie.Need-loop-subaddress-preserved invariant-loop decreases-loop
 loop-again c =
-    let p = c in
     let d = c.before.before.before.before.before.before in
-    let f = found d in
-    let a = f in
-    let s = start a in
-    let line : List ℕ → List ℕ = λ bs. transaction_line (record { subaddress = f.in-Transaction.subaddress; bytes = bs }) in
-    listing_goes a.loop.invariant s.requires.0 s.requires.1 (went f) p.put_line-end.new.0 p.put_line-end.result
-    (p.put_line-end.ensures.1 ∙ ap (λ (bs : List ℕ). appended a.loop.out a.loop.end (line bs)) (copied d).0)
-    (omega (arith, p.put_line-end.ensures.0, as_many d))
+    let l = c.loop-subaddress in
+    let line : List ℕ → List ℕ = λ bs. transaction_line (record { subaddress = c.in-Transaction.subaddress; bytes = bs }) in
+    listing_goes l.invariant c.requires.0 c.requires.1 (went (found d)) c.put_line-end.new.out c.put_line-end.result
+    (c.put_line-end.ensures.1 ∙ ap (λ (bs : List ℕ). appended l.out l.end (line bs)) (copied d).0)
+    (omega (arith, c.put_line-end.ensures.0, as_many d))
 
 pub put_lines_spec : {M : Type 1} → statement M
 put_lines_spec =

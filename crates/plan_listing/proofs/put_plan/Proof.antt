@@ -48,7 +48,7 @@ room : (c : tie.After-put-first) → length (start (counted c)).args.heading.now
 room c = omega (arith, c.if-out-heading-2.false, c.if-out-heading.false, lines_long (counted c))
 
 -- the heading is written
-written : (c : tie.After-put-first) → Written (start (counted c)).args.out.now 0 (start (counted c)).args.heading.now c.put-first.new.0 c.put-first.result
+written : (c : tie.After-put-first) → Written (start (counted c)).args.out.now 0 (start (counted c)).args.heading.now c.put-first.new.line c.put-first.result
 written c = record { fit = omega (arith, c.if-out-heading.false); memory = c.put-first.ensures.1; here = c.put-first.ensures.0 }
 
 put-lines-requires : tie.Need-put_lines-requires
