@@ -39,11 +39,9 @@ pub put_yes_spec : {M : Type 1} → statement M
 put_yes_spec =
     tie.close
     (tie.spec
-    (λ c. search rules)
     (λ c κs. search rules)
     (λ c. search rules)
     returns
-    (λ c. search rules)
     (λ c κs. search rules)
     (λ c. search rules)
     returns-2
