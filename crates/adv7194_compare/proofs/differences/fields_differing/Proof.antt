@@ -1,12 +1,12 @@
 -- `differences::fields_differing` meets its contract: the map so far and what the fields that are left add are the whole map. Assumes nothing.
 use mathlib.Core.Path.{sym, ◌∙◌}
-use mathlib.Core.Logic.{⊎_elim}
 use Prim.Native.Nat.{◌-◌, ◌<◌}
 use native.Mathlib.Omega.{arith}
 use borrow.Author.Rules.{rules}
 use Rattle.adv7194_compare.specs.Differences.{field_differs}
 use Rattle.adv7194_compare.proofs.DifferenceLaws.{Gathering, gathering_begins, bit-fits, with-bit, without-bit, all_gathered, fields_map}
 use Rattle.adv7194_compare.proofs.differences.fields_differing.Statement.{statement}
+use Rattle.adv7194_compare.proofs.differences.fields_differing.Lts.{then-field_differs, else-field_differs}
 use Rattle.adv7194_compare.proofs.differences.fields_differing.Tie as tie
 
 abbrev invariant-loop : tie.invariant-loop-field
@@ -29,7 +29,10 @@ loop-again c =
     let i = c.before.before in
     let g = i.loop-field.invariant in
     let e = c.field_differs.ensures in
-    ⊎_elim (λ w. with-bit g (inside i) e 32 (omega arith) w.0.taken w.1) (λ w. without-bit g (inside i) e w.0.left w.1) c.if-field_differs.branch
+    elim c.if-field_differs.branch [
+      | then-field_differs w ↦ with-bit g (inside i) e 32 (omega arith) w.if-field_differs.true w.map-is
+      | else-field_differs w ↦ without-bit g (inside i) e w.if-field_differs.false w.map-is
+    ]
 
 returns : tie.Need-returns invariant-loop decreases-loop
 returns c = all_gathered c.loop-field.invariant (omega (arith, c.loop-field-test.false)) ∙ sym (fields_map _ _)

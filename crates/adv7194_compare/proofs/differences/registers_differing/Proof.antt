@@ -1,12 +1,12 @@
 -- `differences::registers_differing` meets its contract: the map so far and what the registers that are left add are the whole map. Assumes nothing.
 use mathlib.Core.Path.{sym, ◌∙◌}
-use mathlib.Core.Logic.{⊎_elim}
 use Prim.Native.Nat.{◌-◌, ◌<◌}
 use native.Mathlib.Omega.{arith}
 use borrow.Author.Rules.{rules}
 use Rattle.adv7194_compare.specs.Differences.{register_differs}
 use Rattle.adv7194_compare.proofs.DifferenceLaws.{Gathering, gathering_begins, bit-fits, with-bit, without-bit, all_gathered, registers-map}
 use Rattle.adv7194_compare.proofs.differences.registers_differing.Statement.{statement}
+use Rattle.adv7194_compare.proofs.differences.registers_differing.Lts.{then-register_differs, else-register_differs}
 use Rattle.adv7194_compare.proofs.differences.registers_differing.Tie as tie
 
 abbrev invariant-loop : tie.invariant-loop-register
@@ -29,7 +29,10 @@ loop-again c =
     let i = c.before.before in
     let g = i.loop-register.invariant in
     let e = c.register_differs.ensures in
-    ⊎_elim (λ w. with-bit g (inside i) e 64 (omega arith) w.0.taken w.1) (λ w. without-bit g (inside i) e w.0.left w.1) c.if-register_differs.branch
+    elim c.if-register_differs.branch [
+      | then-register_differs w ↦ with-bit g (inside i) e 64 (omega arith) w.if-register_differs.true w.map-is
+      | else-register_differs w ↦ without-bit g (inside i) e w.if-register_differs.false w.map-is
+    ]
 
 returns : tie.Need-returns invariant-loop decreases-loop
 returns c = all_gathered c.loop-register.invariant (omega (arith, c.loop-register-test.false)) ∙ sym (registers-map _ _)

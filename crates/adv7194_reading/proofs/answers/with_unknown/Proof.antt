@@ -11,13 +11,11 @@ returns c = judged-all (checked_as c.args.judged) c.if-unknown-eq-NO_FIELD.true
 
 returns-2 : tie.Need-returns-then-field-unknown
 returns-2 c =
-    let told = c.judged-1.given in
-    rw told.1 (fault_first c.if-unknown-eq-NO_FIELD.false (number_of told.0.0) c.if-field-unknown.true)
+    rw c.in-Refused.is (fault_first c.if-unknown-eq-NO_FIELD.false (number_of c.in-Refused.refusal) c.if-field-unknown.true)
 
 returns-3 : tie.Need-returns-else-field-unknown
 returns-3 c =
-    let told = c.judged-1.given in
-    rw told.1 (unknown-first c.if-unknown-eq-NO_FIELD.false (number_of told.0.0) c.if-field-unknown.false)
+    rw c.in-Refused.is (unknown-first c.if-unknown-eq-NO_FIELD.false (number_of c.in-Refused.refusal) c.if-field-unknown.false)
 
 returns-4 : tie.Need-returns-in_default
 returns-4 c = rw c.in_default.is (unknown-only c.if-unknown-eq-NO_FIELD.false)
