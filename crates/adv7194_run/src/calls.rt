@@ -8,6 +8,7 @@ use adv7194_answers::play_numbers::PlayAnswer;
 use answers::plan_numbers::PlanAnswer;
 use records::tokens;
 use records::tokens::Tokens;
+use std::io;
 
 // The most settings of a record, and where they begin among its tokens.
 const MOST_SETTINGS: usize = 64;
@@ -52,19 +53,25 @@ pub(crate) fn setting_count(numbers: usize) -> usize
 }
 
 // What planning answers, and the lent plan after it.
-fn planned(answer: PlanAnswer, plan: &[u8]) {
-    print::verdict(answer.refusal, answer.field);
-    print::decimal(answer.length);
-    print::decimal(answer.transactions);
-    print::decimal(answer.bus_bytes);
-    print::bytes(plan);
+fn planned(rt: &impl Print, answer: PlanAnswer, plan: &[u8]) -> io::Result<()> {
+    print::verdict(rt, answer.refusal, answer.field)?;
+    print::decimal(rt, answer.length)?;
+    print::decimal(rt, answer.transactions)?;
+    print::decimal(rt, answer.bus_bytes)?;
+    print::bytes(rt, plan)
 }
 
 // Planning, for the ADV7194 or the ADV7195.
-pub(crate) fn plan(settings: &[i32], image: &[u8], plan: &mut [u8], context: Context) {
+pub(crate) fn plan(
+    rt: &impl Print,
+    settings: &[i32],
+    image: &[u8],
+    plan: &mut [u8],
+    context: Context,
+) -> io::Result<()> {
     if context.word == PLAN7195 {
         let answer = adv7195_c::adv7195_plan(image, settings, context.first, plan);
-        return planned(answer, plan);
+        return planned(rt, answer, plan);
     }
     let answer = adv7194_c::adv7194_plan(
         image,
@@ -74,36 +81,53 @@ pub(crate) fn plan(settings: &[i32], image: &[u8], plan: &mut [u8], context: Con
         context.limit,
         plan,
     );
-    planned(answer, plan);
+    planned(rt, answer, plan)
 }
 
 // Planning captions of these characters.
-fn captions(address: u32, extended: &[i32], ordinary: &[i32], plan: &mut [u8]) {
+fn captions(
+    rt: &impl Print,
+    address: u32,
+    extended: &[i32],
+    ordinary: &[i32],
+    plan: &mut [u8],
+) -> io::Result<()> {
     let answer = adv7194_c::adv7194_plan_captions(extended, ordinary, address, plan);
-    planned(answer, plan);
+    planned(rt, answer, plan)
 }
 
 // Planning captions: the settings are how many characters each pair has, and the characters.
-pub(crate) fn plan_captions(settings: &[i32], plan: &mut [u8], context: Context) {
+pub(crate) fn plan_captions(
+    rt: &impl Print,
+    settings: &[i32],
+    plan: &mut [u8],
+    context: Context,
+) -> io::Result<()> {
     let extended = context.second as usize;
     let ordinary = context.third as usize;
     if (MOST_CHARACTERS < extended) | (MOST_CHARACTERS < ordinary) {
-        return print::no_record();
+        return print::no_record(rt);
     }
     let middle = FIRST_CHARACTER + extended;
     if settings.len() != middle + ordinary {
-        return print::no_record();
+        return print::no_record(rt);
     }
     captions(
+        rt,
         context.first,
         &settings[FIRST_CHARACTER..middle],
         &settings[middle..],
         plan,
-    );
+    )
 }
 
 // Why a register is sent.
-pub(crate) fn why(settings: &[i32], image: &[u8], context: Context) {
+pub(crate) fn why(
+    rt: &impl Print,
+    settings: &[i32],
+    image: &[u8],
+    context: Context,
+) -> io::Result<()> {
     let answer = adv7194_c::adv7194_why(
         image,
         context.known,
@@ -111,22 +135,27 @@ pub(crate) fn why(settings: &[i32], image: &[u8], context: Context) {
         context.limit,
         context.first,
     );
-    print::verdict(answer.refusal, answer.field);
-    print::decimal(answer.reason);
-    print::decimal(answer.first);
-    print::decimal(answer.second);
+    print::verdict(rt, answer.refusal, answer.field)?;
+    print::decimal(rt, answer.reason)?;
+    print::decimal(rt, answer.first)?;
+    print::decimal(rt, answer.second)
 }
 
 // What playing answers, and the image after it; its known registers too where flags were given.
-fn played(answer: PlayAnswer, given: bool, image: &[u8]) {
-    print::verdict(answer.refusal, answer.field);
-    print::decimal(answer.acknowledged);
-    print::bytes(image);
-    print::known(given, answer.known);
+fn played(rt: &impl Print, answer: PlayAnswer, given: bool, image: &[u8]) -> io::Result<()> {
+    print::verdict(rt, answer.refusal, answer.field)?;
+    print::decimal(rt, answer.acknowledged)?;
+    print::bytes(rt, image)?;
+    print::known(rt, given, answer.known)
 }
 
 // Playing a plan, or one of captions.
-pub(crate) fn play(image: &mut [u8], plan: &[u8], context: Context) {
+pub(crate) fn play(
+    rt: &impl Print,
+    image: &mut [u8],
+    plan: &[u8],
+    context: Context,
+) -> io::Result<()> {
     if context.word == PLAYCAP {
         let answer = adv7194_c::adv7194_play_captions(
             image,
@@ -135,41 +164,41 @@ pub(crate) fn play(image: &mut [u8], plan: &[u8], context: Context) {
             context.second,
             plan,
         );
-        return played(answer, context.given, image);
+        return played(rt, answer, context.given, image);
     }
     let answer = adv7194_c::adv7194_play(image, context.known, context.first, context.second, plan);
-    played(answer, context.given, image);
+    played(rt, answer, context.given, image)
 }
 
 // Reading a pair of captions.
-pub(crate) fn read_captions(image: &[u8], context: Context) {
+pub(crate) fn read_captions(rt: &impl Print, image: &[u8], context: Context) -> io::Result<()> {
     let answer = adv7194_c::adv7194_read_captions(image, context.known, context.first);
-    print::verdict(answer.refusal, answer.field);
-    print::decimal(answer.first);
-    print::decimal(answer.second);
+    print::verdict(rt, answer.refusal, answer.field)?;
+    print::decimal(rt, answer.first)?;
+    print::decimal(rt, answer.second)
 }
 
 // Reading.
-pub(crate) fn read(image: &[u8], known: u64) {
+pub(crate) fn read(rt: &impl Print, image: &[u8], known: u64) -> io::Result<()> {
     let mut settings = [0i32; SETTINGS];
     let answer = adv7194_c::adv7194_read(image, known, &mut settings);
-    print::verdict(answer.refusal, answer.field);
-    print::numbers(&settings);
+    print::verdict(rt, answer.refusal, answer.field)?;
+    print::numbers(rt, &settings)
 }
 
 // The house setting in lent settings.
-fn lent_house(settings: &mut [i32]) {
+fn lent_house(rt: &impl Print, settings: &mut [i32]) -> io::Result<()> {
     let answer = adv7194_c::adv7194_house(settings);
-    print::verdict(answer.refusal, answer.field);
-    print::numbers(settings);
+    print::verdict(rt, answer.refusal, answer.field)?;
+    print::numbers(rt, settings)
 }
 
 // The house setting in so many lent settings.
-pub(crate) fn house(count: u32) {
+pub(crate) fn house(rt: &impl Print, count: u32) -> io::Result<()> {
     let n = count as usize;
     if MOST_SETTINGS < n {
-        return print::no_record();
+        return print::no_record(rt);
     }
     let mut settings = [BEFORE; MOST_SETTINGS];
-    lent_house(&mut settings[0..n]);
+    lent_house(rt, &mut settings[0..n])
 }

@@ -6,6 +6,7 @@ use bus::chip;
 use bus::chip::{Acknowledge, Event, Phase, State};
 use records::tokens;
 use records::tokens::{BYTE, Tokens};
+use std::io;
 
 // How many registers the chip has.
 const REGISTERS: usize = adv7194_bus::REGISTERS as usize;
@@ -58,22 +59,34 @@ fn letter(phase: Phase) -> u8 {
 }
 
 // One event at the chip: what came of it is printed, and the state after it is answered.
-fn one(state: State, token: u64, own: u8, registers: &mut [u8; 54]) -> State {
+fn one(
+    rt: &impl Print,
+    state: State,
+    token: u64,
+    own: u8,
+    registers: &mut [u8; 54],
+) -> io::Result<State> {
     let stepped = adv7194_bus::step(state, event(token), own, registers);
     let acknowledge = stepped.acknowledge;
-    print::marked(stepped.byte, mark(acknowledge));
+    print::marked(rt, stepped.byte, mark(acknowledge))?;
     let next = stepped.state;
-    next
+    Ok(next)
 }
 
 // The pointer and the phase of a chip's state.
-fn ended(state: State) {
+fn ended(rt: &impl Print, state: State) -> io::Result<()> {
     let phase = state.phase;
-    print::marked((state.pointer % 256) as u8, letter(phase));
+    print::marked(rt, (state.pointer % 256) as u8, letter(phase))
 }
 
 // The events of a record at a fresh chip: what came of each, and the pointer and the phase after them. The map of the known registers after them is answered.
-fn all(tokens: Tokens, own: u8, known: u64, registers: &mut [u8; 54]) -> u64 {
+fn all(
+    rt: &impl Print,
+    tokens: Tokens,
+    own: u8,
+    known: u64,
+    registers: &mut [u8; 54],
+) -> io::Result<u64> {
     let held = tokens.held;
     let count = tokens.count;
     let mut state = chip::fresh();
@@ -82,32 +95,38 @@ fn all(tokens: Tokens, own: u8, known: u64, registers: &mut [u8; 54]) -> u64 {
     while i < count {
         let token = held[i % MOST];
         map = known_after(state, event(token), map);
-        state = one(state, token, own, registers);
+        state = one(rt, state, token, own, registers)?;
         i += 1;
     }
-    ended(state);
-    map
+    ended(rt, state)?;
+    Ok(map)
 }
 
 // The events of a record at a chip with these registers, and the registers after them; those that are known too where flags were given.
-fn run(tokens: Tokens, context: Context, registers: &mut [u8; 54]) {
-    print::verdict(0, 0);
+fn run(
+    rt: &impl Print,
+    tokens: Tokens,
+    context: Context,
+    registers: &mut [u8; 54],
+) -> io::Result<()> {
+    print::verdict(rt, 0, 0)?;
     let map = all(
+        rt,
         tokens,
         (context.first % OWN_LIMIT) as u8,
         context.known,
         registers,
-    );
-    print::bytes(registers);
-    print::known(context.given, map);
+    )?;
+    print::bytes(rt, registers)?;
+    print::known(rt, context.given, map)
 }
 
 // Answers a record of events, if its list has all registers.
-pub(crate) fn events(tokens: Tokens, context: Context) {
+pub(crate) fn events(rt: &impl Print, tokens: Tokens, context: Context) -> io::Result<()> {
     let mut registers = [0u8; 54];
     let n = tokens::bytes(tokens.held, tokens.first, tokens.middle, &mut registers);
     if (n != REGISTERS) | (OWN_LIMIT <= context.first) {
-        return print::no_record();
+        return print::no_record(rt);
     }
-    run(tokens, context, &mut registers);
+    run(rt, tokens, context, &mut registers)
 }

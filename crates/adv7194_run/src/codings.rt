@@ -7,6 +7,7 @@ use crate::print;
 use adv7194_table::rows;
 use field_table::row::{Coded, Decoded, row_of};
 use records::tokens;
+use std::io;
 
 // The last field that is set by one number, and the one before it that is not.
 const LAST_FIELD: u32 = 25;
@@ -75,29 +76,29 @@ fn setting_of(field: u32, c: u8) -> Decoded {
 }
 
 // Answers a record of a field's setting.
-pub(crate) fn code(field: u32, setting: i32) {
+pub(crate) fn code(rt: &impl Print, field: u32, setting: i32) -> io::Result<()> {
     if !is_single(field) {
-        return print::no_record();
+        return print::no_record(rt);
     }
     match code_of(field, setting) {
         Coded::Code(c) => {
-            print::verdict(0, 0);
-            print::byte(c);
+            print::verdict(rt, 0, 0)?;
+            print::byte(rt, c)
         }
-        Coded::Refused(why) => print::verdict(why.number() as u32, field),
+        Coded::Refused(why) => print::verdict(rt, why.number() as u32, field),
     }
 }
 
 // Answers a record of a field's code, a byte of a list.
-pub(crate) fn setting(field: u32, code: u32) {
+pub(crate) fn setting(rt: &impl Print, field: u32, code: u32) -> io::Result<()> {
     if !is_single(field) | (code < BYTE) {
-        return print::no_record();
+        return print::no_record(rt);
     }
     match setting_of(field, (code % 256) as u8) {
         Decoded::Setting(n) => {
-            print::verdict(0, 0);
-            print::number(n);
+            print::verdict(rt, 0, 0)?;
+            print::number(rt, n)
         }
-        Decoded::Unreadable(why) => print::verdict(why.number() as u32, field),
+        Decoded::Unreadable(why) => print::verdict(rt, why.number() as u32, field),
     }
 }

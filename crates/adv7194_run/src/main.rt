@@ -26,6 +26,8 @@
 // What is answered stands after `ok`; a refusal is `REFUSED number field`. Where a line gave flags, `play`, `playcap` and `events` end in `known` and
 // the flags after the call, eight bytes likewise; flags and limits don't touch the ADV7195's records. A line that is no record is answered
 // `NOT A RECORD`, an empty line and a comment, which begins with #, by an empty line.
+#![tactic(auto)]
+
 mod calls;
 mod chip;
 mod codings;
@@ -37,21 +39,22 @@ mod progressive;
 
 use context::initial;
 use records::lines::read_line;
+use std::io;
 
 // Room for a line and its end.
 const LINE_WIDTH: usize = 1024;
 
-// A proved loop has to end, and nothing says that the input does: turns are counted down from a number that no run uses up.
-fn main() {
+// A proved loop has to end, and nothing says that the input does: turns are counted up to a number that no run uses up.
+fn main(rt: HostRuntime) -> io::Result<()> {
     let mut context = initial();
-    let mut turns = u64::MAX;
-    while turns > 0 {
+    let mut input = rt.stdin();
+    for _ in 0..u64::MAX {
         let mut line = [0u8; LINE_WIDTH];
-        let n = read_line(&mut line);
+        let n = read_line(&mut input, &mut line)?;
         if n == 0 {
-            return;
+            return Ok(());
         }
-        context = kinds::answer(&line[0..n - 1], context);
-        turns -= 1;
+        context = kinds::answer(&rt, &line[0..n - 1], context)?;
     }
+    Ok(())
 }

@@ -1,5 +1,5 @@
 // Words, numbers and bytes on standard output.
-use libc::STDOUT_FILENO;
+use std::io;
 use text::Place;
 
 // Room for a space and a signed number of 32 bits.
@@ -11,84 +11,80 @@ const MAP_BYTES: u32 = 8;
 const HIGHEST_BYTE: u32 = 56;
 
 // Text as it stands.
-pub(crate) fn text(words: &[u8]) {
-    io::write_all(STDOUT_FILENO, words);
+pub(crate) fn text(rt: &impl Print, words: &[u8]) -> io::Result<()> {
+    rt.write_all(words)
 }
 
 // A space, and a signed number in decimal.
-pub(crate) fn number(n: i32) {
+pub(crate) fn number(rt: &impl Print, n: i32) -> io::Result<()> {
     let mut line = [b' '; NUMBER];
     let Place::After(end) = text::signed(&mut line, 1, n) else {
-        return;
+        return Ok(());
     };
     if end <= NUMBER {
-        text(&line[0..end]);
+        return text(rt, &line[0..end]);
     }
+    Ok(())
 }
 
 // A space, and a number in decimal.
-pub(crate) fn decimal(n: u32) {
-    text(b" ");
-    io::print_decimal(STDOUT_FILENO, n as u64);
+pub(crate) fn decimal(rt: &impl Print, n: u32) -> io::Result<()> {
+    print!(rt; " {n}")
 }
 
 // A space, and a byte in two hexadecimal digits.
-pub(crate) fn byte(b: u8) {
+pub(crate) fn byte(rt: &impl Print, b: u8) -> io::Result<()> {
     let mut line = [b' '; 3];
     text::hex_byte(&mut line, 1, b);
-    text(&line);
+    text(rt, &line)
 }
 
 // A space, a byte in two hexadecimal digits, and a mark.
-pub(crate) fn marked(b: u8, mark: u8) {
+pub(crate) fn marked(rt: &impl Print, b: u8, mark: u8) -> io::Result<()> {
     let mut line = [b' ', b' ', b' ', mark];
     text::hex_byte(&mut line, 1, b);
-    text(&line);
+    text(rt, &line)
 }
 
 // Bytes, each after a space.
-pub(crate) fn bytes(list: &[u8]) {
-    let mut i = 0;
-    while i < list.len() {
-        byte(list[i]);
-        i += 1;
+pub(crate) fn bytes(rt: &impl Print, list: &[u8]) -> io::Result<()> {
+    for b in list {
+        byte(rt, *b)?;
     }
+    Ok(())
 }
 
 // A map of known registers, where flags were given: its bytes, the highest first.
-pub(crate) fn known(given: bool, map: u64) {
+pub(crate) fn known(rt: &impl Print, given: bool, map: u64) -> io::Result<()> {
     if !given {
-        return;
+        return Ok(());
     }
-    text(b" known");
-    let mut i = 0;
-    while i < MAP_BYTES {
-        byte(((map >> (HIGHEST_BYTE - 8 * i)) % 256) as u8);
-        i += 1;
+    text(rt, b" known")?;
+    for i in 0..MAP_BYTES {
+        byte(rt, ((map >> (HIGHEST_BYTE - 8 * i)) % 256) as u8)?;
     }
+    Ok(())
 }
 
 // Signed numbers, each after a space.
-pub(crate) fn numbers(list: &[i32]) {
-    let mut i = 0;
-    while i < list.len() {
-        number(list[i]);
-        i += 1;
+pub(crate) fn numbers(rt: &impl Print, list: &[i32]) -> io::Result<()> {
+    for n in list {
+        number(rt, *n)?;
     }
+    Ok(())
 }
 
 // What an answer begins with: ok, or the refusal and its field.
-pub(crate) fn verdict(refusal: u32, field: u32) {
+pub(crate) fn verdict(rt: &impl Print, refusal: u32, field: u32) -> io::Result<()> {
     if refusal == 0 {
-        text(b"ok");
-        return;
+        return text(rt, b"ok");
     }
-    text(b"REFUSED");
-    decimal(refusal);
-    decimal(field);
+    text(rt, b"REFUSED")?;
+    decimal(rt, refusal)?;
+    decimal(rt, field)
 }
 
 // What is answered to a line that is no record.
-pub(crate) fn no_record() {
-    text(b"NOT A RECORD");
+pub(crate) fn no_record(rt: &impl Print) -> io::Result<()> {
+    text(rt, b"NOT A RECORD")
 }

@@ -1,62 +1,78 @@
 // Prints two images side by side. Its two arguments name the files, each an image.
+#![tactic(auto)]
+
 use compare_listing::compare_listing;
-use libc::{STDERR_FILENO, STDOUT_FILENO};
+use input::read_full;
+use std::env::{Env, FillError};
+use std::fs::Files;
+use std::{fs, io, str};
 use text::Place;
 
 // The program's own name and two files.
 const ARGUMENTS: usize = 3;
 
+// The bytes of memory for a file's name, and for an image.
+const INPUT_ROOM: usize = 4096;
+
 // Room for the text of any two images.
 const TEXT_ROOM: usize = 16384;
 
-// Opens the file that an argument names, and answers a descriptor; or tells why it can't be opened, and answers a negative number.
-fn open(argument: usize) -> i32 {
-    let mut path = io::buffer();
-    let length = os::arg(argument, &mut path);
-    if os::errno() != 0 {
-        os::fail(b"file name");
-        return -1;
+// Whether there is an argument at this place.
+fn is_given(rt: &impl Env, argument: usize) -> bool {
+    let mut none = [];
+    !matches!(rt.arg(argument, &mut none), Err(FillError::NotPresent))
+}
+
+// Opens the file that an argument names; or tells why it can't be opened, and answers nothing.
+fn open<R: Env + Files + Eprint>(rt: &R, argument: usize) -> io::Result<Option<R::File>> {
+    let mut path = [0u8; INPUT_ROOM];
+    let Ok(length) = rt.arg(argument, &mut path) else {
+        eprintln!(rt; "file name: File name too long")?;
+        return Ok(None);
+    };
+    let Ok(name) = str::from_utf8(&path[..length]) else {
+        let shown = path[..length].escape_ascii();
+        eprintln!(rt; "{shown}: not UTF-8")?;
+        return Ok(None);
+    };
+    match fs::open(rt, name) {
+        Ok(file) => Ok(Some(file)),
+        Err(error) => {
+            eprintln!(rt; "{name}: {error}")?;
+            Ok(None)
+        }
     }
-    let file = os::open_read(&path[..length]);
-    if file < 0 {
-        os::fail(&path[..length]);
-    }
-    file
 }
 
 // Prints the text of two images, by way of the memory lent.
-fn print_text(out: &mut [u8], a: &[u8], b: &[u8]) {
+fn print_text(rt: &impl Print, out: &mut [u8], a: &[u8], b: &[u8]) -> io::Result<()> {
     let Place::After(end) = compare_listing(out, a, b) else {
-        return;
+        return Ok(());
     };
-    io::write_all(STDOUT_FILENO, &out[0..end]);
+    rt.write_all(&out[0..end])
 }
 
 // Reads the second image, and prints the text of both. There is room for more than an image, so that a byte too many is seen.
-fn print_with(a: &[u8]) {
-    let file = open(2);
-    if file < 0 {
-        return;
-    }
-    let mut b = io::buffer();
-    let got = io::read_full(file, &mut b);
-    libc::close(file);
+fn print_with(rt: &(impl Env + Files + Print + Eprint), a: &[u8]) -> io::Result<()> {
+    let Some(mut file) = open(rt, 2)? else {
+        return Ok(());
+    };
+    let mut b = [0u8; INPUT_ROOM];
+    let got = read_full(&mut file, &mut b)?;
     let mut out = [0u8; TEXT_ROOM];
-    print_text(&mut out, a, &b[..got]);
+    print_text(rt, &mut out, a, &b[..got])
 }
 
 // Reads the first image, and goes on with the second.
-fn main() {
-    if os::arg_count() != ARGUMENTS {
-        io::write_all(STDERR_FILENO, b"usage: board_compare IMAGE IMAGE\n");
-        return;
+fn main(rt: HostRuntime) -> io::Result<()> {
+    if !is_given(&rt, ARGUMENTS - 1) | is_given(&rt, ARGUMENTS) {
+        eprintln!(rt; "usage: board_compare IMAGE IMAGE")?;
+        return Ok(());
     }
-    let file = open(1);
-    if file < 0 {
-        return;
-    }
-    let mut a = io::buffer();
-    let got = io::read_full(file, &mut a);
-    libc::close(file);
-    print_with(&a[..got]);
+    let Some(mut file) = open(&rt, 1)? else {
+        return Ok(());
+    };
+    let mut a = [0u8; INPUT_ROOM];
+    let got = read_full(&mut file, &mut a)?;
+    print_with(&rt, &a[..got])
 }

@@ -1,25 +1,29 @@
-// Lines of standard input.
-ghost use Rattle.std.specs.Prelude.{◌≡◌, ◌≤◌, length};
+// Lines of an input.
+ghost use Rattle.std.specs.Prelude.{◌≡◌, ◌≤◌, length, IfOk};
 
-use libc::STDIN_FILENO;
+use input::read_full;
+use std::io;
+use std::io::Read;
 
-// Reads a line: one more than its characters, of which the lent memory holds so many, or 0 where the input has ended.
-pub fn read_line(line: &mut [u8]) -> usize
-    ensures { (result ≤ length line.new) × (length line.new ≡ length line.old) }
+// Reads a line: one more than its characters, of which the lent memory holds so many, or 0 where the input has ended. After an error the lent memory is as
+// long as it was, and which bytes it holds isn't said.
+pub fn read_line<R: Read>(input: &mut R, line: &mut [u8]) -> io::Result<usize>
+    ensures within { IfOk result (λ n. n ≤ length line.new) }
+    ensures kept { length line.new ≡ length line.old }
 {
     let mut n = 0;
     while n < line.len() {
         let mut one = [0u8; 1];
-        let got = io::read_full(STDIN_FILENO, &mut one);
+        let got = read_full(input, &mut one)?;
         if (got == 0) & (n == 0) {
-            return 0;
+            return Ok(0);
         }
         let b = one[0];
         if (got == 0) | (b == b'\n') {
-            return n + 1;
+            return Ok(n + 1);
         }
         line[n] = b;
         n += 1;
     }
-    n
+    Ok(n)
 }
