@@ -3,7 +3,6 @@ use mathlib.Core.Path.{sym, ◌∙◌}
 use Prim.Native.Nat.{ℕ, ◌^◌, ◌<◌}
 use lib.ListN.{get_or}
 use borrow.Author.Rules.{rules}
-use borrow.Author.Tests.{not-true, not-false}
 use Rattle.adv7194_compare.proofs.CompareLaws.{first_short, second_short, both_whole, list-empty}
 use Rattle.adv7194_compare.proofs.compare_by.Statement.{statement}
 use Rattle.adv7194_compare.proofs.compare_by.Tie as tie
@@ -17,7 +16,7 @@ returns : tie.Need-returns-then-not-whole
 returns c =
     let w = c in
     let s = w.args in
-    let e = first_short s.readable s.a.now s.b.now (sym w.whole.ensures ∙ not-true _ c.if-not-whole.true) in
+    let e = first_short s.readable s.a.now s.b.now (sym w.whole.ensures ∙ c.if-not-whole.true) in
     (e, list-empty s.readable s.a.now s.b.now (bytes c.before.before) e)
 
 returns-2 : tie.Need-returns-then-not-whole-2
@@ -25,8 +24,8 @@ returns-2 c =
     let w = c in
     let s = w.args in
     let e =
-    second_short s.readable s.a.now s.b.now (sym w.whole.ensures ∙ not-false _ c.if-not-whole.false)
-    (sym c.whole-2.ensures ∙ not-true _ c.if-not-whole-2.true) in
+    second_short s.readable s.a.now s.b.now (sym w.whole.ensures ∙ c.if-not-whole.false)
+    (sym c.whole-2.ensures ∙ c.if-not-whole-2.true) in
     (e, list-empty s.readable s.a.now s.b.now (bytes c.before.before.before.before) e)
 
 returns-3 : tie.Need-returns
@@ -36,8 +35,8 @@ returns-3 c =
     let w = c in
     let s = w.args in
     let e =
-    both_whole s.readable s.a.now s.b.now (sym w.whole.ensures ∙ not-false _ v.if-not-whole.false)
-    (sym v.whole-2.ensures ∙ not-false _ f.if-not-whole-2.false) f.fields_differing.ensures c.registers_differing.ensures in
+    both_whole s.readable s.a.now s.b.now (sym w.whole.ensures ∙ v.if-not-whole.false)
+    (sym v.whole-2.ensures ∙ f.if-not-whole-2.false) f.fields_differing.ensures c.registers_differing.ensures in
     (e, list-empty s.readable s.a.now s.b.now (bytes c.before.before.before.before.before.before) e)
 
 pub compare_by_spec : {M : Type 1} → statement M
