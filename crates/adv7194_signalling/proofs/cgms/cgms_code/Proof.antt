@@ -18,15 +18,15 @@ use Rattle.adv7194_signalling.proofs.cgms.cgms_code.Tie as tie
 tested : (c : tie.After-within-4) → (f : Bool)
     → (c.within.result && c.within-2.result && c.within-3.result && c.within-4.result) ≡ f
     → (let a = c.args in
-    inside (back w32 a.payload) (back w32 a.odd) (back w32 a.even) (back w32 a.chip-check)) ≡ f
+    inside (back w32 a.payload) (back w32 a.odd) (back w32 a.even) (back w32 a.chip_check)) ≡ f
 tested c f h = rw (c.within.ensures, c.within-2.ensures, c.within-3.ensures, c.within-4.ensures) at h
 
 within_all : (c : tie.Then-inside)
     → (let a = c.args in
-    Inside (back w32 a.payload) (back w32 a.odd) (back w32 a.even) (back w32 a.chip-check))
+    Inside (back w32 a.payload) (back w32 a.odd) (back w32 a.even) (back w32 a.chip_check))
 within_all c =
     let a = c.args in
-    is-inside (back w32 a.payload) (back w32 a.odd) (back w32 a.even) (back w32 a.chip-check) (tested c.before true c.if-inside.true)
+    is-inside (back w32 a.payload) (back w32 a.odd) (back w32 a.even) (back w32 a.chip_check) (tested c.before true c.if-inside.true)
 
 cast-cgms-word : tie.Need-overflow_cast-payload
 cast-cgms-word c = within_castable (within_all c).payload_in (lit< tt)
@@ -57,10 +57,10 @@ returns c =
       to_z-of_z w32 a.payload s.ranges.payload,
       to_z-of_z w32 a.odd s.ranges.odd,
       to_z-of_z w32 a.even s.ranges.even,
-      to_z-of_z w32 a.chip-check s.ranges.chip-check,
+      to_z-of_z w32 a.chip_check s.ranges.chip_check,
     ) at
     (ap accepted (c.split.ensures ∙ ap word_bytes (c.cgms_word-word.ensures ∙ by_magnitudes (within_all t)))
-    ∙ sym (cgms_coded (back w32 a.payload) (back w32 a.odd) (back w32 a.even) (back w32 a.chip-check) (tested c.before.before.before true t.if-inside.true)))
+    ∙ sym (cgms_coded (back w32 a.payload) (back w32 a.odd) (back w32 a.even) (back w32 a.chip_check) (tested c.before.before.before true t.if-inside.true)))
 
 returns-2 : tie.Need-returns
 returns-2 c =
@@ -70,9 +70,9 @@ returns-2 c =
       to_z-of_z w32 a.payload s.ranges.payload,
       to_z-of_z w32 a.odd s.ranges.odd,
       to_z-of_z w32 a.even s.ranges.even,
-      to_z-of_z w32 a.chip-check s.ranges.chip-check,
+      to_z-of_z w32 a.chip_check s.ranges.chip_check,
     ) at
-    (sym (cgms-outside (back w32 a.payload) (back w32 a.odd) (back w32 a.even) (back w32 a.chip-check) (tested c.before false c.if-inside.false)))
+    (sym (cgms-outside (back w32 a.payload) (back w32 a.odd) (back w32 a.even) (back w32 a.chip_check) (tested c.before false c.if-inside.false)))
 
 pub cgms_code_spec : {M : Type 1} → statement M
 cgms_code_spec =
