@@ -117,6 +117,7 @@ module _ (image wanted : List ℕ) (χ : Change image wanted) where
 
   -- a list that touches a register is not empty
   not_empty : (ts : List Transaction) (x : ℕ) → Touched ts x → 0 < length ts
+  not_empty [] x u = elim u [ ]
   not_empty (t ∷ ts) x u = omega arith
 
   -- its transactions have data, for registers of the chip
