@@ -1,5 +1,6 @@
 // Planning for the ADV7195: the fewest register writes that turn an image into what settings mean, packed into a lent plan.
 #![tactic(auto)]
+
 ghost use Rattle.std.specs.Prelude.{◌≡◌, ℕ, ◌<◌, length, take};
 ghost use Rattle.refusals.specs.Verdict.{refused_at};
 ghost use Rattle.refusals.specs.Order.{Exactly};
