@@ -1,6 +1,7 @@
 // What C and Rust link for the ADV7195 in progressive-scan mode: planning, playing and reading with settings and answers as numbers, and a plan's
 // transactions. A slice is a pointer and a length.
 #![tactic(auto)]
+
 ghost use Rattle.std.specs.Prelude.{◌≡◌, ◌<◌, length, take};
 ghost use Rattle.packing.specs.Packing.{anywhere};
 ghost use Rattle.unpacking.specs.Unpacking.{CountedBy, UnpacksBy, unpack_by};
@@ -27,13 +28,7 @@ use unpacking::indexed::transaction;
 use unpacking::steps::Order;
 
 // Plans the settings over an image, for the chip at a bus address, into the lent plan.
-#[unsafe(no_mangle)]
-pub extern "C" fn adv7195_plan(
-    image: &[u8],
-    settings: &[i32],
-    address: u32,
-    plan: &mut [u8],
-) -> PlanAnswer
+pub fn adv7195_plan(image: &[u8], settings: &[i32], address: u32, plan: &mut [u8]) -> PlanAnswer
     ensures answer { result ≡ plan_answer (planning_of image.now settings.now address (length plan.old)) }
     ensures memory { plan.new ≡ plan_left image.now settings.now address plan.old }
     ensures counted { result.refusal ≡ 0 → CountedBy anywhere (take result.length plan.new) result.length result.transactions result.bus_bytes }
@@ -48,8 +43,7 @@ pub extern "C" fn adv7195_plan(
 }
 
 // Plays a packed plan, sent at the address used, against a fresh chip of its own address that holds the image.
-#[unsafe(no_mangle)]
-pub extern "C" fn adv7195_play(image: &mut [u8], used: u32, own: u32, plan: &[u8]) -> PlayAnswer
+pub fn adv7195_play(image: &mut [u8], used: u32, own: u32, plan: &[u8]) -> PlayAnswer
     ensures answer { result ≡ play_answer (play_of (call_of image.old used own plan.now)) }
     ensures memory { image.new ≡ registers_left (call_of image.old used own plan.now) }
 {
@@ -57,8 +51,7 @@ pub extern "C" fn adv7195_play(image: &mut [u8], used: u32, own: u32, plan: &[u8
 }
 
 // Reads an image into the lent settings.
-#[unsafe(no_mangle)]
-pub extern "C" fn adv7195_read(image: &[u8], settings: &mut [i32]) -> ReadAnswer
+pub fn adv7195_read(image: &[u8], settings: &mut [i32]) -> ReadAnswer
     ensures answer { result ≡ read_answer (read_of image.now (length settings.old)) }
     ensures memory { settings.new ≡ read_left image.now settings.old }
 {
@@ -66,8 +59,7 @@ pub extern "C" fn adv7195_read(image: &[u8], settings: &mut [i32]) -> ReadAnswer
 }
 
 // The transaction with an index, counted from 0, of a packed plan in any order: its subaddress and data count, with its data at the front of the memory lent.
-#[unsafe(no_mangle)]
-pub extern "C" fn adv7195_transaction(plan: &[u8], index: u32, data: &mut [u8]) -> TransactionAnswer
+pub fn adv7195_transaction(plan: &[u8], index: u32, data: &mut [u8]) -> TransactionAnswer
     ensures answer { result ≡ transaction_answer (header_of (transaction_of (unpack_by anywhere plan.now) index (length «data».old))) }
     ensures memory { «data».new ≡ data_after (transaction_of (unpack_by anywhere plan.now) index (length «data».old)) «data».old }
     ensures unpacked { UnpacksBy anywhere plan.now (unpack_by anywhere plan.now) }

@@ -9,8 +9,8 @@ returns : tie.Need-returns
 returns c =
     let p = c in
     let a = p.args in
-    subst (Promises a.image.now a.settings.now a.address a.plan.now p.plan.new.1.1.1.0) (sym c.plan_answer.ensures)
-    (promised a.image.now a.settings.now a.address a.plan.now p.plan.new.1.1.1.0 p.plan.result p.plan.ensures)
+    subst (Promises a.image.now a.settings.now a.address a.plan.now p.plan.new.plan) (sym c.plan_answer.ensures)
+    (promised a.image.now a.settings.now a.address a.plan.now p.plan.new.plan p.plan.result p.plan.ensures)
 
 pub adv7195_plan_spec : {M : Type 1} → statement M
 adv7195_plan_spec = tie.close (tie.spec
