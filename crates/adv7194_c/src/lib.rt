@@ -1,6 +1,7 @@
 // What C and Rust link: planning, playing, reading and comparing with settings and answers as numbers, why a register is sent, the house setting, planning,
 // playing and reading captions, and a plan's transactions. A slice is a pointer and a length.
 #![tactic(auto)]
+
 ghost use Rattle.std.specs.Prelude.{◌≡◌, ◌≤◌, ◌<◌, length, take};
 ghost use Rattle.packing.specs.Packing.{behind};
 ghost use Rattle.unpacking.specs.Unpacking.{CountedBy, UnpacksBy, unpack};
@@ -46,8 +47,7 @@ use unpacking::steps::Order;
 
 // Plans the settings over an image of which the registers in a map are known, for the chip at a bus address, with a limit on the data of a transaction, into
 // the lent plan.
-#[unsafe(no_mangle)]
-pub extern "C" fn adv7194_plan(
+pub fn adv7194_plan(
     image: &[u8],
     known: u64,
     settings: &[i32],
@@ -72,14 +72,7 @@ pub extern "C" fn adv7194_plan(
 
 // Plays a packed plan of settings, sent at the address used, against a fresh chip of its own address that holds the image, of which the registers in a
 // map are known; the answer has the map after it.
-#[unsafe(no_mangle)]
-pub extern "C" fn adv7194_play(
-    image: &mut [u8],
-    known: u64,
-    used: u32,
-    own: u32,
-    plan: &[u8],
-) -> PlayAnswer
+pub fn adv7194_play(image: &mut [u8], known: u64, used: u32, own: u32, plan: &[u8]) -> PlayAnswer
     ensures answer { result ≡ play_answer (play_of (call_of all_keep_rules (board_of image.old known) used own plan.now))
         (played_board all_keep_rules (board_of image.old known) used own plan.now).known }
     ensures memory { board_of image.new result.known ≡ played_board all_keep_rules (board_of image.old known) used own plan.now }
@@ -88,8 +81,7 @@ pub extern "C" fn adv7194_play(
 }
 
 // Reads an image of which the registers in a map are known into the lent settings.
-#[unsafe(no_mangle)]
-pub extern "C" fn adv7194_read(image: &[u8], known: u64, settings: &mut [i32]) -> ReadAnswer
+pub fn adv7194_read(image: &[u8], known: u64, settings: &mut [i32]) -> ReadAnswer
     ensures answer { result ≡ read_answer (read_of (board_of image.now known) (length settings.old)) }
     ensures memory { settings.new ≡ read_left (board_of image.now known) settings.old }
 {
@@ -97,8 +89,7 @@ pub extern "C" fn adv7194_read(image: &[u8], known: u64, settings: &mut [i32]) -
 }
 
 // The house setting in the lent settings.
-#[unsafe(no_mangle)]
-pub extern "C" fn adv7194_house(settings: &mut [i32]) -> ReadAnswer
+pub fn adv7194_house(settings: &mut [i32]) -> ReadAnswer
     ensures answer { result ≡ read_answer (house_of (length settings.old)) }
     ensures memory { settings.new ≡ house_left settings.old }
 {
@@ -106,8 +97,7 @@ pub extern "C" fn adv7194_house(settings: &mut [i32]) -> ReadAnswer
 }
 
 // The transaction with an index, counted from 0, of a packed plan: its subaddress and data count, with its data at the front of the memory lent.
-#[unsafe(no_mangle)]
-pub extern "C" fn adv7194_transaction(plan: &[u8], index: u32, data: &mut [u8]) -> TransactionAnswer
+pub fn adv7194_transaction(plan: &[u8], index: u32, data: &mut [u8]) -> TransactionAnswer
     ensures answer { result ≡ transaction_answer (header_of (transaction_of (unpack plan.now) index (length «data».old))) }
     ensures memory { «data».new ≡ data_after (transaction_of (unpack plan.now) index (length «data».old)) «data».old }
     ensures unpacked { UnpacksBy behind plan.now (unpack plan.now) }
@@ -116,8 +106,7 @@ pub extern "C" fn adv7194_transaction(plan: &[u8], index: u32, data: &mut [u8]) 
 }
 
 // Two images side by side: the fields that differ, and the registers that differ in bits outside all fields. Register 0x34 is never compared.
-#[unsafe(no_mangle)]
-pub extern "C" fn adv7194_compare(a: &[u8], b: &[u8]) -> CompareAnswer
+pub fn adv7194_compare(a: &[u8], b: &[u8]) -> CompareAnswer
     ensures answer { result ≡ compare_answer (compare_of a.now b.now) }
     ensures empty { Equal a.now b.now → NothingDiffers result }
     ensures only { NothingDiffers result → Equal a.now b.now }
@@ -126,8 +115,7 @@ pub extern "C" fn adv7194_compare(a: &[u8], b: &[u8]) -> CompareAnswer
 }
 
 // Plans one or both pairs of characters, for the chip at a bus address, into the lent plan. A pair is two numbers, or none where it is not given.
-#[unsafe(no_mangle)]
-pub extern "C" fn adv7194_plan_captions(
+pub fn adv7194_plan_captions(
     extended: &[i32],
     ordinary: &[i32],
     address: u32,
@@ -142,8 +130,7 @@ pub extern "C" fn adv7194_plan_captions(
 }
 
 // Plays a packed plan of captions as `adv7194_play` plays one of settings.
-#[unsafe(no_mangle)]
-pub extern "C" fn adv7194_play_captions(
+pub fn adv7194_play_captions(
     image: &mut [u8],
     known: u64,
     used: u32,
@@ -158,16 +145,14 @@ pub extern "C" fn adv7194_play_captions(
 }
 
 // Reads a pair of characters, 0 the extended and 1 the ordinary one, from an image of which the registers in a map are known.
-#[unsafe(no_mangle)]
-pub extern "C" fn adv7194_read_captions(image: &[u8], known: u64, pair: u32) -> CaptionsAnswer
+pub fn adv7194_read_captions(image: &[u8], known: u64, pair: u32) -> CaptionsAnswer
     ensures answer { result ≡ captions_answer (caption_reading (board_of image.now known) pair) }
 {
     captions_answer(read_captions(image, known, pair))
 }
 
 // Why the plan that brings an image, of which the registers in a map are known, to the settings, with a limit on the data of a transaction, has a register.
-#[unsafe(no_mangle)]
-pub extern "C" fn adv7194_why(
+pub fn adv7194_why(
     image: &[u8],
     known: u64,
     settings: &[i32],

@@ -11,8 +11,8 @@ returns c =
     let p = c in
     let a = p.args in
     let board = board_of a.image.now a.known in
-    subst (Promises board a.settings.now a.address a.limit a.plan.now p.plan.new.1.1.1.1.1.0) (sym c.plan_answer.ensures)
-    (promised board a.settings.now a.address a.limit a.plan.now p.plan.new.1.1.1.1.1.0 p.plan.result p.plan.ensures)
+    subst (Promises board a.settings.now a.address a.limit a.plan.now p.plan.new.plan) (sym c.plan_answer.ensures)
+    (promised board a.settings.now a.address a.limit a.plan.now p.plan.new.plan p.plan.result p.plan.ensures)
 
 pub adv7194_plan_spec : {M : Type 1} → statement M
 adv7194_plan_spec = tie.close (tie.spec

@@ -9,9 +9,9 @@ returns : tie.Need-returns
 returns c =
     let p = c in
     let a = p.args in
-    subst (CaptionPromises a.extended.now a.ordinary.now a.address a.plan.now p.plan_captions.new.1.1.1.0)
+    subst (CaptionPromises a.extended.now a.ordinary.now a.address a.plan.now p.plan_captions.new.plan)
     (sym c.plan_answer.ensures)
-    (captions_promised a.extended.now a.ordinary.now a.address a.plan.now p.plan_captions.new.1.1.1.0
+    (captions_promised a.extended.now a.ordinary.now a.address a.plan.now p.plan_captions.new.plan
     p.plan_captions.result p.plan_captions.ensures)
 
 pub adv7194_plan_captions_spec : {M : Type 1} → statement M

@@ -12,8 +12,8 @@ returns c =
     let p = c in
     let a = p.args in
     let board = board_of a.image.now a.known in
-    subst (Plays Settings board a.used a.own a.plan.now p.play.new.0) (sym c.play_answer.ensures)
-    (plays Settings board a.used a.own a.plan.now p.play.new.0 p.play.result (p.play.ensures.0, p.play.ensures.1.0))
+    subst (Plays Settings board a.used a.own a.plan.now p.play.new.image) (sym c.play_answer.ensures)
+    (plays Settings board a.used a.own a.plan.now p.play.new.image p.play.result (p.play.ensures.0, p.play.ensures.1.0))
 
 pub adv7194_play_spec : {M : Type 1} → statement M
 adv7194_play_spec = tie.close (tie.spec

@@ -12,8 +12,8 @@ returns c =
     let p = c in
     let a = p.args in
     let board = board_of a.image.now a.known in
-    subst (Plays Captions board a.used a.own a.plan.now p.play_captions.new.0) (sym c.play_answer.ensures)
-    (plays Captions board a.used a.own a.plan.now p.play_captions.new.0 p.play_captions.result
+    subst (Plays Captions board a.used a.own a.plan.now p.play_captions.new.image) (sym c.play_answer.ensures)
+    (plays Captions board a.used a.own a.plan.now p.play_captions.new.image p.play_captions.result
     (p.play_captions.ensures.0, p.play_captions.ensures.1.0))
 
 pub adv7194_play_captions_spec : {M : Type 1} → statement M
