@@ -30,12 +30,12 @@ returns c =
     let s4 = want_next hue c4.want_hue-hue.ensures s3 in
     let s5 = want_next brightness c5.want_brightness-brightness.ensures s4 in
     let z6 =
-    brightness-step s.args.numbers.now (checked_as c5.want_brightness-brightness.result) c5.want_brightness-brightness.new.1.1.0 s.requires
+    brightness-step s.args.numbers.now (checked_as c5.want_brightness-brightness.result) c5.want_brightness-brightness.new.image s.requires
     c6.clear_zero_bits.ensures.1 c6.clear_zero_bits.ensures.0 in
     let s6 = want_next brightness_zero z6 s5 in
     let s7 = want_next sharpness c7.want_sharpness-sharpness.ensures s6 in
     let z8 =
-    sharpness-step s.args.numbers.now (checked_as c7.want_sharpness-sharpness.result) c7.want_sharpness-sharpness.new.1.1.0 s.requires
+    sharpness-step s.args.numbers.now (checked_as c7.want_sharpness-sharpness.result) c7.want_sharpness-sharpness.new.image s.requires
     c8.clear_zero_bits-2.ensures.1 c8.clear_zero_bits-2.ensures.0 in
     let s8 = want_next sharpness_zero z8 s7 in
     (s8.verdict, s8.registers)
