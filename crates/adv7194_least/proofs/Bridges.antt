@@ -119,6 +119,7 @@ module _ (a : Aim) (χ : Change a) where
   plan_bridges r u = ⊎_elim inl (λ e. inr (other e)) (flag (settable r))
     where
       touched : (ts : List Transaction) → Every Reachable ts → Touched ts r → reachable r ≡ true
+      touched [] h v = elim v [ ]
       touched (t ∷ ts) h (inl v) = h.0 r v
       touched (t ∷ ts) h (inr v) = touched ts h.1 v
 

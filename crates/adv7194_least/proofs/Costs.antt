@@ -60,6 +60,7 @@ holds_as f g (t ∷ ts) h e = (λ x u. h.0 x u ∙ e x (inl u), holds_as f g ts 
 module _ (a : Aim) where
   -- a touched register is one of the chip's, and compared
   pub touched-compared : (ts : List Transaction) → Every Rules ts → Every (Clear a) ts → (x : ℕ) → Touched ts x → (x < register_count) × (compared a x ≡ true)
+  touched-compared [] hs cs x u = elim u [ ]
   touched-compared (t ∷ ts) (h, hs) (c, cs) x (inl u) = ((h.inside x u).0, c x u)
   touched-compared (t ∷ ts) (h, hs) (c, cs) x (inr u) = touched-compared ts hs cs x u
 

@@ -3,7 +3,7 @@
 use mathlib.Core.Path.{◌≡◌, refl, sym, ◌∙◌}
 use mathlib.Core.Logic.{◌⊎◌, inl, inr, ⊎_elim}
 use mathlib.Core.Bool.{Bool, true, false, ◌&&◌, ◌||◌, or-true}
-use mathlib.Core.List.{List, ◌∷◌}
+use mathlib.Core.List.{List, [], ◌∷◌}
 use Prim.Native.Nat.{ℕ, suc, ◌-◌, ◌≤◌, ◌<◌}
 use native.Mathlib.Omega.{arith}
 use lib.Dec.{ltb}
@@ -87,6 +87,7 @@ module _ (must : ℕ → Bool) where
 
   -- a list that touches one register of the word touches all four
   whole_word : (ts : List Transaction) → Every Rules ts → (x y : ℕ) → (0x0c ≤ x) × (x ≤ 0x0f) → (0x0c ≤ y) × (y ≤ 0x0f) → Touched ts y → Touched ts x
+  whole_word [] hs x y a b u = elim u [ ]
   whole_word (t ∷ ts) (h, hs) x y a b (inl u) = inl (h.whole y u b x a)
   whole_word (t ∷ ts) (h, hs) x y a b (inr u) = inr (whole_word ts hs x y a b u)
 

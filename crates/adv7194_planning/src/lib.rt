@@ -1,4 +1,6 @@
 // Planning: the fewest register writes that turn a board into what settings mean, packed into a lent plan.
+#![tactic(auto)]
+
 ghost use Rattle.std.specs.Prelude.{◌≡◌, ℕ, ◌≤◌, ◌<◌, length, take};
 ghost use Rattle.refusals.specs.Verdict.{refused_at};
 ghost use Rattle.refusals.specs.Order.{Exactly};

@@ -6,7 +6,6 @@ use Prim.Native.Nat.{ℕ, ◌^◌, ◌<◌}
 use lib.Dec.{lit<}
 use lib.IntN.{ℤ}
 use lib.ListN.{length, get_or}
-use borrow.Author.Tests.{not-true, not-false}
 use borrow.Author.Rules.{rules}
 use Rattle.refusals.specs.Refusal.{number_of}
 use Rattle.refusals.specs.Verdict.{Verdict, good, refused_at, after}
@@ -60,7 +59,7 @@ long c = c.if-image.false
 
 -- the address is right
 right : (c : tie.Else-not-address_right) → address_right (start2 c).args.address ≡ true
-right c = sym c.address_right.ensures ∙ not-false _ c.if-not-address_right.false
+right c = sym c.address_right.ensures ∙ c.if-not-address_right.false
 
 module _ (k : tie.After-check) where
   abbrev s : tie.Start
@@ -138,7 +137,7 @@ returns-2 c =
     let a = s.args in
     refused c.before.before.before 2 0
     (wrong_address (board s) a.numbers.now a.address a.limit (length a.plan.now) (long c.before.before)
-    (sym r.address_right.ensures ∙ not-true _ c.if-not-address_right.true))
+    (sym r.address_right.ensures ∙ c.if-not-address_right.true))
 
 plan-change-requires : tie.Need-plan_change-requires
 plan-change-requires c κs =

@@ -7,7 +7,7 @@ use lib.Dec.{eqb}
 use lib.IntN.{ℤ}
 use lib.ListN.{length}
 use borrow.Author.Rules.{rules}
-use borrow.Author.Tests.{not-true, not-false, ne_eqb}
+use borrow.Author.Tests.{ne_eqb}
 use Rattle.refusals.specs.Refusal.{number_of}
 use Rattle.refusals.specs.Verdict.{Verdict, good, refused_at, after}
 use Rattle.field_table.specs.Answers.{checked_as}
@@ -41,7 +41,7 @@ start2 c = start c.before.before
 
 -- the limit is right
 limited : (c : tie.Else-not-limit_right) → limit_right (start c.before).args.limit ≡ true
-limited c = sym c.limit_right.ensures ∙ not-false _ c.if-not-limit_right.false
+limited c = sym c.limit_right.ensures ∙ c.if-not-limit_right.false
 
 -- there are as many numbers as settings have
 counted : (c : tie.Else-numbers-ne-NUMBERS) → length (start2 c).args.numbers.now ≡ number_count
@@ -76,7 +76,7 @@ returns : tie.Need-returns-then-not-limit_right
 returns c =
     let s = start c.before in
     let zs = s.args.numbers.now in
-    let l : limit_right s.args.limit ≡ false = sym c.limit_right.ensures ∙ not-true _ c.if-not-limit_right.true in (
+    let l : limit_right s.args.limit ≡ false = sym c.limit_right.ensures ∙ c.if-not-limit_right.true in (
       λ address room. sym (check_limit (board s) zs address s.args.limit room l),
       sym (ap (λ (b : Bool). cond (b && eqb (length zs) number_count) (wanted_by s.args.wanted.now zs) s.args.wanted.now) l),
     )

@@ -15,8 +15,8 @@ use Rattle.adv7194_planning.proofs.registers.sends.Statement.{statement}
 use Rattle.adv7194_planning.proofs.registers.sends.Tie as tie
 
 -- where the numbers begin
-at : (c : tie.After-block_of-kind) → c.Block-of.result.index ≡ (block_of 0x0B_0A_05_19_03).index
-at c = ap (λ (b : Block). b.index) c.Block-of.ensures
+at : (c : tie.After-block_of-kind) → c.block_of-kind.result.index ≡ (block_of 0x0B_0A_05_19_03).index
+at c = ap (λ (b : Block). b.index) c.block_of-kind.ensures
 
 mul-result : tie.Need-offset_bounds-numbers-kind
 mul-result c = let e = at c in record { fits = omega arith }
@@ -28,7 +28,7 @@ returns : tie.Need-returns
 unfolding slice
 returns c =
     let numbers = c.args.numbers.now in
-    let k = c.Block-of.result.index in
+    let k = c.block_of-kind.result.index in
     ap not (is-bits 0 (get_or numbers k (pos 0)) (lit< tt) c.result-1.given ∙ ap (λ (j : ℕ). is 0 (get_or numbers j (pos 0))) (at c.before))
 
 pub sends_spec : {M : Type 1} → statement M
