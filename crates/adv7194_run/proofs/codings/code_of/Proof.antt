@@ -17,7 +17,7 @@ code_of_spec =
     (λ c κs. search rules)
     (λ c κs. search rules)
     (λ c κs. search rules)
-    (λ c κs. same-fits c.row_of.ensures c.plain-Row.ensures)
+    (λ c κs. same-fits c.row_of.ensures c.plain_row.ensures)
     (λ c. search rules)
     (λ c. search rules)
     (λ c. search rules)
