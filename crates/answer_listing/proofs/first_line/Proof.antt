@@ -12,15 +12,12 @@ use Rattle.answer_listing.proofs.first_line.Tie as tie
 
 returns : tie.Need-returns-in-Refused
 returns c =
-    let n = c in
-    let p = c in
-    c.refused_line.ensures ∙ ap (λ (m : ℕ). line_of (refused_line m p.planned-1.given.0.1.0)) n.number.ensures
-    ∙ sym (ap (λ (r : Planned). line_of (first_line (answer_of r))) p.in-Refused.is)
+    c.refused_line.ensures ∙ ap (λ (m : ℕ). line_of (refused_line m c.in-Refused.field)) c.number.ensures
+    ∙ sym (ap (λ (r : Planned). line_of (first_line (answer_of r))) c.in-Refused.is)
 
 returns-2 : tie.Need-returns-in-Done
 returns-2 c =
-    let p = c in
-    c.plan_line.ensures ∙ sym (ap (λ (r : Planned). line_of (first_line (answer_of r))) p.in-Done.is)
+    c.plan_line.ensures ∙ sym (ap (λ (r : Planned). line_of (first_line (answer_of r))) c.in-Done.is)
 
 pub first_line_spec : {M : Type 1} → statement M
 first_line_spec =

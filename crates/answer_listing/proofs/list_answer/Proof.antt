@@ -41,62 +41,49 @@ short (ListedAfter n) p h e = absurd (miss (1 ∷ 2 ∷ []) 0 tt h)
 short ListedTooShort p h e = same_place e
 short (ListedRefused r) p h e = let z : ◌≡◌ {A = ℕ} 0 1 = cc in absurd (omega arith)
 
--- where the function was entered
-abbrev start : tie.After-first_word → tie.Start
-start c = c.before.before.before.before
-
 returns : tie.Need-returns-in_default
 returns c =
-    let p = c in
-    let m = c in
-    let a = (start c.before.before.before.before.before).args in
+    let a = c.args in
     let ts = listed (unpack a.plan.now) in
     let none : lines_below (word_of a.line.now) ts ≡ [] =
-    ap (λ (w : Word). lines_below w ts) (sym m.first_word.ensures) ∙ alone m.first_word.result ts m.in-Plan.keys2 in
+    ap (λ (w : Word). lines_below w ts) (sym c.first_word.ensures) ∙ alone c.first_word.result ts c.in_default.in_default-own.keys2 in
     let e : a.line.now ≡ text_below a.line.now ts = sym (ap (λ (l : List ℕ). a.line.now ++ l) none ∙ append-nil a.line.now) in
-    (p.append.ensures.0 ∙ ap (place_after a.out.now 0) e, p.append.ensures.1 ∙ ap (appended a.out.now 0) e)
+    (c.append.ensures.0 ∙ ap (place_after a.out.now 0) e, c.append.ensures.1 ∙ ap (appended a.out.now 0) e)
 
--- the line's word is PLAN, so the plan is well_formed_lem and its lines follow
-abbrev matched : tie.After-list_plan → tie.In-Plan
-matched c = c.before.before
+-- the line's word is PLAN, so the plan is well formed and its lines follow
+plan-word : (c : tie.After-list_plan) → word_of c.args.line.now ≡ Plan
+plan-word c = sym c.first_word.ensures ∙ c.in-Plan.is
 
-abbrev entered : tie.After-list_plan → tie.Start
-entered c = start (matched c).before.before
+well_formed_lem : (c : tie.After-list_plan) → Accepted c.args.plan.now
+well_formed_lem c = c.requires (plan-word c)
 
-plan-word : (c : tie.After-list_plan) → word_of (entered c).args.line.now ≡ Plan
-plan-word c = sym (matched c).first_word.ensures ∙ (matched c).in-Plan.is
-
-well_formed_lem : (c : tie.After-list_plan) → Accepted (entered c).args.plan.now
-well_formed_lem c = (entered c).requires (plan-word c)
-
-followed : (c : tie.After-list_plan) → (let a = (entered c).args in
+followed : (c : tie.After-list_plan) → (let a = c.args in
     a.line.now ++ flat_map transaction_line (listed (unpack a.plan.now)) ≡ text_below a.line.now (listed (unpack a.plan.now)))
-followed c = let a = (entered c).args in ap (λ (w : Word). a.line.now ++ lines_below w (listed (unpack a.plan.now))) (sym (plan-word c))
+followed c = let a = c.args in ap (λ (w : Word). a.line.now ++ lines_below w (listed (unpack a.plan.now))) (sym (plan-word c))
 
-answered : (c : tie.After-list_plan) → (let a = (entered c).args in
+answered : (c : tie.After-list_plan) → (let a = c.args in
     listed_as c.list_plan.result ≡ accepted (place_after a.out.now 0 (text_below a.line.now (listed (unpack a.plan.now)))))
 answered c =
-    let a = (entered c).args in
+    let a = c.args in
     c.list_plan.ensures.0 ∙ ap (λ (j : Judged (List Transaction)). listing_of a.line.now j a.out.now) (well_formed_lem c)
     ∙ ap (λ (t : List ℕ). accepted (place_after a.out.now 0 t)) (followed c)
 
-left : (c : tie.After-list_plan) → (let a = (entered c).args in
-    c.list_plan.new.0 ≡ appended a.out.now 0 (text_below a.line.now (listed (unpack a.plan.now))))
+left : (c : tie.After-list_plan) → (let a = c.args in
+    c.list_plan.new.out ≡ appended a.out.now 0 (text_below a.line.now (listed (unpack a.plan.now))))
 left c =
-    let a = (entered c).args in
+    let a = c.args in
     c.list_plan.ensures.1 ∙ ap (λ (j : Judged (List Transaction)). listing_in a.line.now j a.out.now) (well_formed_lem c)
     ∙ ap (λ (t : List ℕ). appended a.out.now 0 t) (followed c)
 
 returns-2 : tie.Need-returns-in_default-list_plan
 returns-2 c =
     let p = c.before.before.before in
-    (short p.list_plan.result _ c.in-After.keys2 (answered p), left p)
+    (short p.list_plan.result _ c.in_default-list_plan.in_default-list_plan-own.keys2 (answered p), left p)
 
 returns-3 : tie.Need-returns
 returns-3 c =
-    let e = c in
     let p = c.before.before.before in
-    (same_place (sym (ap listed_as e.in-After.is) ∙ answered p), left p)
+    (same_place (sym (ap listed_as c.in-After.is) ∙ answered p), left p)
 
 pub list_answer_spec : {M : Type 1} → statement M
 list_answer_spec =
