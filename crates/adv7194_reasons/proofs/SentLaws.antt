@@ -33,6 +33,7 @@ pub record TouchedIn (P : Transaction → Type 0) (ts : List Transaction) (r : �
 -- there is one
 pub touched_in : (P : Transaction → Type 0) (ts : List Transaction) (r : ℕ) → Every P ts → Touched ts r → TouchedIn P ts r
 unfolding joined
+touched_in P [] r h x = elim x [ ]
 touched_in P (t ∷ ts) r h (inl u) = record {
   at = t;
   is = h.0;

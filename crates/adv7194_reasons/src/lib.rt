@@ -1,4 +1,6 @@
 // Why a register is in the plan: the first reason that is true, in document 02's order.
+#![tactic(auto)]
+
 ghost use Rattle.std.specs.Prelude.{◌≡◌};
 ghost use Rattle.refusals.specs.Verdict.{good};
 ghost use Rattle.refusals.specs.Order.{Exactly};

@@ -1,1 +1,2 @@
 // Reading and planning undo each other: the definitions are in specs/, the theorems in proofs/.
+#![tactic(auto)]

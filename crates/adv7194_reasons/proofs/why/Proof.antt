@@ -52,11 +52,11 @@ module _ (k : tie.After-check) where
 
   -- the image is one
   image : Image s.args.image.now
-  image = record { size = (right-at k).if1.left; bytes = bytes (right-at k).before }
+  image = record { size = (right-at k).if-image.false; bytes = bytes (right-at k).before }
 
   -- the record that was made is the board
-  board-is : k.before.before.before.board-of.result ≡ board s
-  board-is = k.before.before.before.board-of.ensures
+  board-is : k.board_of-board.result ≡ board s
+  board-is = k.board_of-board.ensures
 
   -- what was checked decides
   checked : checked_as k.check.result ≡ verdict (board s) zs board_address s.args.limit 0
@@ -78,7 +78,7 @@ module _ (k : tie.After-check) where
     passed = cleared (board s) zs board_address s.args.limit 0 (sym checked ∙ e)
 
     -- the wanted image stands where the copy was
-    wanted-is : k.check.last.1.1.1.0 ≡ wanted_by s.args.image.now zs
+    wanted-is : k.check.new.wanted ≡ wanted_by s.args.image.now zs
     wanted-is =
         k.check.ensures.1
         ∙ ap (λ (b : Board). checked_image b.registers zs s.args.limit) board-is
@@ -89,13 +89,13 @@ accepted : (c : tie.In-Good) → checked_as c.check.result ≡ good tt
 accepted c = ap checked_as c.in-Good.is
 
 -- the aim of the map of fixed registers is the settings'
-aim-is : (c : tie.After-fixed_registers) → (let k = c in
-    aim_by k.board_of-board.result k.check.new.1.1.1.0 c.fixed_registers.result (s k).args.limit
+aim-is : (c : tie.After-fixed_registers) → (let k = c.before.before.before in
+    aim_by k.board_of-board.result k.check.new.wanted c.fixed_registers.result (s k).args.limit
     ≡ aim_of (board (s k)) (zs k) (s k).args.limit)
 aim-is c =
-    let k = c in
-    ap (λ (b : Board). aim_by b k.check.new.1.1.1.0 c.fixed_registers.result (s k).args.limit) (board-is k)
-    ∙ same_aim (board (s k)) (zs k) k.check.new.1.1.1.0 c.fixed_registers.result (s k).args.limit (wanted-is k (accepted c.before))
+    let k = c.before.before.before in
+    ap (λ (b : Board). aim_by b k.check.new.wanted c.fixed_registers.result (s k).args.limit) (board-is k)
+    ∙ same_aim (board (s k)) (zs k) k.check.new.wanted c.fixed_registers.result (s k).args.limit (wanted-is k (accepted c.before))
     c.fixed_registers.ensures
 
 -- ---- the answers
@@ -110,7 +110,7 @@ returns c =
 reason-requires : tie.Need-reason-requires
 reason-requires c κs =
     let f = c.before in
-    let k = c in
+    let k = c.before.before.before.before in
     let a = (s k).args in
     let limited = (passed k (accepted c.before.before)).limited in
     subst (λ (x : Aim). Answered x a.register) (sym (aim-is f))
@@ -146,7 +146,7 @@ why_spec =
     (λ c κs. search rules)
     (λ c. search rules)
     (λ c. search rules)
-    (λ c κs. (passed c.before.before.before (accepted c)).passing)
+    (λ c κs. (passed c.before.before (accepted c)).passing)
     (λ c. search rules)
     reason-requires
     returns-2

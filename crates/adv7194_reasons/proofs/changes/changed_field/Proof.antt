@@ -35,26 +35,26 @@ module _ (w : tie.After-setting_bits-in-loop-field invariant-loop decreases-loop
   start = w.before.before.before.before.before.before
 
   abbrev image : List ℕ → ℕ
-  image l = setting_bits l w.before.before.before.loop.field start.args.register
+  image l = setting_bits l w.loop-field.field start.args.register
 
   -- the bits differ
-  differ : (w.before.setting-bits.result ≡ w.setting-bits2.result → ⊥) → eqb (image start.args.found.now) (image start.args.wanted.now) ≡ false
-  differ h = ne_eqb _ _ (λ e. h (w.before.setting-bits.ensures ∙ e ∙ sym w.setting-bits2.ensures))
+  differ : (w.setting_bits.result ≡ w.setting_bits-in-loop-field.result → ⊥) → eqb (image start.args.found.now) (image start.args.wanted.now) ≡ false
+  differ h = ne_eqb _ _ (λ e. h (w.setting_bits.ensures ∙ e ∙ sym w.setting_bits-in-loop-field.ensures))
 
   -- the bits are the same
-  agree : w.before.setting-bits.result ≡ w.setting-bits2.result → eqb (image start.args.found.now) (image start.args.wanted.now) ≡ true
-  agree h = eq-eqb _ _ (sym w.before.setting-bits.ensures ∙ h ∙ w.setting-bits2.ensures)
+  agree : w.setting_bits.result ≡ w.setting_bits-in-loop-field.result → eqb (image start.args.found.now) (image start.args.wanted.now) ≡ true
+  agree h = eq-eqb _ _ (sym w.setting_bits.ensures ∙ h ∙ w.setting_bits-in-loop-field.ensures)
 
 returns : tie.Need-returns-then-setting_bits invariant-loop decreases-loop
 returns c =
-    let w = c in
+    let w = c.before in
     let l = c in
     let s = c in
     field-here _ l.loop-field.field w.loop-field-test.true (ap not (differ w c.if-setting_bits.true)) ∙ l.loop-field.invariant.lowest
 
 loop-again : tie.Need-loop-field-preserved invariant-loop decreases-loop
 loop-again c =
-    let w = c in
+    let w = c.before in
     let l = c in
     record {
       inside = omega arith;

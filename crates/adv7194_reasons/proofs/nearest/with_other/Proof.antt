@@ -4,7 +4,6 @@ use mathlib.Core.Bool.{Bool, not, ◌&&◌}
 use Prim.Native.Nat.{ℕ}
 use lib.Dec.{eqb}
 use borrow.Author.Rules.{rules}
-use borrow.Author.Tests.{not-true, not-false}
 use Rattle.bits.specs.Maps.{has}
 use Rattle.adv7194_bus.specs.Kind.{register_count}
 use Rattle.adv7194_table.specs.Registers.{some_below}
@@ -27,13 +26,13 @@ module _ (c : tie.After-has) where
   in_word_lem = c.has.ensures ∙ word-is register
 
 returns : tie.Need-returns-then-not-has
-returns c = let h = c in sym (ap (λ (b : Bool). b && another h) (sym (in_word_lem h) ∙ not-true _ c.if-not-has.true))
+returns c = let h = c.before in sym (ap (λ (b : Bool). b && another h) (sym (in_word_lem h) ∙ c.if-not-has.true))
 
 returns-2 : tie.Need-returns
 returns-2 c =
-    let h = c in
+    let h = c.before in
     some_other h.args.map (register h) h.requires
-    ∙ sym (ap (λ (b : Bool). b && another h) (sym (in_word_lem h) ∙ not-false _ c.if-not-has.false))
+    ∙ sym (ap (λ (b : Bool). b && another h) (sym (in_word_lem h) ∙ c.if-not-has.false))
 
 pub with_other_spec : {M : Type 1} → statement M
 with_other_spec = tie.close (tie.spec

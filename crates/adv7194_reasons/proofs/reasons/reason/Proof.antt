@@ -4,7 +4,6 @@ use mathlib.Core.Bool.{Bool, true}
 use mathlib.Core.List.{List}
 use Prim.Native.Nat.{ℕ}
 use borrow.Author.Rules.{rules}
-use borrow.Author.Tests.{not-true, not-false}
 use Rattle.bits.specs.Maps.{has}
 use Rattle.refusals.specs.Verdict.{good}
 use Rattle.bus.specs.Transactions.{Transaction}
@@ -42,7 +41,7 @@ plan-spans-requires m κs =
 -- ---- what is known on the way
 
 -- the map has the registers that the plan touches
-taken_is : (p : tie.After-plan_spans-sent) (x : ℕ) → has p.plan_spans-sent.result.true x ≡ touched (plan_of (aim (start p.before))) x
+taken_is : (p : tie.After-plan_spans-sent) (x : ℕ) → has p.plan_spans-sent.result.taken x ≡ touched (plan_of (aim (start p.before))) x
 taken_is p x =
     let m = p.before in
     let s = start m in
@@ -56,11 +55,11 @@ taken_is p x =
 sent : (c : tie.Else-not-has) → (let s = start c.before.before.before in touched (plan_of (aim s)) s.args.register ≡ true)
 sent c =
     let h = c in
-    sym (taken_is c.before.before (start c.before.before.before).args.register) ∙ sym h.has.ensures ∙ not-false _ c.if-not-has.false
+    sym (taken_is c.before.before (start c.before.before.before).args.register) ∙ sym h.has.ensures ∙ c.if-not-has.false
 
 -- it is known
 known : (c : tie.Else-not-has-2) → (let s = start c.before.before.before.before.before in knows s.args.board s.args.register ≡ true)
-known c = sym c.has-2.ensures ∙ not-false _ c.if-not-has-2.false
+known c = sym c.has-2.ensures ∙ c.if-not-has-2.false
 
 -- ---- the answers
 
@@ -71,14 +70,14 @@ returns c =
     ap good
     (sym
     (not_touched (aim s) (plan_of (aim s)) s.args.register
-    (sym (taken_is c.before.before s.args.register) ∙ sym h.has.ensures ∙ not-true _ c.if-not-has.true)))
+    (sym (taken_is c.before.before s.args.register) ∙ sym h.has.ensures ∙ c.if-not-has.true)))
 
 returns-2 : tie.Need-returns-then-not-has-2
 returns-2 c =
     let h = c in
     let s = start c.before.before.before.before.before in
     ap good
-    (sym (not_known_lem (aim s) (plan_of (aim s)) s.args.register (sent c.before.before) (sym h.has-2.ensures ∙ not-true _ c.if-not-has-2.true)))
+    (sym (not_known_lem (aim s) (plan_of (aim s)) s.args.register (sent c.before.before) (sym h.has-2.ensures ∙ c.if-not-has-2.true)))
 
 known-reason-requires : tie.Need-known_reason-requires
 known-reason-requires c κs =
