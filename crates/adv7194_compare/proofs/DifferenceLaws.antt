@@ -90,7 +90,8 @@ module _ (P : ℕ → Bool) where
   unfolding map_of those
   map_next n k = split (P n)
     where
-      split : (t : Bool) → map_of (cond t (n ∷ those P (each (λ r. r) (suc n) k)) (those P (each (λ r. r) (suc n) k))) ≡ cond t (2 ^ n) 0 + map_from P (suc n) k
+      split : (t : Bool)
+          → map_of (cond t (n ∷ those P (each (λ r. r) (suc n) k)) (those P (each (λ r. r) (suc n) k))) ≡ cond t (2 ^ n) 0 + map_from P (suc n) k
       split true = refl
       split false = omega arith
 

@@ -54,5 +54,6 @@ module _ (image : List ℕ) where
       signalling-first image (12 ∷ 13 ∷ 14 ∷ 15 ∷ 16 ∷ 17 ∷ fromDnr)
       ∙ ap (λ (v : Found). after (conflict_held image) (after (signalling_fault image) v))
       (picture-first image fromDnr
-      ∙ ap (in_turn image picture) (dnr-first image fromCurves ∙ ap (in_turn image dnr) (curves_and_word image) ∙ sym (judged_turn image dnr (word_fault image)))
+      ∙ ap (in_turn image picture)
+      (dnr-first image fromCurves ∙ ap (in_turn image dnr) (curves_and_word image) ∙ sym (judged_turn image dnr (word_fault image)))
       ∙ sym (judged_turn image picture (after (fields_judged image dnr) (word_fault image))))

@@ -98,7 +98,8 @@ same_codes zs b t =
     rw (k, n)
 
 -- what an entry sets leaves the bits that it leaves
-entry_free_lem : (zs : List ℤ) (r i : ℕ) (e : Entry) → T (own_test e) → T (entry_free (signal_codes zs) r i e) → Every (λ w. T (not (sets w r i))) (entry_writes zs e)
+entry_free_lem : (zs : List ℤ) (r i : ℕ) (e : Entry) → T (own_test e) → T (entry_free (signal_codes zs) r i e)
+    → Every (λ w. T (not (sets w r i))) (entry_writes zs e)
 entry_free_lem zs r i (single f) o t = (t, tt)
 entry_free_lem zs r i (whole signals b) o t =
     let own = own_signals b in

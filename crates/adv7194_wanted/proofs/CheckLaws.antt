@@ -146,7 +146,8 @@ pedestal_fault zs = pedestal_rows 4 (coding_of zs pedestal) (pedestal_with_pal z
 -- 11
 abbrev pub signal_fault : List ℤ → Found
 signal_fault zs =
-    after (fault_where (signalling_conflict (given zs standard.row) (numbers_in zs signalling)) 7 11) (fault_of 11 (signalling_codes (numbers_in zs signalling)))
+    after (fault_where (signalling_conflict (given zs standard.row) (numbers_in zs signalling)) 7 11)
+    (fault_of 11 (signalling_codes (numbers_in zs signalling)))
 
 signal_fault_lem : (zs : List ℤ) → field_fault zs 11 ≡ signal_fault zs
 unfolding first_of places_at row_holds some_of table timing output picture dnr

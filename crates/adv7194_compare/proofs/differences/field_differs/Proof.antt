@@ -42,7 +42,9 @@ loop-again c =
     let s = (start l).args in
     record {
       inside = omega (arith, w.loop-register-test.true);
-      same = same_turn s.a.now s.b.now s.field l.loop-register.register w.loop-register-test.true (sym p ∙ c.if-own_bits.false ∙ q) ∙ l.loop-register.invariant.same;
+      same =
+          same_turn s.a.now s.b.now s.field l.loop-register.register w.loop-register-test.true (sym p ∙ c.if-own_bits.false ∙ q)
+          ∙ l.loop-register.invariant.same;
     }
 
 returns-2 : tie.Need-returns invariant-loop decreases-loop

@@ -6,16 +6,12 @@ use Rattle.adv7194_reading.proofs.reading.read_first.Tie as tie
 
 returns : tie.Need-returns
 returns c =
-    let o = c in
-    let q = c in
-    let p = c in
-    let s = c in
-    let t = c in
-    let b = c in
-    let image = b.args.image.now in (
-      first_verdict image b.requires t.read_timing-timing.ensures.1 p.read_row-pedestal.ensures.1 t.read_timing-timing.ensures.0 s.square_with_oversampling-square.ensures
-          p.read_row-pedestal.ensures.0 q.pedestal_with_pal-pal.ensures o.read_output.ensures.0,
-      first_read image b.requires t.read_timing-timing.ensures.1 p.read_row-pedestal.ensures.1 o.read_output.ensures.1,
+    let image = c.args.image.now in
+    let e1 = c.read_timing-timing.ensures in
+    let e3 = c.read_row-pedestal.ensures in
+    let e5 = c.read_output.ensures in (
+      first_verdict image c.requires e1.1 e3.1 e1.0 c.square_with_oversampling-square.ensures e3.0 c.pedestal_with_pal-pal.ensures e5.0,
+      first_read image c.requires e1.1 e3.1 e5.1,
     )
 
 pub read_first_spec : {M : Type 1} → statement M

@@ -9,16 +9,16 @@ use Rattle.adv7194_reading_blocks.proofs.CurveLaws.{stored-length, kept_seven}
 use Rattle.adv7194_reading_blocks.proofs.curves.keep_bytes.Statement.{statement}
 use Rattle.adv7194_reading_blocks.proofs.curves.keep_bytes.Tie as tie
 
--- where the function begins, from its last byte
-abbrev start4 : tie.After-keep-arg-4-1 → tie.Start
-start4 c = c.before.before.before.before.before.before.before.before.before.before.before.before.before
+-- from where the last byte is kept back to where the fourth is, and from there to where the first is
+abbrev fourth : tie.After-keep-arg-7-1 → tie.After-keep-arg-4-1
+fourth c = c.before.before.before.before.before.before.before.before.before.before.before.before
 
-abbrev start7 : tie.After-keep-arg-7-1 → tie.Start
-start7 c = start4 c.before.before.before.before.before.before.before.before.before.before.before.before
+abbrev first : tie.After-keep-arg-4-1 → tie.After-struct_known-1
+first c = c.before.before.before.before.before.before.before.before.before.before.before
 
 add-keep-6 : tie.Need-overflow_add-index-6
 add-keep-6 c =
-    let h = (start7 c).requires in
+    let h = c.requires in
     record { fits = omega (arith, h) }
 
 -- the bytes are small
@@ -29,16 +29,9 @@ small c = (omega arith, omega arith, omega arith, omega arith, omega arith, omeg
 
 kept : tie.Need-returns
 kept c =
-    let g = c in
-    let f = c in
-    let e = c in
-    let d = c in
-    let k3 = c in
-    let k2 = c in
-    let k1 = c in
-    let a = k1.args in
+    let a = c.args in
     let p = a.points in
-    let w = small c.before.before.before.before.before.before.before.before.before.before.before.before.before.before.before.before.before.before.before.before.before.before.before.before.before.before in
+    let w = small (first (fourth c.before.before.before)) in
     kept_seven a.numbers.now a.index p.b0 p.b1 p.b2 p.b3 p.b4 p.b5 p.b6
     (as_signed p.b0 w.0)
     (as_signed p.b1 w.1)
@@ -47,7 +40,7 @@ kept c =
     (as_signed p.b4 w.4)
     (as_signed p.b5 w.5)
     (as_signed p.b6 w.6)
-    k1.keep.ensures k2.keep-2.ensures k3.keep-3.ensures d.keep-4.ensures e.keep-5.ensures f.keep-6.ensures g.keep-7.ensures
+    c.keep.ensures c.keep-2.ensures c.keep-3.ensures c.keep-4.ensures c.keep-5.ensures c.keep-6.ensures c.keep-7.ensures
 
 same_length : tie.Need-shape_of-numbers
 same_length c = ap length (kept c) ∙ stored-length _ _ _
