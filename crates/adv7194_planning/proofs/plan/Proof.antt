@@ -69,8 +69,8 @@ module _ (k : tie.After-check) where
   zs = s.args.numbers.now
 
   -- the record that was made is the board
-  board-is : k.before.before.before.board-of.result ≡ board s
-  board-is = k.before.before.before.board-of.ensures
+  board-is : k.board_of-board.result ≡ board s
+  board-is = k.board_of-board.ensures
 
   -- what was checked decides
   checked : (address room : ℕ) → checked_as k.check.result ≡ verdict (board s) zs address s.args.limit room
@@ -92,7 +92,7 @@ module _ (k : tie.After-check) where
     passed = cleared (board s) zs 0 s.args.limit 0 (sym (checked 0 0) ∙ e)
 
     -- the wanted image stands where the copy was
-    wanted-is : k.check.last.1.1.1.0 ≡ wanted_by s.args.image.now zs
+    wanted-is : k.check.new.wanted ≡ wanted_by s.args.image.now zs
     wanted-is =
         k.check.ensures.1
         ∙ ap (λ (b : Board). checked_image b.registers zs s.args.limit) board-is
@@ -103,13 +103,13 @@ accepted : (c : tie.In-Good) → checked_as c.check.result ≡ good tt
 accepted c = ap checked_as c.in-Good.is
 
 -- the aim of the map of fixed registers is the settings'
-aim-is : (c : tie.After-fixed_registers) → (let k = c in
-    aim_by k.board_of-board.result k.check.new.1.1.1.0 c.fixed_registers.result (s k).args.limit
+aim-is : (c : tie.After-fixed_registers) → (let k = c.before.before.before in
+    aim_by k.board_of-board.result k.check.new.wanted c.fixed_registers.result (s k).args.limit
     ≡ aim_of (board (s k)) (zs k) (s k).args.limit)
 aim-is c =
-    let k = c in
-    ap (λ (b : Board). aim_by b k.check.new.1.1.1.0 c.fixed_registers.result (s k).args.limit) (board-is k)
-    ∙ same_aim (board (s k)) (zs k) k.check.new.1.1.1.0 c.fixed_registers.result (s k).args.limit (wanted-is k (accepted c.before))
+    let k = c.before.before.before in
+    ap (λ (b : Board). aim_by b k.check.new.wanted c.fixed_registers.result (s k).args.limit) (board-is k)
+    ∙ same_aim (board (s k)) (zs k) k.check.new.wanted c.fixed_registers.result (s k).args.limit (wanted-is k (accepted c.before))
     c.fixed_registers.ensures
 
 -- ---- the answers
@@ -153,7 +153,7 @@ returns-3 c =
     let r = c in
     let k = c.before.before in
     let n = number_of r.in-Refused.refusal in
-    let f = r.refusal-1.given.0.1.0 in
+    let f = r.in-Refused.field in
     let a = (s k).args in
     refused (right-at k).before.before.before n f
     (planned k ∙ ap (λ (v : Verdict (Unit {0})). after v (packing_of (list_of (board (s k)) (zs k) a.limit) (length a.plan.now)))
@@ -193,7 +193,7 @@ plan_spec =
     (λ c κs. search rules)
     (λ c. search rules)
     (λ c. search rules)
-    (λ c κs. (passed c.before.before.before (accepted c)).passing)
+    (λ c κs. (passed c.before.before (accepted c)).passing)
     (λ c. search rules)
     plan-change-requires
     returns-3

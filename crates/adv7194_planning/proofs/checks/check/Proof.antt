@@ -61,13 +61,13 @@ module _ (w : tie.After-want) where
       check_settings (board s) zs address s.args.limit room (limited (counted-at w).before) (counted (counted-at w))
       ∙ ap (λ (x : Verdict (Unit {0})). after x (unknown_verdict (board s) zs address s.args.limit room)) e
 
-  left : w.want.last.1.0 ≡ checked_image s.args.wanted.now zs s.args.limit
+  left : w.want.new.image ≡ checked_image s.args.wanted.now zs s.args.limit
   left =
       w.want.ensures.1.0
       ∙ sym (image-is s.args.wanted.now zs s.args.limit (limited (counted-at w).before) (counted (counted-at w)))
 
 -- the settings are accepted
-accepted : (c : tie.In-Good) → check_of (zs c.before.before.before.before) ≡ good tt
+accepted : (c : tie.In-Good) → check_of (zs c.before.before.before) ≡ good tt
 accepted c = sym c.want.ensures.0 ∙ ap checked_as c.in-Good.is
 
 -- ---- the answers
@@ -95,14 +95,14 @@ returns-2 c =
 returns-3 : tie.Need-returns-in-Refused
 returns-3 c =
     let r = c in
-    let w = c in
+    let w = c.before.before.before in
     let e = sym w.want.ensures.0 ∙ ap checked_as r.in-Refused.is in
-    (λ address room. sym (decided w (refused_at (number_of r.in-Refused.refusal) r.refusal-1.given.0.1.0) e address room), left w)
+    (λ address room. sym (decided w (refused_at (number_of r.in-Refused.refusal) r.in-Refused.field) e address room), left w)
 
 returns-4 : tie.Need-returns-in-Good
 returns-4 c =
     let k = c.before in
-    let w = c in
+    let w = c.before.before.before.before in
     let a = (s w).args in
     (λ address room. c.check_known.ensures a.wanted.now address a.limit room ∙ sym (decided w (good tt) (accepted k) address room), left w)
 

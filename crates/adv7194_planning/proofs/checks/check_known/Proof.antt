@@ -25,21 +25,20 @@ module _ (c : tie.After-lowest_field-field) (image : List ℕ) where
   lowest = lowest_unfixed (board_of image start.args.known) start.args.numbers.now
 
   -- is the field that was found
-  field_is : c.lowest-field.result ≡ lowest
+  field_is : c.lowest_field-field.result ≡ lowest
   field_is =
-      let m = c.before in
-      c.lowest-field.ensures
-      ∙ same_lowest (has m.unfixed-registers.result) (unfixed (board_of image start.args.known) start.args.numbers.now)
-      (λ r h. m.unfixed-registers.ensures r ∙ ap (λ (x : Bool). not (has start.args.known r) && x) (m.before.partly-fixed-registers.ensures r))
+      c.lowest_field-field.ensures
+      ∙ same_lowest (has c.unfixed_registers-unfixed.result) (unfixed (board_of image start.args.known) start.args.numbers.now)
+      (λ r h. c.unfixed_registers-unfixed.ensures r ∙ ap (λ (x : Bool). not (has start.args.known r) && x) (c.partly_fixed_registers.ensures r))
 
   -- which decides the row
-  row_is : (address limit room : ℕ) (b : Bool) → eqb c.lowest-field.result 0 ≡ b
+  row_is : (address limit room : ℕ) (b : Bool) → eqb c.lowest_field-field.result 0 ≡ b
       → unknown_verdict (board_of image start.args.known) start.args.numbers.now address limit room
-      ≡ cond b (good tt) (refused_at 11 c.lowest-field.result)
+      ≡ cond b (good tt) (refused_at 11 c.lowest_field-field.result)
   row_is address limit room b e =
       by_register (board_of image start.args.known) start.args.numbers.now address limit room (order_of table) table-fields
       ∙ sym (ap (λ (f : ℕ). cond (eqb f 0) (good tt) (refused_at 11 f)) field_is)
-      ∙ ap (λ (x : Bool). cond x (good tt) (refused_at 11 c.lowest-field.result)) e
+      ∙ ap (λ (x : Bool). cond x (good tt) (refused_at 11 c.lowest_field-field.result)) e
 
 returns : tie.Need-returns-then-field-ne-NO_FIELD
 returns c = λ image address limit room. sym (row_is c.before image address limit room _ (ne_eqb _ 0 c.if-field-ne-NO_FIELD.true))
