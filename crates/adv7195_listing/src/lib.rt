@@ -1,4 +1,6 @@
 // The text of an image of the ADV7195: the settings that it holds, or its refusal.
+#![tactic(auto)]
+
 ghost use Rattle.std.specs.Prelude.{◌≡◌, ◌≤◌, length};
 ghost use Rattle.text.specs.Line.{place_after, appended};
 ghost use Rattle.listing.specs.Lines.{refused_line};
