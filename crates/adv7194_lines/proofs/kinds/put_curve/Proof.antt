@@ -48,7 +48,6 @@ put_curve_spec =
     (tie.spec
     (λ c κs. search rules)
     (λ c κs. search rules)
-    (λ c. search rules)
     add-fill-column
     fill-column-requires
     (λ c. search rules)

@@ -66,7 +66,6 @@ put_signalling_spec =
     (λ c. search rules)
     returns
     (λ c κs. search rules)
-    (λ c. search rules)
     add-fill-column
     fill-column-requires
     (λ c. search rules)

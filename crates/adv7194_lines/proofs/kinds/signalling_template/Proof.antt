@@ -7,17 +7,17 @@ use Rattle.adv7194_lines.proofs.kinds.signalling_template.Tie as tie
 
 returns : tie.Need-returns-in-0
 unfolding signalling_template
-returns c = let s = c in rw (number_is 0 s.args.kind s.ranges.kind.sfits refl c.in-0.keys1)
+returns c = rw (number_is 0 c.args.kind c.ranges.kind.sfits refl c.in-0.in-0-own.keys1)
 
 returns-2 : tie.Need-returns-in-2
 unfolding signalling_template
-returns-2 c = let s = c in rw (number_is 2 s.args.kind s.ranges.kind.sfits refl c.in-0.keys2)
+returns-2 c = rw (number_is 2 c.args.kind c.ranges.kind.sfits refl c.in-2.in-2-own.keys2)
 
 returns-3 : tie.Need-returns-in_default
 unfolding signalling_template
 returns-3 c =
     let z = c.args.kind in
-    let h = c.in-0.rest in
+    let h = c.in_default.in_default-own.rest in
     rw (is_not 0 z refl h.0.1, is_not 2 z refl h.1)
 
 pub signalling_template_spec : {M : Type 1} → statement M

@@ -14,7 +14,7 @@ use Rattle.adv7194_lines.proofs.lines.curve_line.Tie as tie
 
 put-curve-requires : tie.Need-put_curve-setting-requires
 put-curve-requires c κs =
-    let b = c.Block-of in
+    let b = c.block_of-block in
     (omega arith, omega (arith, ap (λ (x : Block). x.index) b.ensures))
 
 returns : tie.Need-returns
@@ -23,7 +23,7 @@ returns c =
     let v = c in
     let s = c in
     let l = c in
-    let b = l.Block-of in
+    let b = l.block_of-block in
     let start = c in
     let zs = start.args.numbers.now in
     let w =
@@ -37,10 +37,8 @@ curve_line_spec =
     (tie.spec
     (λ c κs. search rules)
     (λ c κs. search rules)
-    (λ c. search rules)
     (λ c κs. search rules)
     put-curve-requires
-    (λ c. search rules)
     (λ c κs. search rules)
     (λ c. search rules)
     returns)

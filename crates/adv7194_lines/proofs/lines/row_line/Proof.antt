@@ -41,11 +41,9 @@ row_line_spec =
     (λ c κs. search rules)
     returns
     (λ c κs. search rules)
-    (λ c. search rules)
     (λ c κs. search rules)
     (λ c κs. search rules)
     (λ c κs. search rules)
-    (λ c. search rules)
     (λ c κs. search rules)
     (λ c. search rules)
     returns-2)

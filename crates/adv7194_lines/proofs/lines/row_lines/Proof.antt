@@ -46,7 +46,7 @@ loop-again c =
     let l = t.loop-i in
     let start = c in
     let a = start.args in
-    let w = more l.invariant.written p.row_Line.ensures (omega (arith, start.requires, t.loop-i-test.true)) in
+    let w = more l.invariant.written p.row_line-place.ensures (omega (arith, start.requires, t.loop-i-test.true)) in
     record {
       turns = omega (arith, t.loop-i-test.true);
       written =
