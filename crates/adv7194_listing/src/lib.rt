@@ -1,4 +1,5 @@
 // The text of a board: the settings that it holds, or why it is refused.
+#![tactic(auto)]
 mod faults;
 
 ghost use Rattle.std.specs.Prelude.{◌≡◌, ◌++◌, ◌≤◌, length};

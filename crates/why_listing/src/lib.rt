@@ -1,4 +1,5 @@
 // The house setting planned over an image that is known in full, as text, with the reason of each register sent.
+#![tactic(auto)]
 ghost use Rattle.std.specs.Prelude.{◌≡◌, ◌≤◌, length};
 ghost use Rattle.text.specs.Line.{place_after, appended};
 ghost use Rattle.listing.specs.Written.{line_width};

@@ -23,9 +23,7 @@ pub write_sides_spec : {M : Type 1} → statement M
 write_sides_spec =
     tie.close
     (tie.spec
-    (λ c. search rules)
     (λ c κs. search rules)
-    (λ c. search rules)
     (λ c κs. search rules)
     (λ c κs. search rules)
     (λ c κs. search rules)

@@ -1,5 +1,4 @@
 -- `faults::fault_line` meets its contract: place, words and line end in a row. Assumes nothing.
-use mathlib.Core.Path.{refl}
 use Rattle.refusals.specs.Refusal.{number_of}
 use native.Mathlib.Omega.{arith}
 use Rattle.adv7194_names.specs.Widths.{line_width}
@@ -26,7 +25,6 @@ fault_line_spec =
     (tie.spec
     (λ c κs. omega arith)
     (λ c κs. omega arith)
-    (λ c. refl)
     (λ c κs. omega arith)
     (λ c. search rules)
     returns)

@@ -24,7 +24,6 @@ returns-2 c =
 pub put_mark_spec : {M : Type 1} → statement M
 put_mark_spec = tie.close (tie.spec
     returns
-    (λ c. search rules)
     (λ c κs. search rules)
     (λ c. search rules)
     returns-2)

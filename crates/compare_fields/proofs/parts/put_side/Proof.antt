@@ -30,7 +30,6 @@ pub put_side_spec : {M : Type 1} → statement M
 put_side_spec =
     tie.close
     (tie.spec
-    (λ c. search rules)
     (λ c κs. search rules)
     (λ c κs. search rules)
     (λ c. search rules)

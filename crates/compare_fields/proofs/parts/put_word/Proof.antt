@@ -60,7 +60,6 @@ put_word_spec =
     (λ c κs. search rules)
     (λ c. search rules)
     (λ c. search rules)
-    (λ c. search rules)
     fill-requires
     (λ c. search rules)
     returns)

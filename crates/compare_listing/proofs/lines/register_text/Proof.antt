@@ -33,7 +33,6 @@ register_text_spec =
     (λ c κs. search rules)
     (λ c. search rules)
     (λ c. search rules)
-    (λ c. search rules)
     fill-requires
     (λ c. search rules)
     returns)

@@ -22,10 +22,8 @@ pub put_bridge_spec : {M : Type 1} → statement M
 put_bridge_spec =
     tie.close
     (tie.spec
-    (λ c. search rules)
     (λ c κs. search rules)
     (λ c κs. search rules)
-    (λ c. search rules)
     (λ c κs. search rules)
     (λ c κs. search rules)
     (λ c. search rules)
