@@ -1,4 +1,6 @@
 // Planning captions: one or both pairs of characters, each a transaction of its own, packed into a lent plan.
+#![tactic(auto)]
+
 ghost use Rattle.std.specs.Prelude.{◌≡◌, true, ℕ, ◌<◌, length, take};
 ghost use Rattle.refusals.specs.Verdict.{refused_at};
 ghost use Rattle.refusals.specs.Order.{Exactly};

@@ -1,4 +1,6 @@
 // Reading a pair of captions back: the two characters that a board holds.
+#![tactic(auto)]
+
 ghost use Rattle.std.specs.Prelude.{◌≡◌};
 ghost use Rattle.refusals.specs.Order.{Exactly};
 ghost use Rattle.adv7194_bus.specs.Board.{board_of};

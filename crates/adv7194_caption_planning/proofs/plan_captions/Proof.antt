@@ -4,7 +4,6 @@ use mathlib.Core.Bool.{true}
 use Prim.Native.Nat.{ℕ}
 use lib.ListN.{length}
 use borrow.Author.Rules.{rules}
-use borrow.Author.Tests.{not-true, not-false}
 use Rattle.refusals.specs.Verdict.{refused_at}
 use Rattle.bus.specs.Address.{address_right}
 use Rattle.adv7194_captions.specs.Pairs.{caption_field, pairs_right}
@@ -29,11 +28,11 @@ returns c =
     let s = c.before.before.before in
     let a = s.args in
     refused s 2 0
-    (wrong_address a.extended.now a.ordinary.now a.address (length a.plan.now) (sym r.address_right.ensures ∙ not-true _ c.if-not-address_right.true))
+    (wrong_address a.extended.now a.ordinary.now a.address (length a.plan.now) (sym r.address_right.ensures ∙ c.if-not-address_right.true))
 
 -- the address is right
 right : (c : tie.Else-not-address_right) → address_right c.args.address ≡ true
-right c = sym c.address_right.ensures ∙ not-false _ c.if-not-address_right.false
+right c = sym c.address_right.ensures ∙ c.if-not-address_right.false
 
 returns-2 : tie.Need-returns-then-not-pairs_right
 returns-2 c =
@@ -42,11 +41,11 @@ returns-2 c =
     let a = s.args in
     refused s 3 caption_field
     (wrong_pairs a.extended.now a.ordinary.now a.address (length a.plan.now) (right c.before.before)
-    (sym r.pairs_right.ensures ∙ not-true _ c.if-not-pairs_right.true))
+    (sym r.pairs_right.ensures ∙ c.if-not-pairs_right.true))
 
 -- so are the pairs
 given : (c : tie.Else-not-pairs_right) → (let a = c.args in pairs_right a.extended.now a.ordinary.now ≡ true)
-given c = sym c.pairs_right.ensures ∙ not-false _ c.if-not-pairs_right.false
+given c = sym c.pairs_right.ensures ∙ c.if-not-pairs_right.false
 
 returns-3 : tie.Need-returns
 returns-3 c =

@@ -4,7 +4,6 @@ use mathlib.Core.Bool.{true, ◌&&◌}
 use Prim.Native.Nat.{ℕ}
 use native.Mathlib.Numerals.{add-one}
 use lib.ListN.{get_or}
-use borrow.Author.Tests.{not-true, not-false}
 use borrow.Author.Rules.{rules}
 use Rattle.refusals.specs.Verdict.{good}
 use Rattle.adv7194_bus.specs.declared.board.Board.{Board}
@@ -50,11 +49,11 @@ returns-3 c =
     let k = c.before in
     let s = start k in
     let t = tests k in
-    answers (board s) (pair s) (unknown-pair (board s) (pair s) t.if-image.false t.if-pair-ge-PAIRS.false (sym (known k) ∙ not-true _ c.if-not-has.true))
+    answers (board s) (pair s) (unknown-pair (board s) (pair s) t.if-image.false t.if-pair-ge-PAIRS.false (sym (known k) ∙ c.if-not-has.true))
 
 -- they are, past that test
 are-known : (c : tie.Else-not-has) → both_known (board (start c.before)) (pair (start c.before)) ≡ true
-are-known c = sym (known c.before) ∙ not-false _ c.if-not-has.false
+are-known c = sym (known c.before) ∙ c.if-not-has.false
 
 -- that test, from where both counts of ones are known
 abbrev passed : tie.After-is_odd-2 → tie.Else-not-has
@@ -74,7 +73,7 @@ returns-4 c =
     let s = start p.before in
     let t = tests p.before in
     answers (board s) (pair s)
-    (even_ones (board s) (pair s) t.if-image.false t.if-pair-ge-PAIRS.false (are-known p) (sym (odd o) ∙ not-true _ c.if-not-is_odd.true))
+    (even_ones (board s) (pair s) t.if-image.false t.if-pair-ge-PAIRS.false (are-known p) (sym (odd o) ∙ c.if-not-is_odd.true))
 
 returns-5 : tie.Need-returns
 returns-5 c =
@@ -85,7 +84,7 @@ returns-5 c =
     let i = (board s).registers in
     let r = pair_register (pair s) in
     answers (board s) (pair s)
-    (odd_ones_lem (board s) (pair s) t.if-image.false t.if-pair-ge-PAIRS.false (are-known p) (sym (odd o) ∙ not-false _ c.if-not-is_odd.false)
+    (odd_ones_lem (board s) (pair s) t.if-image.false t.if-pair-ge-PAIRS.false (are-known p) (sym (odd o) ∙ c.if-not-is_odd.false)
     ∙ ap (λ (k : ℕ). good (record { first = character_in (get_or i r 0); second = character_in (get_or i k 0) })) (sym (add-one r)))
 
 pub read_captions_spec : {M : Type 1} → statement M
