@@ -64,7 +64,7 @@ returns-2 c =
     let e = c in
     let p = c.before.before.before.before.before.before in
     let s = c.before.before.before.before.before.before.before.before in
-    has_room (list s) (list s) s.args.plan.now r.pack_pairs.new.0 p.packed_length-length.result (characters s / 2) c.bus_bytes.result
+    has_room (list s) (list s) s.args.plan.now r.pack_pairs.new.plan p.packed_length-length.result (characters s / 2) c.bus_bytes.result
     refl (omega (arith, e.if-plan-length.false, long p)) (long p) (sym (known s).transactions) (c.bus_bytes.ensures ∙ cost s) r.pack_pairs.ensures
 
 pub plan_pairs_spec : {M : Type 1} → statement M

@@ -53,23 +53,23 @@ begun c = progress_none (list (entry c)) c.begin-begun.result (entry c).args.pla
 
 -- the extended pair was
 first : (c : tie.After-pack_pair-first) → (let b = c.before.before in
-    Progress (list (entry b)) b.begin-begun.result (entry b).args.plan.now c.pack_pair-first.new.0 c.pack_pair-first.result (back (entry b)))
+    Progress (list (entry b)) b.begin-begun.result (entry b).args.plan.now c.pack_pair-first.new.plan c.pack_pair-first.result (back (entry b)))
 unfolding caption_list
 first c =
     let b = c.before.before in
     let s = entry b in
     several_more (list s) b.begin-begun.result s.args.plan.now (sound b) (room b) (begun b) (front s) (back s) refl
-    c.pack_pair-first.new.0 c.pack_pair-first.result c.pack_pair-first.auto.0 c.pack_pair-first.ensures
+    c.pack_pair-first.new.plan c.pack_pair-first.result c.pack_pair-first.auto.plan c.pack_pair-first.ensures
 
 -- both were
 second : (c : tie.After-pack_pair-both) → (let b = c.before.before.before.before.before.before in
-    Progress (list (entry b)) b.begin-begun.result (entry b).args.plan.now c.pack_pair-both.new.0 c.pack_pair-both.result [])
+    Progress (list (entry b)) b.begin-begun.result (entry b).args.plan.now c.pack_pair-both.new.plan c.pack_pair-both.result [])
 second c =
     let f = c.before.before.before.before in
     let b = c.before.before.before.before.before.before in
     let s = entry b in
     several_more (list s) b.begin-begun.result s.args.plan.now (sound b) (room b) (first f) (back s) [] (sym (append-nil (back s)))
-    c.pack_pair-both.new.0 c.pack_pair-both.result c.pack_pair-both.auto.0 c.pack_pair-both.ensures
+    c.pack_pair-both.new.plan c.pack_pair-both.result c.pack_pair-both.auto.plan c.pack_pair-both.ensures
 
 pack-pair-requires : tie.Need-pack_pair-first-requires
 unfolding caption_list
@@ -110,9 +110,9 @@ returns c =
     let b = c.before.before.before.before.before.before.before.before.before.before.before.before in
     let s = entry b in
     let done = progress_done (list s) b.begin-begun.result s.args.plan.now (sound b) (room b) (second f) refl
-    n.finish.new.0 n.finish.result n.finish.ensures.0 n.finish.ensures.1 in
+    n.finish.new.plan n.finish.result n.finish.ensures.0 n.finish.ensures.1 in
     begun-done (list s) s.args.plan.now b.begin-begun.result s.args.transactions (few s) s.requires.counted b.begin-begun.ensures
-    n.finish.new.0 done
+    n.finish.new.plan done
 
 pub pack_pairs_spec : {M : Type 1} → statement M
 pack_pairs_spec =
