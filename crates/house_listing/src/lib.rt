@@ -1,5 +1,6 @@
 // The house setting planned over an image that is known in full, as text: the plan with a line a transaction, or the refusal.
 #![tactic(auto)]
+
 ghost use Rattle.std.specs.Prelude.{◌≡◌, length};
 ghost use Rattle.planning.specs.Plan.{answer_of};
 ghost use Rattle.text.specs.Line.{place_after, appended};
