@@ -51,7 +51,8 @@ most_text = 138
 
 -- the house setting has no fault at any place
 no_fault : first_of (row_holds house) (places_in rows_at (order_of table)) (tt {0}) ≡ good (tt {0})
-unfolding first_of places_at places_in order_of row_holds some_of table timing output picture dnr house encode slice signalling_codes curve_codes curve_of flat_map
+unfolding first_of places_at places_in order_of row_holds some_of table timing output picture dnr house encode slice signalling_codes
+    curve_codes curve_of flat_map
 no_fault = refl
 
 -- so it is accepted

@@ -18,7 +18,8 @@ board_in image = board_of image all_known
 
 -- the text of the house setting planned over an image, with a lent plan of that many bytes
 unfoldable pub house_text_in : List ℕ → ℕ → List ℕ
-house_text_in image room = answer_text transaction_line (list_of (board_in image) house no_limit) (planning_of (board_in image) house board_address no_limit room)
+house_text_in image room =
+    answer_text transaction_line (list_of (board_in image) house no_limit) (planning_of (board_in image) house board_address no_limit room)
 
 -- the text with room for the longest plan: what the program prints
 abbrev pub house_text : List ℕ → List ℕ

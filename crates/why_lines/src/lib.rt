@@ -1,5 +1,6 @@
 // The line of a register that the plan of the house setting sends: its number and the reason.
 #![tactic(auto)]
+
 mod words;
 
 ghost use Rattle.std.specs.Prelude.{◌≡◌, ◌+◌, ◌≤◌, length};

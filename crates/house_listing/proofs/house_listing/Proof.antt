@@ -45,7 +45,8 @@ answer-listing-requires c κs = let p = c.before.before.before in holds (list p)
 text : (c : tie.After-plan_house-planned) → answer_text transaction_line (list_in (after c) (verdict c)) (verdict c) ≡ house_text (start c).args.image.now
 unfolding house_text_in
 text c =
-    text_of (list c) (zeros wide_bytes) (after c) transaction_line (verdict c) (planned c) ∙ ap (answer_text transaction_line (list c)) c.plan_house-planned.ensures.0
+    text_of (list c) (zeros wide_bytes) (after c) transaction_line (verdict c) (planned c)
+    ∙ ap (answer_text transaction_line (list c)) c.plan_house-planned.ensures.0
 
 returns : tie.Need-returns
 returns c =
