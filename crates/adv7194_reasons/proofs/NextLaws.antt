@@ -79,7 +79,8 @@ module _ (P : ℕ → Bool) where
           rw (from_next k r f)
           (⊎_elim (λ d. absurd (false≢true (sym f ∙ rw (← d) at e))) (λ d. later (rest d)) (eq-or-lt_of_le h))
         where
-          later : NextFrom P (suc r) (first_from P (suc r) k) × (first_from P (suc r) k ≤ i) → NextFrom P r (first_from P (suc r) k) × (first_from P (suc r) k ≤ i)
+          later : NextFrom P (suc r) (first_from P (suc r) k) × (first_from P (suc r) k ≤ i)
+              → NextFrom P r (first_from P (suc r) k) × (first_from P (suc r) k ≤ i)
           later q = (
             record {
               from = omega (arith, q.0.from);

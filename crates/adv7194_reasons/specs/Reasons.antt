@@ -1,6 +1,6 @@
 -- Document 02, P7: why a register is in our plan: it was unknown, else a field's bits there changed, must-be-zero bits apart (the lowest such field), else a
--- must-be-zero bit was set, else it is a companion of a subcarrier byte, else it is a bridge between the nearest needed registers. A register that isn't in the
--- plan is not sent.
+-- must-be-zero bit was set, else it is a companion of a subcarrier byte, else it is a bridge between the nearest needed registers. A register that isn't in
+-- the plan is not sent.
 use Rattle.std.specs.Prelude.{Bool, false, cond, not, ◌&&◌, ◌||◌, ℕ, zero, suc, ◌-◌, eqb, ltb}
 use mathlib.Core.List.{List, [], ◌∷◌, ◌++◌, map, foldr}
 use Rattle.rounding.specs.First.{first_from}

@@ -17,7 +17,8 @@ use Rattle.adv7194_signalling.specs.Signalling.{signalling_conflict, held_confli
 use Rattle.adv7194_settings.specs.Codes.{numbers_in}
 use Rattle.adv7194_settings.specs.Held.{bytes_in, setting_held, settings_held}
 use Rattle.adv7194_settings.specs.Order.{order}
-use Rattle.adv7194_settings.specs.Rows.{square_with_oversampling, pedestal_with_pal, coding_refused, reading_refused, some_of, row_holds, row_held, check_of, judge_of}
+use Rattle.adv7194_settings.specs.Rows.{square_with_oversampling, pedestal_with_pal, coding_refused, reading_refused, some_of}
+use Rattle.adv7194_settings.specs.Rows.{row_holds, row_held, check_of, judge_of}
 use Rattle.adv7194_round_trip.specs.Entries.{alone, codes_of, entry_reading}
 use Rattle.adv7194_round_trip.proofs.FirstLaws.{among, cleared, all-clear, chosen_fails, and_fails}
 use Rattle.adv7194_round_trip.proofs.EntryLaws.{All, all_map, all_zip, all_singles, every_field, none_meets, meets_none}
@@ -166,7 +167,8 @@ has_read image e =
       read =
           all_zip (λ e. conflict_in z image e ≡ false) (λ e. Clear (entry_reading image e)) (Read image)
           (λ e h c. numbers-taken (entry_reading image e) (reading_sound z image e h) c) table (no_conflict z image seven)
-          (each-clear (entry_reading image) (reading_refused image) (reading_refused_lem image) (λ f t. clear 3 f t) (λ f t. clear 4 f t) (λ f t. clear 8 f t));
+          (each-clear (entry_reading image) (reading_refused image) (reading_refused_lem image)
+          (λ f t. clear 3 f t) (λ f t. clear 4 f t) (λ f t. clear 8 f t));
       no_5 = clear 5 oversampling.row.field place_5;
       no_6 = clear 6 pedestal.row.field place_6;
       no_7 = seven;

@@ -31,7 +31,8 @@ pub read_codes : (bytes : List ℕ) (ns : List ℤ) → get_or bytes 0 0 < 256 �
 read_codes bytes ns small e = by (eqb (field 4 4 (get_or bytes 0 0)) 0) refl (held_back bytes small ns e)
   where
     by : (t : Bool) → eqb (field 4 4 (get_or bytes 0 0)) 0 ≡ t
-        → (signalling_codes ns ≡ accepted bytes) ⊎ ((ns ≡ no_signalling) × (field 4 4 (get_or bytes 0 0) ≡ 0)) → signalling_codes ns ≡ accepted (cond t [] bytes)
+        → (signalling_codes ns ≡ accepted bytes) ⊎ ((ns ≡ no_signalling) × (field 4 4 (get_or bytes 0 0) ≡ 0))
+        → signalling_codes ns ≡ accepted (cond t [] bytes)
     by true p h =
         let o = off_back bytes small (eqb-true (field 4 4 (get_or bytes 0 0)) 0 p) in
         let q : no_signalling ≡ ns = cc in
