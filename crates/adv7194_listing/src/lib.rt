@@ -1,5 +1,6 @@
 // The text of a board: the settings that it holds, or why it is refused.
 #![tactic(auto)]
+
 mod faults;
 
 ghost use Rattle.std.specs.Prelude.{◌≡◌, ◌++◌, ◌≤◌, length};
