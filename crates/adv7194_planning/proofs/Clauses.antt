@@ -10,7 +10,6 @@ use lib.Dec.{T, eqb}
 use Rattle.refusals.specs.Verdict.{Verdict, refused_at}
 use Rattle.refusals.specs.Order.{Exactly}
 use Rattle.refusals.proofs.OrderLaws.{exactly}
-use Rattle.bus.specs.Transactions.{bus_bytes}
 use Rattle.packing.specs.Packing.{packed, behind}
 use Rattle.unpacking.specs.Unpacking.{CountedBy}
 use Rattle.planning.specs.Plan.{Counts, counts_of, packed_left, done}

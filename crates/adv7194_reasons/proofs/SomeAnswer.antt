@@ -1,6 +1,6 @@
 -- Every register has an answer that is true: one that the plan touches was unknown, or a field's bits change there, or a must-be-zero bit was set, or it goes
 -- with the subcarrier word, or it lies between needed registers. Assumes nothing.
-use mathlib.Core.Path.{◌≡◌, refl, sym, ap, ◌∙◌}
+use mathlib.Core.Path.{◌≡◌, refl, sym, ◌∙◌}
 use mathlib.Core.Logic.{⊎_elim}
 use mathlib.Core.Bool.{Bool, true, false, not, ◌&&◌, false≢true}
 use mathlib.Core.List.{List, [], ◌∷◌, map}

@@ -7,7 +7,6 @@ use native.Mathlib.Omega.{arith}
 use lib.Bits.{bit_or}
 use lib.Dec.{eqb}
 use borrow.Author.Rules.{rules}
-use borrow.Author.Tests.{not-true, not-false}
 use Rattle.bus.specs.Known.{marks}
 use Rattle.bus.proofs.KnownLaws.{marks-joined}
 use Rattle.unpacking.specs.declared.steps.Step.{Step}

@@ -7,7 +7,7 @@ use lib.Dec.{eqb}
 use borrow.Author.Rules.{rules}
 use borrow.Author.Tests.{eq-eqb, ne_eqb}
 use Rattle.bits.specs.Maps.{has}
-use Rattle.refusals.specs.Verdict.{Verdict, good, refused_at}
+use Rattle.refusals.specs.Verdict.{good, refused_at}
 use Rattle.adv7194_bus.specs.Board.{board_of}
 use Rattle.adv7194_table.specs.Table.{table, order_of}
 use Rattle.adv7194_table.proofs.RegisterLaws.{same_lowest}
