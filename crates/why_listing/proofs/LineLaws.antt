@@ -64,7 +64,7 @@ unfolding list_width data_count
 list-width [] = refl
 list-width (t ∷ ts) = omega (arith, list-width ts)
 
--- as many for each byte of a well_formed_lem plan are enough
+-- as many for each byte of a well-formed plan are enough
 pub plan-width : (plan : List ℕ) → Accepted plan → list_width (listed (unpack plan)) ≤ byte_width * length plan
 plan-width plan e =
     let ts = listed (unpack plan) in

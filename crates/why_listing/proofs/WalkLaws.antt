@@ -1,4 +1,4 @@
--- A walk through a well_formed_lem plan that writes the lines of each transaction. Assumes nothing.
+-- A walk through a well-formed plan that writes the lines of each transaction. Assumes nothing.
 use mathlib.Core.Path.{◌≡◌, ap}
 use mathlib.Core.List.{List, [], ◌∷◌, ◌++◌, flat_map}
 use Prim.Native.Nat.{ℕ, ◌+◌, ◌*◌, ◌^◌, ◌≤◌, ◌<◌}

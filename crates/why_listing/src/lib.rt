@@ -1,5 +1,6 @@
 // The house setting planned over an image that is known in full, as text, with the reason of each register sent.
 #![tactic(auto)]
+
 ghost use Rattle.std.specs.Prelude.{◌≡◌, ◌≤◌, length};
 ghost use Rattle.text.specs.Line.{place_after, appended};
 ghost use Rattle.listing.specs.Written.{line_width};
@@ -38,7 +39,8 @@ fn put_first(line: &mut [u8], planned: Planned) -> usize
 // Writes the text of what planning answered, with the plan that it left, at the front of a line that has room for any, and answers the place after it.
 fn put_text(line: &mut [u8], image: &[u8], planned: Planned, plan: &[u8]) -> usize
     requires { (text_width ≤ length line.old) × Ready image.now plan.now (answer_of planned) }
-    ensures written { Put text_width line.old 0 (answer_text (transaction_text (reason_in (board_in image.now) house no_limit)) (list_in plan.now (answer_of planned)) (answer_of planned)) line.new result }
+    ensures written { Put text_width line.old 0
+        (answer_text (transaction_text (reason_in (board_in image.now) house no_limit)) (list_in plan.now (answer_of planned)) (answer_of planned)) line.new result }
 {
     let first = put_first(line, planned);
     let Planned::Done {

@@ -43,8 +43,10 @@ fn transaction_lines(
     subaddress: u8,
     bytes: &[u8],
 ) -> usize
-    requires { (at + transaction_width (length bytes.now) ≤ length line.old) × ((length image.now ≡ register_count) × (subaddress + length bytes.now < 2 ^ 8)) }
-    ensures written { Put (transaction_width (length bytes.now)) line.old at (transaction_text (reason_in (board_in image.now) house no_limit) (record { subaddress = subaddress; bytes = bytes.now })) line.new result }
+    requires { (at + transaction_width (length bytes.now) ≤ length line.old)
+        × ((length image.now ≡ register_count) × (subaddress + length bytes.now < 2 ^ 8)) }
+    ensures written { Put (transaction_width (length bytes.now)) line.old at
+        (transaction_text (reason_in (board_in image.now) house no_limit) (record { subaddress = subaddress; bytes = bytes.now })) line.new result }
 {
     let sent = put_line(line, at, subaddress, bytes);
     register_lines(line, sent, image, subaddress, bytes.len() as u8)
@@ -53,7 +55,8 @@ fn transaction_lines(
 // Writes the lines of a well-formed plan.
 pub(crate) fn plan_lines(line: &mut [u8], at: usize, image: &[u8], plan: &[u8]) -> usize
     requires { Accepted plan.now × ((at + byte_width * length plan.now ≤ length line.old) × (length image.now ≡ register_count)) }
-    ensures written { Put (byte_width * length plan.now) line.old at (flat_map (transaction_text (reason_in (board_in image.now) house no_limit)) (listed (unpack plan.now))) line.new result }
+    ensures written { Put (byte_width * length plan.now) line.old at
+        (flat_map (transaction_text (reason_in (board_in image.now) house no_limit)) (listed (unpack plan.now))) line.new result }
 {
     let mut cursor = begin(plan, Order::Ascending);
     let mut place = at;

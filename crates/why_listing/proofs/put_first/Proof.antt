@@ -40,9 +40,8 @@ put-requires c κs =
 
 returns : tie.Need-returns
 returns c =
-    let p = c in
     let b = c.before.before.before.before.before in
-    wider line_width (omega (arith, short b, ap length (part c.before.before.before.before.before.before))) (same_text (part c.before.before.before.before.before.before) (put p.put.ensures.0 p.put.ensures.1))
+    wider line_width (omega (arith, short b, ap length (part b.before))) (same_text (part b.before) (put c.put.ensures.0 c.put.ensures.1))
 
 pub put_first_spec : {M : Type 1} → statement M
 put_first_spec =

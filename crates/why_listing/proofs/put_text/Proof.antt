@@ -21,64 +21,50 @@ use Rattle.why_listing.proofs.TextLaws.{planned_text}
 use Rattle.why_listing.proofs.put_text.Statement.{statement}
 use Rattle.why_listing.proofs.put_text.Tie as tie
 
--- where the function was entered
-abbrev start : tie.After-put_first-first → tie.Start
-start c = c.before.before.before.before.before
-
 returns : tie.Need-returns-in_default
 returns c =
-    let p = c.before.before.before in
-    let a = (start p).args in
+    let a = c.args in
     let text : Planned → List ℕ = λ r. answer_text (transaction_text (house_reason a.image.now)) (list_in a.plan.now (answer_of r)) (answer_of r) in
     let e = c.in_default.is in
-    same_text (ap (λ (r : Planned). first_line (answer_of r)) e ∙ sym (ap text e)) (wider text_width (omega arith) p.put_first-first.ensures)
+    same_text (ap (λ (r : Planned). first_line (answer_of r)) e ∙ sym (ap text e)) (wider text_width (omega arith) c.put_first-first.ensures)
 
 -- the counts that were answered
-abbrev counts : tie.In-Done-2 → Counts
-counts c = record { length = c.in-Done.length; transactions = c.planned-1.given.0.1.0; bus_bytes = c.planned-1.given.0.1.1.0 }
-
-abbrev first : tie.In-Done-2 → tie.After-put_first-first
-first c = c.before.before.before
+abbrev counts : tie.In-Done → Counts
+counts c = record { length = c.in-Done.length; transactions = c.in-Done.transactions; bus_bytes = c.in-Done.bus_bytes }
 
 -- the answer is good, so the plan holds it
-answer : (c : tie.In-Done-2) → answer_of (start (first c)).args.planned ≡ good (counts c)
+answer : (c : tie.In-Done) → answer_of c.args.planned ≡ good (counts c)
 answer c = ap answer_of c.in-Done.is
 
-ready : (c : tie.In-Done-2) → Ready (start (first c)).args.image.now (start (first c)).args.plan.now (good (counts c))
-ready c =
-    let a = (start (first c)).args in
-    subst (Ready a.image.now a.plan.now) (answer c) (start (first c)).requires.1
+ready : (c : tie.In-Done) → Ready c.args.image.now c.args.plan.now (good (counts c))
+ready c = subst (Ready c.args.image.now c.args.plan.now) (answer c) c.requires.1
 
 -- the bytes of the plan that hold it
-part : (c : tie.In-Done-2) → (let plan = (start (first c)).args.plan.now in take ((counts c).length - 0) plan ≡ take (counts c).length plan)
-part c = ap (λ (n : ℕ). take n (start (first c)).args.plan.now) (sub-zero (counts c).length)
+part : (c : tie.In-Done) → (let plan = c.args.plan.now in take ((counts c).length - 0) plan ≡ take (counts c).length plan)
+part c = ap (λ (n : ℕ). take n c.args.plan.now) (sub-zero (counts c).length)
 
 -- no more than the longest has
-few : (c : tie.In-Done-2) → length (take ((counts c).length - 0) (start (first c)).args.plan.now) ≤ (counts c).length
+few : (c : tie.In-Done) → length (take ((counts c).length - 0) c.args.plan.now) ≤ (counts c).length
 few c =
     let r = ready c in
-    omega (arith, length-take-le ((counts c).length - 0) (start (first c)).args.plan.now (omega (arith, r.holds.within)))
+    omega (arith, length-take-le ((counts c).length - 0) c.args.plan.now (omega (arith, r.holds.within)))
 
 plan-lines-requires : tie.Need-plan_lines-requires
 plan-lines-requires c κs =
-    let p = c in
-    let f = first p in
+    let p = c.before.before in
     let r = ready p in
-    let w = f.put_first-first.ensures in (
+    let w = c.put_first-first.ensures in (
       subst Accepted (sym (part p)) r.holds.well_formed_lem,
-      (omega (arith, few p, r.holds.within, r.most, kept w, w.most, (start f).requires.0), r.whole (counts p) refl),
+      (omega (arith, few p, r.holds.within, r.most, kept w, w.most, c.requires.0), r.whole (counts p) refl),
     )
 
 returns-2 : tie.Need-returns
 returns-2 c =
-    let l = c in
-    let p = c in
-    let f = first p in
+    let p = c.before.before.before.before.before in
     let r = ready p in
-    let a = (start f).args in
-    let why = house_reason a.image.now in
-    let plan = a.plan.now in
-    let both = more f.put_first-first.ensures l.plan_lines.ensures (omega (arith, few p, r.holds.within, r.most, (start f).requires.0)) in
+    let why = house_reason c.args.image.now in
+    let plan = c.args.plan.now in
+    let both = more c.put_first-first.ensures c.plan_lines.ensures (omega (arith, few p, r.holds.within, r.most, c.requires.0)) in
     wider text_width (omega (arith, few p, r.holds.within, r.most))
     (same_text (ap₂ (λ (v : Verdict Counts) (bs : List ℕ). first_line v ++ flat_map (transaction_text why) (listed (unpack bs))) (answer p) (part p)
     ∙ planned_text why plan (counts p) r.holds ∙ sym (ap (λ (v : Verdict Counts). answer_text (transaction_text why) (list_in plan v) v) (answer p))) both)
@@ -95,7 +81,7 @@ put_text_spec =
     (λ c. search rules)
     (λ c. search rules)
     (λ c. search rules)
-    (λ c. let p = c in omega (arith, (ready p).holds.within))
+    (λ c. omega (arith, (ready c.before).holds.within))
     plan-lines-requires
     (λ c. search rules)
     returns-2)

@@ -35,7 +35,7 @@ abbrev verdict : tie.After-plan_house-planned → Verdict Counts
 verdict c = answer_of c.plan_house-planned.result
 
 abbrev after : tie.After-plan_house-planned → List ℕ
-after c = c.plan_house-planned.new.1.0
+after c = c.plan_house-planned.new.plan
 
 -- they are those of a planner of the list
 planned : (c : tie.After-plan_house-planned) → Plans (list c) (zeros wide_bytes) (after c) (verdict c)

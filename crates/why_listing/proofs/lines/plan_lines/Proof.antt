@@ -57,54 +57,49 @@ returns c =
     let l = n.loop-subaddress.invariant in
     let s = start c.before.before in
     let plan = plan-at c.before.before in
-    let all = all_passed l.walked s.requires.0 n.next.result c.in-Transaction.keys2 (said n n.next.result refl) in
+    let all = all_passed l.walked s.requires.0 n.next.result c.in_default.in_default-own.keys2 (said n n.next.result refl) in
     same_text (ap (flat_map (transaction_text (why c.before.before))) (sym all))
     (wider (byte_width * length plan) (omega (arith, plan-width plan s.requires.0, ap list_width all)) l.written)
 
 -- the transaction that was found
-went : (c : tie.In-Transaction-2 invariant-loop decreases-loop)
-    → Went (plan-at c.before.before) c.loop-subaddress.cursor c.in-Transaction.subaddress c.subaddress-1.given.0.1.0
-    c.subaddress-1.given.0.1.1.0 c.subaddress-1.given.0.1.1.1.0
+went : (c : tie.In-Transaction invariant-loop decreases-loop) → (let g = c.in-Transaction in
+    Went (plan-at c.before.before) c.loop-subaddress.cursor g.subaddress g.count g.«data» g.after)
 went c = said c.before _ c.in-Transaction.is
 
 -- its data were copied
-abbrev found : tie.After-copy_data invariant-loop decreases-loop → tie.In-Transaction-2 invariant-loop decreases-loop
-found c = c.before.before.before
+abbrev found : tie.After-copy_data invariant-loop decreases-loop → tie.In-Transaction invariant-loop decreases-loop
+found c = c.before.before
 
-copied : (c : tie.After-copy_data invariant-loop decreases-loop) → (let g = (found c).subaddress-1.given.0 in
-    (take (g.1.0 - 0) c.copy_data.new.1.1.0 ≡ first_bytes g.1.0 (left_at (plan-at (found c).before.before.before) g.1.1.0))
-    × (g.1.0 ≤ length c.copy_data.new.1.1.0))
-copied c = data_in_front (went (found c)) c.copy_data.new.1.1.0 c.copy_data.ensures
+copied : (c : tie.After-copy_data invariant-loop decreases-loop) → (let g = c.in-Transaction in
+    (take (g.count - 0) c.copy_data.new.registers ≡ first_bytes g.count (left_at (plan-at (found c).before.before) g.«data»))
+    × (g.count ≤ length c.copy_data.new.registers))
+copied c = data_in_front (went (found c)) c.copy_data.new.registers c.copy_data.ensures
 
 -- as many as the header says
-as_many : (c : tie.After-copy_data invariant-loop decreases-loop) → (let n = (found c).subaddress-1.given.0.1.0 in length (take (n - 0) c.copy_data.new.1.1.0) ≡ n)
+as_many : (c : tie.After-copy_data invariant-loop decreases-loop) → (let n = c.in-Transaction.count in length (take (n - 0) c.copy_data.new.registers) ≡ n)
 as_many c = ap length (copied c).0 ∙ first_bytes-length _ _
 
 -- there is room for the lines
-room : (c : tie.After-copy_data invariant-loop decreases-loop) → (let l = (found c).loop-subaddress in
-    l.place + transaction_width (found c).subaddress-1.given.0.1.0 ≤ length l.line)
+room : (c : tie.After-copy_data invariant-loop decreases-loop) → (let l = c.loop-subaddress in
+    l.place + transaction_width c.in-Transaction.count ≤ length l.line)
 room c =
-    let a = (found c).before.before.before in
-    let s = start a in
-    omega (arith, lines-room a.loop.invariant s.requires.0 s.requires.1.0 (went (found c)), kept a.loop.invariant.written)
+    let v = c.loop-subaddress.invariant in
+    omega (arith, lines-room v c.requires.0 c.requires.1.0 (went (found c)), kept v.written)
 
 transaction-lines-requires : tie.Need-transaction_lines-place-requires invariant-loop decreases-loop
 transaction-lines-requires c κs =
     let d = c.before.before.before in
     let g = went (found d) in
     let many = as_many d in
-    (omega (arith, room d), ((start (found d).before.before.before).requires.1.1, omega (arith, g.low, g.few)))
+    (omega (arith, room d), (c.requires.1.1, omega (arith, g.low, g.few)))
 
 loop-again : tie.Need-loop-subaddress-preserved invariant-loop decreases-loop
 loop-again c =
-    let p = c in
     let d = c.before.before.before.before.before.before in
     let f = found d in
-    let a = f in
-    let s = start a in
-    let text : List ℕ → List ℕ = λ bs. transaction_text (why a) (record { subaddress = f.in-Transaction.subaddress; bytes = bs }) in
-    listing_goes a.loop.invariant s.requires.0 s.requires.1.0 (went f)
-    (wider _ (omega (arith, as_many d)) (same_text (ap text (copied d).0) p.transaction_lines-place.ensures))
+    let text : List ℕ → List ℕ = λ bs. transaction_text (why f.before.before) (record { subaddress = c.in-Transaction.subaddress; bytes = bs }) in
+    listing_goes c.loop-subaddress.invariant c.requires.0 c.requires.1.0 (went f)
+    (wider _ (omega (arith, as_many d)) (same_text (ap text (copied d).0) c.transaction_lines-place.ensures))
 
 pub plan_lines_spec : {M : Type 1} → statement M
 plan_lines_spec =

@@ -58,7 +58,8 @@ loop-again c =
     let s = start c.before.before.before.before.before in
     let a = s.args in
     let r = a.first + l.i in
-    let one = register_line r (why c.before.before.before.before.before r) in
+    let reasons = why c.before.before.before.before.before in
+    let one = register_line r (reasons r) in
     record {
       inside = omega (arith, t.loop-i-test.true);
       text = l.invariant.text ++ one;
@@ -66,8 +67,8 @@ loop-again c =
           wider (register_width * (l.i + 1)) (omega arith)
           (more l.invariant.written p.register_line-place.ensures (omega (arith, s.requires.0, t.loop-i-test.true)));
       rest =
-          append_assoc l.invariant.text one (lines_from (why c.before.before.before.before.before) a.first a.count (l.i + 1))
-          ∙ ap (λ (x : List ℕ). l.invariant.text ++ x) (sym (lines_turn (why c.before.before.before.before.before) a.first a.count l.i t.loop-i-test.true)) ∙ l.invariant.rest;
+          append_assoc l.invariant.text one (lines_from reasons a.first a.count (l.i + 1))
+          ∙ ap (λ (x : List ℕ). l.invariant.text ++ x) (sym (lines_turn reasons a.first a.count l.i t.loop-i-test.true)) ∙ l.invariant.rest;
     }
 
 returns : tie.Need-returns invariant-loop decreases-loop

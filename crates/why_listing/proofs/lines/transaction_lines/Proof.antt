@@ -19,7 +19,7 @@ returns c =
     let t : Transaction = record { subaddress = a.subaddress; bytes = a.bytes.now } in
     let long = line_length t in
     let e = p.put_line-sent.ensures.0 in
-    let first : Put (3 * (size t + 1)) a.line.now a.at (transaction_line t) p.put_line-sent.new.0 p.put_line-sent.result =
+    let first : Put (3 * (size t + 1)) a.line.now a.at (transaction_line t) p.put_line-sent.new.out p.put_line-sent.result =
     record { answer = omega arith; memory = p.put_line-sent.ensures.1; most = omega arith } in
     more first r.register_lines.ensures (omega (arith, start.requires.0))
 
