@@ -1,5 +1,6 @@
 // Captions planned, as text: the plan of the characters with a line a transaction, or the refusal.
 #![tactic(auto)]
+
 ghost use Rattle.std.specs.Prelude.{◌≡◌, [], ◌∷◌, pos};
 ghost use Rattle.text.specs.Line.{place_after, appended};
 ghost use Rattle.caption_listing.specs.CaptionText.{pairs_text, caption_text};

@@ -24,7 +24,7 @@ abbrev verdict : tie.After-plan_captions-planned → Verdict Counts
 verdict c = answer_of c.plan_captions-planned.result
 
 abbrev after : tie.After-plan_captions-planned → List ℕ
-after c = c.plan_captions-planned.new.1.1.1.0
+after c = c.plan_captions-planned.new.plan
 
 -- they are those of a planner of the captions' list
 planned : (c : tie.After-plan_captions-planned) → (let a = (start c).args in
