@@ -28,7 +28,7 @@ module _ (plan : List ℕ) where
   within (good n) h = h.within
   within (refused_at n f) h = omega arith
 
-  -- below the word PLAN the bytes answered are well_formed_lem
+  -- below the word PLAN the bytes answered are well-formed
   pub well_formed_lem : (v : Verdict Counts) → Holds plan v → word_of (first_line v) ≡ Plan → Accepted (take (packed_bytes v) plan)
   well_formed_lem (good n) h e = h.well_formed_lem
   well_formed_lem (refused_at n f) h e =

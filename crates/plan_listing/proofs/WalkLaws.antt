@@ -1,4 +1,4 @@
--- A walk through a well_formed_lem plan that writes the line of each transaction. Assumes nothing.
+-- A walk through a well-formed plan that writes the line of each transaction. Assumes nothing.
 use mathlib.Core.Path.{◌≡◌, ap, ap₂, ◌∙◌, subst}
 use mathlib.Core.List.{List, [], ◌∷◌, ◌++◌, flat_map}
 use mathlib.Core.Logic.{⊎_elim}
@@ -60,7 +60,7 @@ module _ {plan : List ℕ} {c : Cursor} {subaddress count : ℕ} {first : Place}
       let rest = drop (0 + length ds) bytes in
       (ap₂ take (sub-zero count) stored ∙ take_at ds rest count long, omega (arith, ap length stored, length-append ds rest))
 
--- ---- a well_formed_lem plan
+-- ---- a well-formed plan
 
 module _ {plan : List ℕ} {done : List Transaction} {c : Cursor} (w : Walked plan Ascending done c) (e : Accepted plan) where
   -- it is not refused
@@ -85,7 +85,7 @@ passed_lines {plan} {done} w e =
     let all = ap (λ (ts : List Transaction). length (flat_map transaction_line ts)) p.1 in
     omega (arith, all, ap length (lines-append transaction_line done p.0), length-append (flat_map transaction_line done) (flat_map transaction_line p.0))
 
--- ---- the lines of a well_formed_lem plan
+-- ---- the lines of a well-formed plan
 
 module _ {out₀ : List ℕ} {at : ℕ} {plan out : List ℕ} {c : Cursor} {end : ℕ} (l : Listing out₀ at plan out c end) (e : Accepted plan)
     (room : at + length (flat_map transaction_line (listed (unpack plan))) ≤ length out₀) {subaddress count : ℕ} {first : Place} {after : Cursor}

@@ -1,4 +1,4 @@
--- `data_bytes` meets its contract: a well_formed_lem plan is the packing of its list, and has that many bytes. Assumes nothing.
+-- `data_bytes` meets its contract: a well-formed plan is the packing of its list, and has that many bytes. Assumes nothing.
 use mathlib.Core.Path.{◌≡◌, ap}
 use Prim.Native.Nat.{◌+◌, ◌-◌, ◌*◌, ◌/◌}
 use native.Mathlib.Omega.{arith}
