@@ -1,5 +1,6 @@
 // The lines of the fields of two images that differ. Each function answers the place after what it wrote.
 #![tactic(auto)]
+
 mod parts;
 
 ghost use Rattle.std.specs.Prelude.{cond, ◌+◌, ◌*◌, ◌≤◌, ◌<◌, length};

@@ -14,7 +14,7 @@ use Rattle.compare_fields.proofs.parts.put_value.Statement.{statement}
 use Rattle.compare_fields.proofs.parts.put_value.Tie as tie
 
 put-signalling-requires : tie.Need-put_signalling-requires
-put-signalling-requires c κs = (omega arith, omega (arith, ap (λ (x : Block). x.index) c.Block-of.ensures))
+put-signalling-requires c κs = (omega arith, omega (arith, ap (λ (x : Block). x.index) c.block_of.ensures))
 
 put-curve-requires : tie.Need-put_curve-requires
 put-curve-requires c κs = (omega arith, omega (arith, ap (λ (x : Block). x.index) c.block_of-then-field-eq-CURVE_A_FIELD.ensures))
@@ -25,7 +25,7 @@ put-curve-requires-2 c κs = (omega arith, omega (arith, ap (λ (x : Block). x.i
 returns : tie.Need-returns-then-field-eq-SIGNALLING_FIELD
 returns c =
     let p = c in
-    let b = p.Block-of in
+    let b = p.block_of in
     let t = c in
     let a = t.args in
     let zs = a.numbers.now in

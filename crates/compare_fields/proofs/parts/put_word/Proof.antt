@@ -12,8 +12,8 @@ use Rattle.compare_fields.proofs.parts.put_word.Statement.{statement}
 use Rattle.compare_fields.proofs.parts.put_word.Tie as tie
 
 -- the word's first register
-first : (c : tie.After-block_of-first) → c.Block-of.result.register ≡ word.register
-first c = ap (λ (b : Block). b.register) c.Block-of.ensures
+first : (c : tie.After-block_of-first) → c.block_of-first.result.register ≡ word.register
+first c = ap (λ (b : Block). b.register) c.block_of-first.ensures
 
 add-byte-at : tie.Need-overflow_add-first
 add-byte-at c = omega (arith, first c)
