@@ -1,5 +1,6 @@
 // Two images side by side, as text.
 #![tactic(auto)]
+
 ghost use Rattle.std.specs.Prelude.{◌≡◌, ◌&&◌, ◌+◌, ◌≤◌, length};
 ghost use Rattle.text.specs.Line.{place_after, appended};
 ghost use Rattle.listing.specs.Lines.{refused_line};

@@ -3,7 +3,6 @@ use mathlib.Core.Path.{◌≡◌, sym, ap, ◌∙◌}
 use mathlib.Core.List.{List}
 use Prim.Native.Nat.{ℕ}
 use borrow.Author.Rules.{rules}
-use borrow.Author.Tests.{not-true, not-false}
 use Rattle.text.specs.declared.Place.{Place}
 use Rattle.text.specs.Line.{place_after, appended}
 use Rattle.compare_listing.proofs.TextLaws.{first_short, second_short, both_whole}
@@ -22,7 +21,7 @@ returns c =
     let w = c in
     let s = w.args in
     handed s.out.now p.list_refusal.ensures.0 p.list_refusal.ensures.1
-    (first_short s.a.now s.b.now (sym w.whole.ensures ∙ not-true _ t.if-not-whole.true))
+    (first_short s.a.now s.b.now (sym w.whole.ensures ∙ t.if-not-whole.true))
 
 returns-2 : tie.Need-returns-then-not-whole-2
 returns-2 c =
@@ -32,8 +31,8 @@ returns-2 c =
     let w = c in
     let s = w.args in
     handed s.out.now p.list_refusal-then-not-whole-2.ensures.0 p.list_refusal-then-not-whole-2.ensures.1
-    (second_short s.a.now s.b.now (sym w.whole.ensures ∙ not-false _ v.if-not-whole.false) (sym v.whole-2.ensures
-    ∙ not-true _ t.if-not-whole-2.true))
+    (second_short s.a.now s.b.now (sym w.whole.ensures ∙ v.if-not-whole.false) (sym v.whole-2.ensures
+    ∙ t.if-not-whole-2.true))
 
 returns-3 : tie.Need-returns
 returns-3 c =
@@ -43,7 +42,7 @@ returns-3 c =
     let w = c in
     let s = w.args in
     handed s.out.now p.list_images.ensures.0 p.list_images.ensures.1
-    (both_whole s.a.now s.b.now (sym w.whole.ensures ∙ not-false _ v.if-not-whole.false) (sym v.whole-2.ensures ∙ not-false _ t.if-not-whole-2.false))
+    (both_whole s.a.now s.b.now (sym w.whole.ensures ∙ v.if-not-whole.false) (sym v.whole-2.ensures ∙ t.if-not-whole-2.false))
 
 pub compare_listing_spec : {M : Type 1} → statement M
 compare_listing_spec =

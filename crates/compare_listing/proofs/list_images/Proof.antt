@@ -15,8 +15,8 @@ returns c =
     let u = c in
     let s = u.args in
     let out = s.out.now in
-    let e = by_reading s.a.now s.b.now no_numbers no_numbers t.both.ensures u.true.ensures.0 v.taken-second.ensures.0
-    u.true.ensures.1 v.taken-second.ensures.1 in
+    let e = by_reading s.a.now s.b.now no_numbers no_numbers t.both.ensures u.taken-first.ensures.0 v.taken-second.ensures.0
+    u.taken-first.ensures.1 v.taken-second.ensures.1 in
     (p.list_sides.ensures.0 ∙ ap (place_after out 0) e, p.list_sides.ensures.1 ∙ ap (appended out 0) e)
 
 pub list_images_spec : {M : Type 1} → statement M
