@@ -46,7 +46,8 @@ module _ (image : List ℕ) (n : ℕ) where
       ap (λ (x : ℕ). hex_text (raw_from image n r x)) c ∙ split (eqb (own_mask n r) 0) (raw_from image n (suc r) (register_count - (r + 1)))
       ∙ ap (λ (x : ℕ). own_text image n r ++ hex_text (raw_from image n x (register_count - (r + 1)))) (sym (add-one r))
     where
-      split : (t : Bool) (rest : List ℕ) → hex_text (cond t rest (own_bits image n r ∷ rest)) ≡ cond t [] (space ++ hex_byte (own_bits image n r)) ++ hex_text rest
+      split : (t : Bool) (rest : List ℕ)
+          → hex_text (cond t rest (own_bits image n r ∷ rest)) ≡ cond t [] (space ++ hex_byte (own_bits image n r)) ++ hex_text rest
       split true rest = refl
       split false rest = refl
 

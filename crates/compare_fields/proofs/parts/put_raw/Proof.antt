@@ -48,7 +48,8 @@ loop-again c =
       inside = omega (arith, t.loop-register-test.true);
       text = l.invariant.text ++ own_text image a.field l.register;
       written =
-          wider (3 * (l.register + 1)) (omega arith) (more l.invariant.written p.put_own-place.ensures (omega (arith, start.requires, t.loop-register-test.true)));
+          wider (3 * (l.register + 1)) (omega arith)
+          (more l.invariant.written p.put_own-place.ensures (omega (arith, start.requires, t.loop-register-test.true)));
       rest =
           append_assoc l.invariant.text (own_text image a.field l.register) (raw_text image a.field (l.register + 1))
           ∙ ap (λ (x : List ℕ). l.invariant.text ++ x) (sym (raw_turn image a.field l.register t.loop-register-test.true))
