@@ -14,6 +14,8 @@ import sys
 
 # words of the library that a name may be joined to by a dash
 LIBRARY = set("length append take drop set map reverse sum get_or replicate add sub mul div mod pow min max eq lt le suc cond".split())
+# a field of a record whose name would fall together with a definition's
+FIELDS = {"well-formed": "is_well_formed"}
 NAME = r"[^\s(){}\[\]:,.;=λ⟨⟩\"`]+"
 DECLARED = re.compile(r"\s*((?:(?:abbrev|unfoldable|pub|instance)\s+)*)(%s)\s*(?:[({].*)?:(?=\s|$)" % NAME)
 WORD = re.compile(r"(?<![\w'\-◌])[a-z][\w'→₀-₉\-]*")
@@ -86,7 +88,7 @@ def spelled(top):
         if word in seen:
             new[name] = word + "_lem"
         seen[new.get(name, name)] = name
-    return {a: b for a, b in new.items() if a != b}
+    return {**{a: b for a, b in new.items() if a != b}, **{a: b for a, b in FIELDS.items() if a in names}}
 
 
 def rewrite_antt(text, new):

@@ -29,9 +29,9 @@ module _ (plan : List ℕ) where
   within (refused_at n f) h = omega arith
 
   -- below the word PLAN the bytes answered are well-formed
-  pub well_formed_lem : (v : Verdict Counts) → Holds plan v → word_of (first_line v) ≡ Plan → Accepted (take (packed_bytes v) plan)
-  well_formed_lem (good n) h e = h.well_formed_lem
-  well_formed_lem (refused_at n f) h e =
+  pub is_well_formed : (v : Verdict Counts) → Holds plan v → word_of (first_line v) ≡ Plan → Accepted (take (packed_bytes v) plan)
+  is_well_formed (good n) h e = h.is_well_formed
+  is_well_formed (refused_at n f) h e =
       let w = refused-word n f in
       let z : ◌≡◌ {A = ℕ} 0 1 = cc in
       absurd (omega arith)
@@ -77,7 +77,7 @@ module _ (ts : List Transaction) (plan after : List ℕ) where
       let long : n.length ≡ length (packed ts) = sym (ap (λ (k : Counts). k.length) (p.counts n refl)) in
       record {
         within = omega (arith, long, ap length p.left, length-append (packed ts) (drop (length (packed ts)) plan));
-        well_formed_lem = rw u;
+        is_well_formed = rw u;
         counts = ap (λ (j : Judged (List Transaction)). counts_of (listed j)) u ∙ p.counts n refl;
       }
   holds (refused_at n f) p = tt

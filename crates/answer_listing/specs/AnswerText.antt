@@ -45,7 +45,7 @@ list_in plan v = listed (unpack (take (packed_bytes v) plan))
 -- the first bytes of a plan, as many as some counts say, unpack to a list of these counts
 pub record Counted (plan : List ℕ) (n : Counts) : Type 0 where
   pub within : n.length ≤ length plan
-  pub well_formed_lem : Accepted (take n.length plan)
+  pub is_well_formed : Accepted (take n.length plan)
   pub counts : counts_of (list_in plan (good n)) ≡ n
 
 -- they do where an answer is good

@@ -13,7 +13,7 @@ use Rattle.listing.specs.Written.{word_of}
 use Rattle.listing.proofs.LineLaws.{line_long, line_part}
 use Rattle.planning.specs.Plan.{Counts, answer_of}
 use Rattle.answer_listing.specs.AnswerText.{first_line, packed_bytes, text_below}
-use Rattle.answer_listing.proofs.AnswerLaws.{within, well_formed_lem, text}
+use Rattle.answer_listing.proofs.AnswerLaws.{within, is_well_formed, text}
 use Rattle.answer_listing.proofs.answer_listing.Statement.{statement}
 use Rattle.answer_listing.proofs.answer_listing.Tie as tie
 
@@ -47,7 +47,7 @@ list-answer-requires : tie.Need-list_answer-requires
 list-answer-requires c κs =
     let f = c.before.before.before.before in
     let plan = (start f).args.plan.now in
-    λ e. subst⁻¹ (λ (n : ℕ). Accepted (take n plan)) (packed-part f) (well_formed_lem plan (verdict f) (start f).requires (ap word_of (sym (first_part_lem f)) ∙ e))
+    λ e. subst⁻¹ (λ (n : ℕ). Accepted (take n plan)) (packed-part f) (is_well_formed plan (verdict f) (start f).requires (ap word_of (sym (first_part_lem f)) ∙ e))
 
 returns : tie.Need-returns
 returns c =

@@ -54,8 +54,8 @@ returns c =
 plan-word : (c : tie.After-list_plan) → word_of c.args.line.now ≡ Plan
 plan-word c = sym c.first_word.ensures ∙ c.in-Plan.is
 
-well_formed_lem : (c : tie.After-list_plan) → Accepted c.args.plan.now
-well_formed_lem c = c.requires (plan-word c)
+is_well_formed : (c : tie.After-list_plan) → Accepted c.args.plan.now
+is_well_formed c = c.requires (plan-word c)
 
 followed : (c : tie.After-list_plan) → (let a = c.args in
     a.line.now ++ flat_map transaction_line (listed (unpack a.plan.now)) ≡ text_below a.line.now (listed (unpack a.plan.now)))
@@ -65,14 +65,14 @@ answered : (c : tie.After-list_plan) → (let a = c.args in
     listed_as c.list_plan.result ≡ accepted (place_after a.out.now 0 (text_below a.line.now (listed (unpack a.plan.now)))))
 answered c =
     let a = c.args in
-    c.list_plan.ensures.0 ∙ ap (λ (j : Judged (List Transaction)). listing_of a.line.now j a.out.now) (well_formed_lem c)
+    c.list_plan.ensures.0 ∙ ap (λ (j : Judged (List Transaction)). listing_of a.line.now j a.out.now) (is_well_formed c)
     ∙ ap (λ (t : List ℕ). accepted (place_after a.out.now 0 t)) (followed c)
 
 left : (c : tie.After-list_plan) → (let a = c.args in
     c.list_plan.new.out ≡ appended a.out.now 0 (text_below a.line.now (listed (unpack a.plan.now))))
 left c =
     let a = c.args in
-    c.list_plan.ensures.1 ∙ ap (λ (j : Judged (List Transaction)). listing_in a.line.now j a.out.now) (well_formed_lem c)
+    c.list_plan.ensures.1 ∙ ap (λ (j : Judged (List Transaction)). listing_in a.line.now j a.out.now) (is_well_formed c)
     ∙ ap (λ (t : List ℕ). appended a.out.now 0 t) (followed c)
 
 returns-2 : tie.Need-returns-in_default-list_plan

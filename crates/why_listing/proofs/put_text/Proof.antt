@@ -54,7 +54,7 @@ plan-lines-requires c κs =
     let p = c.before.before in
     let r = ready p in
     let w = c.put_first-first.ensures in (
-      subst Accepted (sym (part p)) r.holds.well_formed_lem,
+      subst Accepted (sym (part p)) r.holds.is_well_formed,
       (omega (arith, few p, r.holds.within, r.most, kept w, w.most, c.requires.0), r.whole (counts p) refl),
     )
 
