@@ -31,7 +31,8 @@ returns c = high c.args.number c.if-number-lt-NEGATIVE.true c.if-magnitude-gt-HI
 returns-2 : tie.Need-returns-then-number-lt-NEGATIVE
 returns-2 c =
     let n = c.args.number in
-    as_signed (n % negative) (omega (arith, c.if-magnitude-gt-HIGHEST_MAGNITUDE.false)) ∙ above n c.if-number-lt-NEGATIVE.true c.if-magnitude-gt-HIGHEST_MAGNITUDE.false
+    as_signed (n % negative) (omega (arith, c.if-magnitude-gt-HIGHEST_MAGNITUDE.false))
+    ∙ above n c.if-number-lt-NEGATIVE.true c.if-magnitude-gt-HIGHEST_MAGNITUDE.false
 
 returns-3 : tie.Need-returns-then-magnitude-gt-HIGHEST_MAGNITUDE-2
 returns-3 c = low c.args.number c.if-number-lt-NEGATIVE.false c.if-magnitude-gt-HIGHEST_MAGNITUDE-2.true
