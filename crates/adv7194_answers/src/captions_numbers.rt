@@ -3,7 +3,8 @@ ghost use Rattle.std.specs.Prelude.{◌≡◌};
 ghost use Rattle.adv7194_caption_reading.specs.Answers.{read_as};
 ghost use Rattle.adv7194_answers.specs.Answers.{captions_answer};
 
-use adv7194_caption_reading::CaptionsRead;
+use adv7194_caption_reading::Captions;
+use refusals::Fault;
 
 // The refusal and the field where there is none, and both characters after a refusal.
 const NONE: u32 = 0;
@@ -19,21 +20,21 @@ pub struct CaptionsAnswer {
 }
 
 // What reading a pair answers.
-pub fn captions_answer(taken: CaptionsRead) -> CaptionsAnswer
+pub fn captions_answer(taken: Result<Captions, Fault>) -> CaptionsAnswer
     ensures answer { result ≡ captions_answer (read_as taken) }
 {
     match taken {
-        CaptionsRead::Refused { refusal, field } => CaptionsAnswer {
-            refusal: refusal.number() as u32,
-            field: field as u32,
-            first: NONE,
-            second: NONE,
-        },
-        CaptionsRead::Done { first, second } => CaptionsAnswer {
+        Ok(pair) => CaptionsAnswer {
             refusal: NONE,
             field: NONE,
-            first: first as u32,
-            second: second as u32,
+            first: pair.first as u32,
+            second: pair.second as u32,
+        },
+        Err(fault) => CaptionsAnswer {
+            refusal: fault.refusal.number() as u32,
+            field: fault.field as u32,
+            first: NONE,
+            second: NONE,
         },
     }
 }

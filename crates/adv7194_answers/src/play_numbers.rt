@@ -4,15 +4,10 @@ ghost use Rattle.adv7194_playing.specs.Playing.{answer_of, known_of};
 ghost use Rattle.adv7194_answers.specs.Answers.{play_answer};
 
 use adv7194_playing::Played;
+use refusals::Refusal;
 
 // The refusal where there is none, the field of every refusal, and what is answered after one.
 const NONE: u32 = 0;
-
-// Every byte was acknowledged.
-const YES: u32 = 1;
-
-// Some byte was not.
-const NO: u32 = 0;
 
 // A refusal, or 0; a field, which is always 0; whether every byte was acknowledged; the map of the registers known after the call, which is as it was
 // handed in after a refusal.
@@ -26,24 +21,21 @@ pub struct PlayAnswer {
 }
 
 // Playing's answer, where this map of known registers was handed in.
-pub fn play_answer(played: Played, known: u64) -> PlayAnswer
+pub fn play_answer(played: Result<Played, Refusal>, known: u64) -> PlayAnswer
     ensures answer { result ≡ play_answer (answer_of played) (known_of known played) }
 {
     match played {
-        Played::Refused(refusal) => PlayAnswer {
+        Ok(played) => PlayAnswer {
+            refusal: NONE,
+            field: NONE,
+            acknowledged: played.acknowledged as u32,
+            known: played.known,
+        },
+        Err(refusal) => PlayAnswer {
             refusal: refusal.number() as u32,
             field: NONE,
             acknowledged: NONE,
             known,
-        },
-        Played::Done {
-            acknowledged,
-            known: after,
-        } => PlayAnswer {
-            refusal: NONE,
-            field: NONE,
-            acknowledged: if acknowledged { YES } else { NO },
-            known: after,
         },
     }
 }

@@ -1,12 +1,10 @@
 // Why a register is sent, as numbers.
 ghost use Rattle.std.specs.Prelude.{◌≡◌};
-ghost use Rattle.refusals.specs.Refusal.{number_of};
-ghost use Rattle.refusals.specs.Verdict.{refused_at};
-ghost use Rattle.adv7194_reasons.specs.Why.{why_as};
-ghost use Rattle.adv7194_answers.specs.Answers.{numbered, why_answer};
+ghost use Rattle.adv7194_reasons.specs.Why.{reason_as, why_as};
+ghost use Rattle.adv7194_answers.specs.Answers.{numbered, reason_answer, why_answer};
 
-use adv7194_reasons::Explained;
-use refusals::Refusal;
+use adv7194_reasons::Reason;
+use refusals::Fault;
 
 // The refusal and the field where there is none, what a reason doesn't name, and every other number after a refusal.
 const NONE: u32 = 0;
@@ -40,8 +38,8 @@ pub struct WhyAnswer {
     pub second: u32,
 }
 
-// The answer that is a reason.
-fn why_reason(reason: u32, first: u32, second: u32) -> WhyAnswer
+// The answer that is a reason by its number, with what it names.
+fn numbered(reason: u32, first: u32, second: u32) -> WhyAnswer
     ensures answer { result ≡ numbered reason first second }
 {
     WhyAnswer {
@@ -53,30 +51,32 @@ fn why_reason(reason: u32, first: u32, second: u32) -> WhyAnswer
     }
 }
 
-// The answer that is a refusal at a field.
-fn why_refused(refusal: Refusal, field: u8) -> WhyAnswer
-    ensures answer { result ≡ why_answer (refused_at (number_of refusal) field) }
+// The answer that is this reason.
+fn reason_answer(reason: Reason) -> WhyAnswer
+    ensures answer { result ≡ reason_answer (reason_as reason) }
 {
-    WhyAnswer {
-        refusal: refusal.number() as u32,
-        field: field as u32,
-        reason: NONE,
-        first: NONE,
-        second: NONE,
+    match reason {
+        Reason::NotSent => numbered(NOT_SENT, NONE, NONE),
+        Reason::Unknown => numbered(UNKNOWN, NONE, NONE),
+        Reason::Changed { field } => numbered(CHANGED, field as u32, NONE),
+        Reason::Zeroed => numbered(ZEROED, NONE, NONE),
+        Reason::Companion => numbered(COMPANION, NONE, NONE),
+        Reason::Bridge { below, above } => numbered(BRIDGE, below as u32, above as u32),
     }
 }
 
 // The answer to why a register is sent.
-pub fn why_answer(explained: Explained) -> WhyAnswer
+pub fn why_answer(explained: Result<Reason, Fault>) -> WhyAnswer
     ensures answer { result ≡ why_answer (why_as explained) }
 {
     match explained {
-        Explained::Refused { refusal, field } => why_refused(refusal, field),
-        Explained::NotSent => why_reason(NOT_SENT, NONE, NONE),
-        Explained::Unknown => why_reason(UNKNOWN, NONE, NONE),
-        Explained::Changed { field } => why_reason(CHANGED, field as u32, NONE),
-        Explained::Zeroed => why_reason(ZEROED, NONE, NONE),
-        Explained::Companion => why_reason(COMPANION, NONE, NONE),
-        Explained::Bridge { below, above } => why_reason(BRIDGE, below as u32, above as u32),
+        Ok(reason) => reason_answer(reason),
+        Err(fault) => WhyAnswer {
+            refusal: fault.refusal.number() as u32,
+            field: fault.field as u32,
+            reason: NONE,
+            first: NONE,
+            second: NONE,
+        },
     }
 }

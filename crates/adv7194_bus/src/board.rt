@@ -5,13 +5,13 @@ ghost use Rattle.bus.specs.Lent.{chip_at};
 ghost use Rattle.adv7194_bus.specs.Kind.{register_count, adv7194};
 ghost use Rattle.adv7194_bus.specs.Board.{board_of};
 
-use crate::image::copied;
 use crate::{DROPPED, REGISTERS};
 use bus::chip::{Event, State};
+use bus::image::copied;
 use bus::known::known_by;
 
 // A board's registers, and the map of those that are known: bit r for register r. The byte of a register that is not known means nothing; bits past the
-// last register are ignored.
+// last register are ignored. Bytes and a map, and not an `Option` a register: C's record has this layout, and such a byte goes back as it came.
 #[derive(Clone, Copy)]
 pub struct Board {
     pub registers: [u8; 54],

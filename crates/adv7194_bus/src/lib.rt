@@ -12,7 +12,6 @@ ghost use Rattle.bus.specs.Known.{marks};
 use bus::chip::{Event, State, Stepped};
 
 pub mod board;
-pub mod image;
 
 // How many registers the chip has: 00 to 35.
 pub const REGISTERS: u32 = 0x36;

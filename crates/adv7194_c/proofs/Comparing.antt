@@ -2,8 +2,9 @@
 use mathlib.Core.Path.{◌≡◌, refl, ap}
 use mathlib.Core.List.{List}
 use Prim.Native.Nat.{ℕ}
-use Rattle.adv7194_compare.specs.declared.Compared.{Compared}
-use Rattle.adv7194_compare.specs.declared.Compared.TheVariants.{Done, Refused}
+use Rattle.std.specs.Prelude.{Result, Ok, Err}
+use Rattle.refusals.specs.declared.Fault.{Fault}
+use Rattle.adv7194_compare.specs.declared.differences.Differences as declared
 use Rattle.adv7194_compare.specs.Differences.{Equal}
 use Rattle.adv7194_compare.specs.Compare.{compared_as, compare_of, OnlyEqual}
 use Rattle.adv7194_answers.specs.declared.compare_numbers.CompareAnswer.{CompareAnswer}
@@ -12,9 +13,15 @@ use Rattle.answers.proofs.Numbered.{numbered}
 
 -- all that comparing promises of the numbers answered
 abbrev pub Compares : List ℕ → List ℕ → CompareAnswer → Type 0
-Compares a b r = (r ≡ compare_answer (compare_of a b)) × ((Equal a b → NothingDiffers r) × (NothingDiffers r → Equal a b))
+Compares a b r =
+    record {
+      answer : r ≡ compare_answer (compare_of a b);
+      empty : Equal a b → NothingDiffers r;
+      only : NothingDiffers r → Equal a b;
+    }
 
 -- what comparing promises of its answer, it promises of the numbers
-pub compares : (a b : List ℕ) (p : Compared) → (compared_as p ≡ compare_of a b) × OnlyEqual a b (compared_as p) → Compares a b (compare_answer (compared_as p))
-compares a b (Done both fs rs) c = (ap compare_answer c.0, (λ e. (refl, c.1.empty e), λ n. c.1.only n.1))
-compares a b (Refused r f) c = (ap compare_answer c.0, (λ e. absurd (c.1.empty e), λ n. absurd (numbered r n.0)))
+pub compares : (a b : List ℕ) (p : Result declared.Differences Fault) → compared_as p ≡ compare_of a b → OnlyEqual a b (compared_as p)
+    → Compares a b (compare_answer (compared_as p))
+compares a b (Ok d) e q = record { answer = ap compare_answer e; empty = λ h. (refl, q.empty h); only = λ n. q.only n.1 }
+compares a b (Err r) e q = record { answer = ap compare_answer e; empty = λ h. absurd (q.empty h); only = λ n. absurd (numbered r.refusal n.0) }

@@ -11,7 +11,9 @@ use Rattle.adv7194_settings.specs.Demand.{Demanded}
 use Rattle.adv7194_least.specs.Aim.{aim_of}
 use Rattle.adv7194_least.specs.Played.{Played}
 use Rattle.adv7194_least.specs.Demands.{Least, First, Only, most_bytes, wide_limit, wide_bytes}
-use Rattle.planning.specs.declared.plan.Planned.{Planned}
+use Rattle.std.specs.Prelude.{Result}
+use Rattle.refusals.specs.declared.Fault.{Fault}
+use Rattle.planning.specs.declared.plan.Packed.{Packed}
 use Rattle.adv7194_planning.specs.Rows.{list_of}
 use Rattle.planning.specs.Plan.{answer_of}
 use Rattle.adv7194_planning.specs.Planning.{planning_of, plan_left}
@@ -26,41 +28,32 @@ abbrev pub Promises : Board → List ℤ → ℕ → ℕ → List ℕ → List �
 Promises board numbers address limit plan after r =
     let image = board.registers in
     let aim = aim_of board numbers limit in
-    (r ≡ plan_answer (planning_of board numbers address limit (length plan)))
-    × ((after ≡ plan_left board numbers address limit plan)
-    × ((r.refusal ≡ 0 → CountedBy behind (take r.length after) r.length r.transactions r.bus_bytes)
-    × ((r.refusal ≡ 0 → Demanded image numbers (wanted_by image numbers))
-    × ((r.refusal ≡ 0 → Played aim (take r.length after))
-    × ((r.refusal ≡ 0 → Least aim r.transactions r.bus_bytes)
-    × ((r.refusal ≡ 0 → First aim (list_of board numbers limit))
-    × ((r.refusal ≡ 0 → Only aim (list_of board numbers limit))
-    × (r.refusal ≡ 10 → (length plan < most_bytes) × (wide_limit ≤ limit → length plan < wide_bytes)))))))))
+    record {
+      answer : r ≡ plan_answer (planning_of board numbers address limit (length plan));
+      memory : after ≡ plan_left board numbers address limit plan;
+      counted : r.refusal ≡ 0 → CountedBy behind (take r.length after) r.length r.transactions r.bus_bytes;
+      demanded : r.refusal ≡ 0 → Demanded image numbers (wanted_by image numbers);
+      played : r.refusal ≡ 0 → Played aim (take r.length after);
+      least : r.refusal ≡ 0 → Least aim r.transactions r.bus_bytes;
+      first : r.refusal ≡ 0 → First aim (list_of board numbers limit);
+      only : r.refusal ≡ 0 → Only aim (list_of board numbers limit);
+      room : r.refusal ≡ 10 → (length plan < most_bytes) × (wide_limit ≤ limit → length plan < wide_bytes);
+    }
 
 -- what planning promises of its answer, it promises of the numbers
-pub promised : (board : Board) (numbers : List ℤ) (address limit : ℕ) (plan after : List ℕ) (p : Planned)
+pub promised : (board : Board) (numbers : List ℤ) (address limit : ℕ) (plan after : List ℕ) (p : Result Packed Fault)
     → Clauses board numbers address limit plan after (answer_of p) → Promises board numbers address limit plan after (plan_answer (answer_of p))
 promised board numbers address limit plan after p c =
     let image = board.registers in
     let aim = aim_of board numbers limit in
-    let list = list_of board numbers limit in
-    let rest = c.1.1 in
-    let more = rest.1.1 in
-    let last = more.1.1 in (
-      ap plan_answer c.0,
-      (
-        c.1.0,
-        (
-          planned (λ l t b. CountedBy behind (take l after) l t b) p rest.0,
-          (
-            planned (λ l t b. Demanded image numbers (wanted_by image numbers)) p rest.1.0,
-            (
-              planned (λ l t b. Played aim (take l after)) p more.0,
-              (
-                planned (λ l t b. Least aim t b) p more.1.0,
-                (planned (λ l t b. First aim list) p last.0, (planned (λ l t b. Only aim list) p last.1.0, short p last.1.1.0)),
-              ),
-            ),
-          ),
-        ),
-      ),
-    )
+    record {
+      answer = ap plan_answer c.answer;
+      memory = c.memory;
+      counted = planned (λ l t b. CountedBy behind (take l after) l t b) p c.counted;
+      demanded = planned (λ l t b. Demanded image numbers (wanted_by image numbers)) p c.demanded;
+      played = planned (λ l t b. Played aim (take l after)) p c.played;
+      least = planned (λ l t b. Least aim t b) p c.least;
+      first = planned (λ l t b. First aim (list_of board numbers limit)) p c.first;
+      only = planned (λ l t b. Only aim (list_of board numbers limit)) p c.only;
+      room = short p c.room;
+    }

@@ -1,5 +1,5 @@
-// What C and Rust link: planning, playing, reading and comparing with settings and answers as numbers, why a register is sent, the house setting, planning,
-// playing and reading captions, and a plan's transactions. A slice is a pointer and a length.
+// The functions that adv7194_c_c, which C and Rust link, exports: planning, playing, reading and comparing with settings and answers as numbers, why a register
+// is sent, the house setting, planning, playing and reading captions, and a plan's transactions.
 #![tactic(auto)]
 
 ghost use Rattle.std.specs.Prelude.{◌≡◌, ◌≤◌, ◌<◌, length, take};

@@ -22,13 +22,12 @@ use Rattle.adv7194_caption_planning.specs.Demands.{CaptionsPlayed, caption_bytes
 use Rattle.adv7194_caption_planning.proofs.PlayedLaws.{captions_played}
 
 -- all that planning promises of an answer, and of what it leaves of the lent plan
-abbrev pub Clauses : List ℤ → List ℤ → ℕ → List ℕ → List ℕ → Verdict Counts → Type 0
-Clauses extended ordinary address plan after v =
-    (v ≡ caption_planning extended ordinary address (length plan))
-    × ((after ≡ caption_plan_left extended ordinary address plan)
-    × (Exactly (caption_row extended ordinary address (length plan)) caption_order (counts_of (caption_list extended ordinary)) v
-    × (((l t b : ℕ) → v ≡ done l t b → CaptionsPlayed extended ordinary (take l after))
-    × ((f : ℕ) → v ≡ refused_at 10 f → length plan < caption_bytes))))
+pub record Clauses (extended ordinary : List ℤ) (address : ℕ) (plan after : List ℕ) (v : Verdict Counts) : Type 0 where
+  pub answer : v ≡ caption_planning extended ordinary address (length plan)
+  pub memory : after ≡ caption_plan_left extended ordinary address plan
+  pub exactly : Exactly (caption_row extended ordinary address (length plan)) caption_order (counts_of (caption_list extended ordinary)) v
+  pub played : (l t b : ℕ) → v ≡ done l t b → CaptionsPlayed extended ordinary (take l after)
+  pub room : (f : ℕ) → v ≡ refused_at 10 f → length plan < caption_bytes
 
 module _ (extended ordinary : List ℤ) (address room : ℕ) where
   -- the pairs of a plan that is answered are right, and its numbers are the list's
@@ -60,13 +59,17 @@ module _ (extended ordinary : List ℤ) (address : ℕ) (plan after : List ℕ) 
       left_packed list plan after l t b k (memory ∙ ap (packed_left list plan) (sym answer ∙ e))
 
   -- what the bytes do
-  played : (l t b : ℕ) → v ≡ done l t b → CaptionsPlayed extended ordinary (take l after)
-  played l t b e =
+  captions : (l t b : ℕ) → v ≡ done l t b → CaptionsPlayed extended ordinary (take l after)
+  captions l t b e =
       let k = planned extended ordinary address (length plan) (record { length = l; transactions = t; bus_bytes = b }) (sym answer ∙ e) in
       rw (left l t b e) (captions_played extended ordinary k.1)
 
   pub clauses : Clauses extended ordinary address plan after v
   unfolding caption_planning
-  clauses =
-      let e = exactly (caption_row extended ordinary address (length plan)) caption_order (counts_of (caption_list extended ordinary)) answer in
-      (answer, (memory, (e, (played, λ f k. too_short extended ordinary address (length plan) f (sym answer ∙ k)))))
+  clauses = record {
+    answer = answer;
+    memory = memory;
+    exactly = exactly (caption_row extended ordinary address (length plan)) caption_order (counts_of (caption_list extended ordinary)) answer;
+    played = captions;
+    room = λ f k. too_short extended ordinary address (length plan) f (sym answer ∙ k);
+  }

@@ -13,13 +13,13 @@ use crate::pairs::{pack_pairs, pairs_right};
 use adv7194_captions::{FIELD, PAIR};
 use bus::address::address_right;
 use bus::cost::bus_bytes;
-use planning::plan::{NO_FIELD, Planned, packed_length};
-use refusals::Refusal;
+use planning::plan::{Packed, packed_length};
+use refusals::{Fault, NO_FIELD, Refusal};
 
 mod pairs;
 
 // Plans the pairs, once they and the address are checked, into the lent plan where it has room.
-fn plan_pairs(extended: &[i32], ordinary: &[i32], plan: &mut [u8]) -> Planned
+fn plan_pairs(extended: &[i32], ordinary: &[i32], plan: &mut [u8]) -> Result<Packed, Fault>
     requires { pairs_right extended.now ordinary.now ≡ true }
     ensures answer { answer_of result ≡ packing_of (caption_list extended.now ordinary.now) (length plan.old) }
     ensures memory { plan.new ≡ plan_after (caption_list extended.now ordinary.now) plan.old }
@@ -28,21 +28,23 @@ fn plan_pairs(extended: &[i32], ordinary: &[i32], plan: &mut [u8]) -> Planned
     let transactions = data_bytes / PAIR as u32;
     let length = packed_length(transactions, data_bytes);
     if (plan.len() as u64) < length {
-        return Planned::Refused {
-            refusal: Refusal::PlanRoom,
-            field: NO_FIELD,
-        };
+        return Err(Refusal::PlanRoom.at(NO_FIELD));
     }
     pack_pairs(plan, transactions as u8, extended, ordinary);
-    Planned::Done {
+    Ok(Packed {
         length: length as u32,
-        transactions: transactions,
+        transactions,
         bus_bytes: bus_bytes(transactions, data_bytes) as u32,
-    }
+    })
 }
 
 // Plans one or both pairs of characters, for the chip at a bus address, into the lent plan. A pair that is not given is empty.
-pub fn plan_captions(extended: &[i32], ordinary: &[i32], address: u32, plan: &mut [u8]) -> Planned
+pub fn plan_captions(
+    extended: &[i32],
+    ordinary: &[i32],
+    address: u32,
+    plan: &mut [u8],
+) -> Result<Packed, Fault>
     ensures answer { answer_of result ≡ caption_planning extended.now ordinary.now address (length plan.old) }
     ensures memory { plan.new ≡ caption_plan_left extended.now ordinary.now address plan.old }
     ensures exactly { Exactly (caption_row extended.now ordinary.now address (length plan.old)) caption_order
@@ -52,16 +54,10 @@ pub fn plan_captions(extended: &[i32], ordinary: &[i32], address: u32, plan: &mu
     ensures room { (f : ℕ) → answer_of result ≡ refused_at 10 f → length plan.old < caption_bytes }
 {
     if !address_right(address) {
-        return Planned::Refused {
-            refusal: Refusal::BusAddress,
-            field: NO_FIELD,
-        };
+        return Err(Refusal::BusAddress.at(NO_FIELD));
     }
     if !pairs_right(extended, ordinary) {
-        return Planned::Refused {
-            refusal: Refusal::OutOfRange,
-            field: FIELD,
-        };
+        return Err(Refusal::OutOfRange.at(FIELD));
     }
     plan_pairs(extended, ordinary, plan)
 }

@@ -10,7 +10,7 @@ ghost use Rattle.adv7194_caption_reading.specs.Answers.{read_as};
 use adv7194_bus::REGISTERS;
 use adv7194_captions::{EXTENDED, FIELD, PAIR, is_odd};
 use bits::maps::has;
-use refusals::Refusal;
+use refusals::{Fault, NO_FIELD, Refusal};
 
 // How many pairs there are: 0 the extended one, 1 the ordinary one.
 const PAIRS: u32 = 2;
@@ -18,49 +18,37 @@ const PAIRS: u32 = 2;
 // How many characters there are: a byte's lowest seven bits are one of them.
 const CHARACTERS: u8 = 0x80;
 
-// What reading a pair answers: its characters, or a refusal at a field.
+// The two characters of a pair.
 #[derive(Clone, Copy)]
-pub enum CaptionsRead {
-    Done { first: u8, second: u8 },
-    Refused { refusal: Refusal, field: u8 },
+pub struct Captions {
+    pub first: u8,
+    pub second: u8,
 }
 
 // Reads a pair of characters, by the pair's number, from a board: an image and the map of its known registers. The byte of a register that is not known
 // means nothing.
-pub fn read_captions(image: &[u8], known: u64, pair: u32) -> CaptionsRead
+pub fn read_captions(image: &[u8], known: u64, pair: u32) -> Result<Captions, Fault>
     ensures answer { read_as result ≡ caption_reading (board_of image.now known) pair }
     ensures exactly { Exactly (caption_read_row (board_of image.now known) pair) caption_read_order (characters_in image.now pair)
         (read_as result) }
 {
     if image.len() != REGISTERS as usize {
-        return CaptionsRead::Refused {
-            refusal: Refusal::ImageLength,
-            field: 0,
-        };
+        return Err(Refusal::ImageLength.at(NO_FIELD));
     }
     if PAIRS <= pair {
-        return CaptionsRead::Refused {
-            refusal: Refusal::OutOfRange,
-            field: FIELD,
-        };
+        return Err(Refusal::OutOfRange.at(FIELD));
     }
     let at = EXTENDED as usize + PAIR * pair as usize;
     if !(has(known, at as u64) & has(known, (at + 1) as u64)) {
-        return CaptionsRead::Refused {
-            refusal: Refusal::RegisterUnknown,
-            field: FIELD,
-        };
+        return Err(Refusal::RegisterUnknown.at(FIELD));
     }
     let first = image[at];
     let second = image[at + 1];
     if !(is_odd(first) & is_odd(second)) {
-        return CaptionsRead::Refused {
-            refusal: Refusal::Reserved,
-            field: FIELD,
-        };
+        return Err(Refusal::Reserved.at(FIELD));
     }
-    CaptionsRead::Done {
+    Ok(Captions {
         first: first % CHARACTERS,
         second: second % CHARACTERS,
-    }
+    })
 }

@@ -31,7 +31,7 @@ const HIGHEST_CHARACTER: i32 = 127;
 pub fn is_character(number: i32) -> bool
     ensures answer { result ≡ is_character number }
 {
-    (0 <= number) & (number <= HIGHEST_CHARACTER)
+    (0..=HIGHEST_CHARACTER).contains(&number)
 }
 
 // The byte that a character leaves as: bit 7 makes its ones odd in number.
@@ -53,13 +53,11 @@ pub fn is_odd(byte: u8) -> bool
 pub fn pair_right(pair: &[i32]) -> bool
     ensures answer { result ≡ pair_right pair.now }
 {
-    if pair.len() == 0 {
-        return true;
+    match pair {
+        [] => true,
+        [first, second] => is_character(*first) & is_character(*second),
+        _ => false,
     }
-    if pair.len() != PAIR {
-        return false;
-    }
-    is_character(pair[0]) & is_character(pair[1])
 }
 
 // Whether a transaction's subaddress and data count are a pair's.

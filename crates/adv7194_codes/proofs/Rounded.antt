@@ -1,8 +1,8 @@
 -- The setting nearest zero of a code that was rounded: hue, and the thousandths of contrast and the scales. Assumes nothing.
 use mathlib.Core.Path.{◌≡◌, refl, sym, ap, ◌∙◌, subst}
-use mathlib.Core.Bool.{Bool, true, false, ◌||◌, ◌&&◌}
+use mathlib.Core.Bool.{true, false, ◌||◌}
 use mathlib.Core.Logic.{◌⊎◌, inl, inr}
-use Prim.Native.Nat.{ℕ, zero, suc, ◌+◌, ◌-◌, ◌*◌, ◌/◌, ◌^◌, ◌≤◌, ◌<◌}
+use Prim.Native.Nat.{ℕ, zero, suc, ◌+◌, ◌-◌, ◌*◌, ◌^◌, ◌≤◌, ◌<◌}
 use native.Mathlib.Nat.{lt_of_not-le, eq-or-lt_of_le, add-zero, zero-add, sub-zero}
 use native.Mathlib.Omega.{arith}
 use lib.Dec.{T, ltb}
@@ -11,12 +11,12 @@ use lib.Signed.{lt_z, non_neg}
 use borrow.Author.Tests.{le-ltb, ltb-false}
 use Rattle.refusals.specs.Refusal.{accepted, refused, value_or}
 use Rattle.rounding.specs.Nearest.{nearest, Nearest, LeastMultiple}
-use Rattle.rounding.proofs.Rounding.{nearest-is, nearest-only, nearestb, nearest_by}
-use Rattle.rounding.proofs.Range.{both_l, both_r, eq_z, eq_z→eq}
+use Rattle.rounding.proofs.Rounding.{nearest-is}
 use Rattle.field_table.specs.declared.row.Row.{Row}
-use Rattle.field_table.specs.Coding.{nearest_times, outside, code_of, code_by, encode, has, decode}
+use Rattle.field_table.specs.Coding.{outside, code_of, code_by, encode, has, decode}
 use Rattle.field_table.specs.Walk.{bits_fit}
 use Rattle.adv7194_table.specs.Fields.{hue}
+use Rattle.adv7194_codes.specs.Signs.{with_sign}
 use Rattle.adv7194_codes.specs.Thousandths.{UpTo, in_thousandths}
 use Rattle.field_table.proofs.Judging.{fits-inside, neither_l, neither_r}
 use Rattle.field_table.proofs.Decoding.{NearestZero, has-inside, has_code, code-has, no_code, decode-found, decode-outside}
@@ -33,19 +33,6 @@ further r j h = go (eq-or-lt_of_le h)
     go : (r ≡ j) ⊎ (r < j) → (pos j ≡ pos r) ⊎ (r < j)
     go (inl e) = inl (ap pos (sym e))
     go (inr l) = inr l
-
--- whether r is the whole number nearest to t times n / d, and that it is
-abbrev pub rounds : ℕ → ℕ → ℤ → ℤ → Bool
-rounds n d (pos m) r = eq_z r (pos (nat_abs r)) && nearestb (n * m) d (nat_abs r)
-rounds n d (negsuc m) r = eq_z r (neg_ℤ (pos (nat_abs r))) && nearestb (n * suc m) d (nat_abs r)
-
-pub rounds→ : (n d : ℕ) (t r : ℤ) → 0 < d → T (rounds n d t r) → r ≡ nearest_times n d t
-rounds→ n d (pos m) r h t =
-    eq_z→eq r (pos (nat_abs r)) (both_l (eq_z r (pos (nat_abs r))) (nearestb (n * m) d (nat_abs r)) t)
-    ∙ ap pos (sym (nearest_by (n * m) d (nat_abs r) h (both_r (eq_z r (pos (nat_abs r))) (nearestb (n * m) d (nat_abs r)) t)))
-rounds→ n d (negsuc m) r h t =
-    eq_z→eq r (neg_ℤ (pos (nat_abs r))) (both_l (eq_z r (neg_ℤ (pos (nat_abs r)))) (nearestb (n * suc m) d (nat_abs r)) t)
-    ∙ ap (λ (k : ℕ). neg_ℤ (pos k)) (sym (nearest_by (n * suc m) d (nat_abs r) h (both_r (eq_z r (neg_ℤ (pos (nat_abs r)))) (nearestb (n * suc m) d (nat_abs r)) t)))
 
 -- ---- hue
 
@@ -106,29 +93,18 @@ hue_down c (suc r) hi l = record {
         let q : m ≤ 224 = below m (has-inside hue c (negsuc m) h) in
         same m (l.least (suc m) (omega (arith, code_below m q, has_code hue c (negsuc m) h, (steps (suc m)).over)))
 
--- the least hue of a number of steps, in one division
-least-hue : (q : ℕ) → LeastMultiple 256 450 q ((900 * q + 61) / 512)
-least-hue q = record {
-  rounds = nearest-only (256 * ((900 * q + 61) / 512)) 450 q (omega arith) (record { under = omega arith; over = omega arith });
-  least = λ j e. omega (arith, e, (steps j).over);
-}
-
--- with the steps' sign
-abbrev pub least_hue : ℤ → ℤ
-least_hue (pos q) = pos ((900 * q + 61) / 512)
-least_hue (negsuc q) = neg_ℤ (pos ((900 * suc q + 61) / 512))
-
--- it is what the code of that many steps from the middle is read as
-pub hue-at : (s : ℤ) → (lt_z s (neg_ℤ (pos 128)) || lt_z (pos 127) s) ≡ false → accepted (least_hue s) ≡ decode hue (nat_abs (pos 128 +ℤ s))
-hue-at (pos q) o =
+-- the hue nearest zero of a number of steps is what the code of that many steps from the middle is read as
+pub hue-at : (s r : ℤ) → (lt_z s (neg_ℤ (pos 128)) || lt_z (pos 127) s) ≡ false → LeastMultiple 256 450 (nat_abs s) (nat_abs r)
+    → r ≡ with_sign s (nat_abs r) → accepted r ≡ decode hue (nat_abs (pos 128 +ℤ s))
+hue-at (pos q) r o l e =
     let small : q ≤ 127 = ltb-false 127 q o in
-    let e : 128 + q - 128 ≡ q = omega arith in
-    decode-found hue (128 + q) (least_hue (pos q)) (hue_up (128 + q) ((900 * q + 61) / 512) (omega arith) (omega arith) (rw e (least-hue q)))
-hue-at (negsuc q) o =
+    let m : 128 + q - 128 ≡ q = omega arith in
+    ap accepted e ∙ decode-found hue (128 + q) (pos (nat_abs r)) (hue_up (128 + q) (nat_abs r) (omega arith) (omega arith) (rw m l))
+hue-at (negsuc q) r o l e =
     let small : q ≤ 127 = ltb-false 127 q (neither_l (ltb 127 q) false o) in
-    let e : 128 - (128 - suc q) ≡ suc q = omega arith in
+    let m : 128 - (128 - suc q) ≡ suc q = omega arith in
     rw (minus 128 (suc q) (omega arith))
-    (decode-found hue (128 - suc q) (least_hue (negsuc q)) (hue_down (128 - suc q) ((900 * suc q + 61) / 512) (omega arith) (rw e (least-hue (suc q)))))
+    (ap accepted e ∙ decode-found hue (128 - suc q) (neg_ℤ (pos (nat_abs r))) (hue_down (128 - suc q) (nat_abs r) (omega arith) (rw m l)))
 
 -- the code of a hue is a byte
 pub hue-fits : (z : ℤ) → value_or 0 (encode hue z) < 2 ^ 8

@@ -1,1 +1,2 @@
 pub mod Thousandths
+pub mod Signs

@@ -4,6 +4,7 @@
 mod brightness;
 mod clamp_delay;
 mod hue;
+mod scaled;
 mod sharpness;
 mod thousandths;
 

@@ -4,12 +4,11 @@ use mathlib.Core.Bool.{Bool, true, false}
 use mathlib.Core.List.{List}
 use Prim.Native.Nat.{ℕ, ◌^◌, ◌<◌}
 use native.Mathlib.Omega.{arith}
-use lib.Dec.{eqb}
 use lib.ListN.{length, get_or}
 use borrow.Author.Tests.{eqb-true, eq-eqb}
 use Rattle.refusals.specs.Verdict.{Verdict, good, refused_at}
 use Rattle.adv7194_bus.specs.Kind.{register_count}
-use Rattle.adv7194_compare.specs.Differences.{fields_differing, registers_differing, map_of, Equal}
+use Rattle.adv7194_compare.specs.Differences.{fields_differing, registers_differing, map_of}
 use Rattle.adv7194_compare.specs.Compare.{Comparison, whole, compare_by, OnlyEqual}
 use Rattle.adv7194_compare.proofs.DifferenceLaws.{fields_map, registers-map}
 use Rattle.adv7194_compare.proofs.EqualLaws.{equal_fields, equal_registers, only_equal}

@@ -1,6 +1,6 @@
 -- Raw codes compared register by register, and numbers that pass a test gathered in a map. Assumes nothing.
 use mathlib.Core.Path.{◌≡◌, refl, sym, ap, ap₂, ◌∙◌}
-use mathlib.Core.Bool.{Bool, true, false, not, cond}
+use mathlib.Core.Bool.{Bool, true, false, not, cond, ◌||◌}
 use mathlib.Core.List.{List, ◌∷◌}
 use Prim.Native.Nat.{ℕ, zero, suc, ◌+◌, ◌-◌, ◌*◌, ◌%◌, ◌^◌, ◌≤◌, ◌<◌}
 use native.Mathlib.Nat.{pow-suc, pow-le-pow_right}
@@ -11,6 +11,8 @@ use lib.Pow.{pow_pos}
 use lib.Dec.{eqb}
 use lib.ListN.{get_or}
 use borrow.Author.Tests.{eqb-true, eq-eqb, ne_eqb}
+use Rattle.std.specs.List.{list_any, range_with_len}
+use Rattle.std.proofs.lemmas.Bool.{eqb-false}
 use Rattle.bits.specs.Bytes.{same_bytes}
 use Rattle.bits.proofs.DigitLaws.{one_shl}
 use Rattle.adv7194_bus.specs.Kind.{register_count, read_only}
@@ -54,18 +56,18 @@ module _ (a b : List ℕ) (n : ℕ) where
       split true e = absurd (h (masked (get_or a r 0) (get_or b r 0) (eqb-true _ _ e)))
       split false e = let g : eqb (own_bits a n r) (own_bits b n r) ≡ false = ne_eqb _ _ h in rw g
 
-  -- the same for a loop's turn, with the registers up to the last
-  pub same_turn : (r : ℕ) → r < register_count → own_bits a n r ≡ own_bits b n r
-      → same_from (r + 1) (register_count - (r + 1)) ≡ same_from r (register_count - r)
-  same_turn r h e =
-      let k : register_count - r ≡ suc (register_count - (r + 1)) = omega arith in
-      ap (λ (x : ℕ). same_from x (register_count - (r + 1))) (add-one r) ∙ sym (same_next r _ e) ∙ sym (ap (same_from r) k)
+  -- some register's bits are not the same, of those from r on, of which there are k
+  pub some_differ : (r k : ℕ) → list_any (λ q. not (eqb (own_bits a n q) (own_bits b n q))) (range_with_len r k) ≡ not (same_from r k)
+  unfolding raw_from same_bytes
+  some_differ r zero = refl
+  some_differ r (suc k) = split (some_differ (r + 1) k) (eqb (own_bits a n r) (own_bits b n r)) refl
+    where
+      tests : Bool
+      tests = list_any (λ q. not (eqb (own_bits a n q) (own_bits b n q))) (range_with_len (r + 1) k)
 
-  pub other_turn : (r : ℕ) → r < register_count → (own_bits a n r ≡ own_bits b n r → ⊥) → same_from r (register_count - r) ≡ false
-  other_turn r h e = let k : register_count - r ≡ suc (register_count - (r + 1)) = omega arith in ap (same_from r) k ∙ other_here r _ e
-
-  pub same_end : (r : ℕ) → register_count ≤ r → same_from r (register_count - r) ≡ true
-  same_end r h = let k : register_count - r ≡ 0 = omega arith in ap (same_from r) k ∙ same_none r
+      split : tests ≡ not (same_from (r + 1) k) → (t : Bool) → eqb (own_bits a n r) (own_bits b n r) ≡ t → (not t || tests) ≡ not (same_from r (suc k))
+      split h true e = h ∙ ap (λ (q : ℕ). not (same_from q k)) (add-one r) ∙ ap not (sym (same_next r k (eqb-true _ _ e)))
+      split h false e = ap not (sym (other_here r k (eqb-false _ _ e)))
 
 -- ---- maps
 

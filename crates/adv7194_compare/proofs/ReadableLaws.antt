@@ -6,7 +6,10 @@ use Prim.Native.Nat.{ℕ}
 use lib.Dec.{eqb}
 use lib.IntN.{ℤ}
 use lib.ListN.{length}
-use Rattle.refusals.specs.Verdict.{Verdict, good, refused_at, left_by}
+use Rattle.std.specs.Prelude.{Result, Ok, Err}
+use Rattle.std.specs.Result.{is_ok}
+use Rattle.refusals.specs.declared.Fault.{Fault}
+use Rattle.refusals.specs.Verdict.{Verdict, good, refused_at, left_by, verdict_as}
 use Rattle.adv7194_bus.specs.Board.{board_of, all_known}
 use Rattle.adv7194_table.specs.Fields.{number_count}
 use Rattle.adv7194_settings.specs.Held.{settings_held}
@@ -14,6 +17,11 @@ use Rattle.adv7194_settings.specs.Rows.{judge_of}
 use Rattle.adv7194_settings.specs.Reading.{read_of, read_left}
 use Rattle.adv7194_settings.proofs.ReadingLaws.{read_known}
 use Rattle.adv7194_compare.specs.Compare.{is_good, whole, is_taken, taken_into}
+
+-- a function's answer is Ok where the verdict is good
+pub good_ok : (r : Result (Unit {0}) Fault) → is_ok r ≡ is_good (verdict_as r)
+good_ok (Ok u) = refl
+good_ok (Err e) = refl
 
 -- whether it is taken is whether reading answers good
 pub taken-good : (image : List ℕ) (count : ℕ) → is_good (read_of (board_of image all_known) count) ≡ is_taken image count

@@ -1,14 +1,14 @@
 -- Document 02, P1: two images side by side. Refusal 1 for either image; else whether reading takes both, so that settings are shown and not raw codes, the
 -- fields that differ, and the registers that do outside all fields.
-use Rattle.std.specs.Prelude.{◌≡◌, Bool, true, false, cond, ◌&&◌, List, ℕ, eqb, ℤ, length}
+use Rattle.std.specs.Prelude.{◌≡◌, Bool, true, false, cond, ◌&&◌, List, ℕ, eqb, ℤ, length, Result, Ok, Err}
 use Rattle.refusals.specs.Refusal.{number_of}
 use Rattle.refusals.specs.Verdict.{Verdict, good, refused_at}
 use Rattle.adv7194_bus.specs.Kind.{register_count}
 use Rattle.adv7194_table.specs.Fields.{number_count}
 use Rattle.adv7194_settings.specs.Held.{settings_held}
 use Rattle.adv7194_settings.specs.Rows.{judge_of}
-use Rattle.adv7194_compare.specs.declared.Compared.{Compared}
-use Rattle.adv7194_compare.specs.declared.Compared.TheVariants.{Done, Refused}
+use Rattle.refusals.specs.declared.Fault.{Fault}
+use Rattle.adv7194_compare.specs.declared.differences.Differences as declared
 use Rattle.adv7194_compare.specs.Differences.{fields_differing, registers_differing, map_of, Equal}
 
 -- what two images of the right length are, side by side: fields and registers as maps
@@ -18,9 +18,9 @@ pub record Comparison : Type 0 where
   pub registers : ℕ
 
 -- what each case of the answer stands for
-abbrev pub compared_as : Compared → Verdict Comparison
-compared_as (Done both fs rs) = good (record { readable = both; fields = fs; registers = rs })
-compared_as (Refused r f) = refused_at (number_of r) f
+abbrev pub compared_as : Result declared.Differences Fault → Verdict Comparison
+compared_as (Ok d) = good (record { readable = d.readable; fields = d.fields; registers = d.registers })
+compared_as (Err e) = refused_at (number_of e.refusal) e.field
 
 -- a verdict is good
 abbrev pub is_good : Verdict (Unit {0}) → Bool

@@ -12,18 +12,21 @@ pub const LAST_FIELD: u8 = 28;
 // The register that is only read, which is never compared.
 const READ_ONLY: usize = 0x34;
 
+// Two images of the right length: whether reading takes both, the fields that differ, and the registers that differ in bits outside all fields. Bit n of
+// a map is set for field or register n.
+#[derive(Clone, Copy, PartialEq, Eq)]
+pub struct Differences {
+    pub readable: bool,
+    pub fields: u32,
+    pub registers: u64,
+}
+
 // Whether a field differs: whether any of its bits does, must-be-zero bits too.
 pub fn field_differs(a: &[u8], b: &[u8], field: u8) -> bool
     ensures answer { result ≡ field_differs a.now b.now field }
 {
-    let mut register: usize = 0;
-    while register < REGISTERS as usize {
-        if own_bits(a, field, register) != own_bits(b, field, register) {
-            return true;
-        }
-        register += 1;
-    }
-    false
+    (0..REGISTERS as usize).any(|register| own_bits(a, field, register)
+        != own_bits(b, field, register))
 }
 
 // The fields that differ.
@@ -31,12 +34,10 @@ pub fn fields_differing(a: &[u8], b: &[u8]) -> u32
     ensures answer { result ≡ map_of (fields_differing a.now b.now) }
 {
     let mut map: u32 = 0;
-    let mut field: u8 = 1;
-    while field <= LAST_FIELD {
+    for field in 1..=LAST_FIELD {
         if field_differs(a, b, field) {
             map += 1 << field;
         }
-        field += 1;
     }
     map
 }
@@ -57,12 +58,10 @@ pub fn registers_differing(a: &[u8], b: &[u8]) -> u64
     ensures answer { result ≡ map_of (registers_differing a.now b.now) }
 {
     let mut map: u64 = 0;
-    let mut register: usize = 0;
-    while register < REGISTERS as usize {
+    for register in 0..REGISTERS as usize {
         if register_differs(a, b, register) {
             map += 1 << register;
         }
-        register += 1;
     }
     map
 }

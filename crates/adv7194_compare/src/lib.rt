@@ -8,30 +8,14 @@ use adv7194_bus::REGISTERS;
 use adv7194_bus::board::ALL_KNOWN;
 use adv7194_reading::read;
 pub use differences::{
-    LAST_FIELD, field_differs, fields_differing, register_differs, registers_differing,
+    Differences, LAST_FIELD, field_differs, fields_differing, register_differs, registers_differing,
 };
-use field_table::Checked;
-use refusals::Refusal;
+use refusals::{Fault, NO_FIELD, Refusal};
 
 mod differences;
 
 // How many numbers settings are.
 const NUMBERS: usize = 49;
-
-// Two images of the right length: whether reading takes both, the fields that differ, and the registers that differ in bits outside all fields. Bit n of
-// a map is set for field or register n. Or a refusal with its field.
-#[derive(Clone, Copy)]
-pub enum Compared {
-    Done {
-        readable: bool,
-        fields: u32,
-        registers: u64,
-    },
-    Refused {
-        refusal: Refusal,
-        field: u8,
-    },
-}
 
 // Whether an image has the right length.
 pub fn whole(image: &[u8]) -> bool
@@ -41,27 +25,21 @@ pub fn whole(image: &[u8]) -> bool
 }
 
 // Two images side by side, where it is known whether reading takes both.
-fn compare_by(readable: bool, a: &[u8], b: &[u8]) -> Compared
+fn compare_by(readable: bool, a: &[u8], b: &[u8]) -> Result<Differences, Fault>
     ensures answer { compared_as result ≡ compare_by readable a.now b.now }
     ensures equal { OnlyEqual a.now b.now (compared_as result) }
 {
     if !whole(a) {
-        return Compared::Refused {
-            refusal: Refusal::ImageLength,
-            field: 0,
-        };
+        return Err(Refusal::ImageLength.at(NO_FIELD));
     }
     if !whole(b) {
-        return Compared::Refused {
-            refusal: Refusal::ImageLength,
-            field: 0,
-        };
+        return Err(Refusal::ImageLength.at(NO_FIELD));
     }
-    Compared::Done {
+    Ok(Differences {
         readable,
         fields: fields_differing(a, b),
         registers: registers_differing(a, b),
-    }
+    })
 }
 
 // Whether reading takes an image, whose settings are then left in the 49 lent numbers.
@@ -69,11 +47,7 @@ pub fn taken(image: &[u8], numbers: &mut [i32]) -> bool
     ensures answer { result ≡ is_taken image.now (length numbers.old) }
     ensures memory { numbers.new ≡ taken_into image.now numbers.old }
 {
-    let answer = read(image, ALL_KNOWN, numbers);
-    let Checked::Good = answer else {
-        return false;
-    };
-    true
+    read(image, ALL_KNOWN, numbers).is_ok()
 }
 
 // Whether reading takes an image.
@@ -95,7 +69,7 @@ fn both_readable(a: &[u8], b: &[u8]) -> bool
 }
 
 // Two images side by side.
-pub fn compare(a: &[u8], b: &[u8]) -> Compared
+pub fn compare(a: &[u8], b: &[u8]) -> Result<Differences, Fault>
     ensures answer { compared_as result ≡ compare_of a.now b.now }
     ensures equal { OnlyEqual a.now b.now (compared_as result) }
 {

@@ -1,20 +1,17 @@
 -- A curve's seven bytes: those that are set are accepted where each number is a byte, and refused else; those that are read mean themselves.
 -- Assumes nothing.
-use mathlib.Core.Path.{◌≡◌, refl, sym, ap, subst}
-use mathlib.Core.Bool.{true, false, cond, ◌&&◌, ◌||◌}
+use mathlib.Core.Path.{◌≡◌, sym, subst}
+use mathlib.Core.Bool.{true, false, cond}
 use mathlib.Core.List.{List, [], ◌∷◌, map}
 use Prim.Native.Nat.{ℕ, zero, suc, ◌+◌, ◌≤◌, ◌<◌}
-use native.Mathlib.Numerals.{add-one}
 use native.Mathlib.Omega.{arith}
 use lib.Dec.{T, leb, leb→le, lit<}
 use lib.IntN.{ℤ, pos, negsuc, nat_abs}
 use lib.ListN.{length, get_or, drop}
 use lib.Seq.{drop-cons, drop-length, get_or-drop}
-use lib.Signed.{lt_z, non_neg}
-use mir.Syntax.{w8, w32}
-use mir.Val.{Fits}
+use lib.Signed.{non_neg}
+use mir.Syntax.{w32}
 use mir.ValLaws.{to_z-of_z}
-use borrow.Author.Tests.{ltb-true, ltb-false, le-ltb, le-leb, lt-leb}
 use Rattle.refusals.specs.Refusal.{Judged, accepted, refused}
 use Rattle.rounding.proofs.Range.{both_l, both_r, back}
 use Rattle.field_table.specs.Blocks.{between}
@@ -36,23 +33,6 @@ pub byte-back : (z : ℤ) → Byte z → back w32 z ≡ z
 byte-back (pos n) b = to_z-of_z w32 (pos n) (record { sfits = omega (arith, b.most) })
 byte-back (negsuc n) b = absurd b.sign
 
--- and can cast it
-pub byte_cast : (z : ℤ) → Byte z → T (non_neg (back w32 z)) × Fits w8 (nat_abs (back w32 z))
-byte_cast z b = rw (byte-back z b) (b.sign, record { fits = omega (arith, b.most) })
-
--- the machine's tests of one that is none, and of one that is
-pub no_byte : (z : ℤ) → (lt_z z (pos 0) || lt_z (pos 255) z) ≡ true → between 0 255 z ≡ false
-no_byte (pos n) h =
-    let above = ltb-true 255 n (rw (le-ltb n 0 (omega arith)) at h) in
-    rw (lt-leb n 255 above, le-leb 0 n (omega arith))
-no_byte (negsuc n) h = refl
-
-pub a_byte : (z : ℤ) → (lt_z z (pos 0) || lt_z (pos 255) z) ≡ false → between 0 255 z ≡ true
-a_byte (pos n) h =
-    let within = ltb-false 255 n (rw (le-ltb n 0 (omega arith)) at h) in
-    rw (le-leb n 255 within, le-leb 0 n (omega arith))
-a_byte (negsuc n) h = absurd (subst T h tt)
-
 -- ---- the numbers of a curve
 
 -- each number of a list that is all bytes
@@ -64,10 +44,6 @@ byte_in (z ∷ zs) t (suc i) = byte_in zs (both_r (between 0 255 z) _ t) i
 -- each after the third
 pub byte_at : (zs : List ℤ) → all_bytes (drop 3 zs) ≡ true → (i : ℕ) → Byte (get_or zs (3 + i) (pos 0))
 byte_at zs e i = subst Byte (get_or-drop 3 zs i (pos 0)) (byte_in (drop 3 zs) (subst T (sym e) tt) i)
-
--- one number, and those after it
-pub from_on : (zs : List ℤ) (i : ℕ) → i < length zs → all_bytes (drop i zs) ≡ (between 0 255 (get_or zs i (pos 0)) && all_bytes (drop (i + 1) zs))
-from_on zs i h = rw (add-one i, drop-cons zs i (pos 0) h)
 
 -- the seven of them
 pub seven : (zs : List ℤ) → length zs ≡ 10

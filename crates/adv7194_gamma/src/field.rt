@@ -2,20 +2,14 @@
 ghost use Rattle.std.specs.Prelude.{◌≡◌, true, cond, map, ◌+◌, ◌≤◌, leb, nat_abs, length, drop};
 ghost use Rattle.refusals.specs.Refusal.{accepted, refused};
 ghost use Rattle.adv7194_gamma.specs.Curve.{all_bytes, curve_codes};
-ghost use Rattle.adv7194_gamma.specs.Answer.{bytes_in, judged, curve_read_as};
+ghost use Rattle.adv7194_gamma.specs.Answer.{bytes_in, judged};
 ghost use Rattle.field_table.specs.Blocks.{slice};
 
-use crate::{Coded, Points, curve};
+use crate::{Points, curve};
 use refusals::Refusal;
 
-// The bytes of a curve in an image, or the refusal of an image that ends before them.
-#[derive(Clone, Copy)]
-pub enum CurveRead {
-    Points(Points),
-    Refused(Refusal),
-}
-
-// The kinds: the ratio of the second number and the third, and the bytes that follow them.
+// The kinds: the ratio of the second number and the third, and the bytes that follow them. They are told apart in `curve_code` alone, on the number that C hands
+// in: an enum and its conversion would be longer than the two tests.
 const RATIO: i32 = 0;
 
 const BYTES: i32 = 1;
@@ -33,15 +27,9 @@ fn all_bytes(numbers: &[i32]) -> bool
     requires { 3 ≤ length numbers.now }
     ensures answer { result ≡ all_bytes (drop 3 numbers.now) }
 {
-    let mut i = FIRST_BYTE;
-    while i < numbers.len() {
-        let number = numbers[i];
-        if (number < 0) | (BYTE_TOP < number) {
-            return false;
-        }
-        i += 1;
-    }
-    true
+    numbers[FIRST_BYTE..]
+        .iter()
+        .all(|number| (0 <= *number) & (*number <= BYTE_TOP))
 }
 
 // Those bytes.
@@ -61,7 +49,7 @@ fn points(numbers: &[i32]) -> Points
 }
 
 // The curve of ten numbers, or refusal 3.
-pub fn curve_code(numbers: &[i32]) -> Coded
+pub fn curve_code(numbers: &[i32]) -> Result<Points, Refusal>
     requires { length numbers.now ≡ 10 }
     ensures answer { judged result ≡ curve_codes numbers.now }
 {
@@ -70,23 +58,23 @@ pub fn curve_code(numbers: &[i32]) -> Coded
     }
     if numbers[0] == BYTES {
         if all_bytes(numbers) {
-            return Coded::Curve(points(numbers));
+            return Ok(points(numbers));
         }
     }
-    Coded::Refused(Refusal::OutOfRange)
+    Err(Refusal::OutOfRange)
 }
 
 // The curve in the seven registers from this one on, or refusal 1.
-pub fn curve_setting(image: &[u8], register: usize) -> CurveRead
-    ensures answer { curve_read_as result ≡ cond (leb (register + 7) (length image.now)) (accepted (slice 0 image.now register 7)) (refused 1) }
+pub fn curve_setting(image: &[u8], register: usize) -> Result<Points, Refusal>
+    ensures answer { judged result ≡ cond (leb (register + 7) (length image.now)) (accepted (slice 0 image.now register 7)) (refused 1) }
 {
     if image.len() < BYTE_COUNT {
-        return CurveRead::Refused(Refusal::ImageLength);
+        return Err(Refusal::ImageLength);
     }
     if image.len() - BYTE_COUNT < register {
-        return CurveRead::Refused(Refusal::ImageLength);
+        return Err(Refusal::ImageLength);
     }
-    CurveRead::Points(Points {
+    Ok(Points {
         b0: image[register],
         b1: image[register + 1],
         b2: image[register + 2],

@@ -24,13 +24,6 @@ pub struct Points {
     pub b6: u8,
 }
 
-// What a ratio gives: its curve, or a refusal.
-#[derive(Clone, Copy)]
-pub enum Coded {
-    Curve(Points),
-    Refused(Refusal),
-}
-
 // The least number of a ratio, and the greatest.
 const FIRST: i32 = 1;
 
@@ -87,12 +80,12 @@ fn inside(n: i32) -> bool
 }
 
 // The curve of the ratio p / q.
-pub fn curve(p: i32, q: i32) -> Coded
+pub fn curve(p: i32, q: i32) -> Result<Points, Refusal>
     ensures answer { judged result ≡ curve_of p q }
     ensures nearest { NearestBytes p q (judged result) }
 {
     if inside(p) & inside(q) {
-        return Coded::Curve(of_pair(ROW * p as u32 + q as u32));
+        return Ok(of_pair(ROW * p as u32 + q as u32));
     }
-    Coded::Refused(Refusal::OutOfRange)
+    Err(Refusal::OutOfRange)
 }

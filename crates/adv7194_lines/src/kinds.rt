@@ -10,7 +10,7 @@ use adv7194_names::values::put_flag;
 use template::fill_column;
 use writing::{number_at, put_number};
 
-// The kinds of signalling.
+// The kinds of signalling, and those of curve below. Numbers of the settings, where any other number has a text of its own.
 const OFF: i32 = 0;
 
 const CGMS: i32 = 1;

@@ -61,10 +61,8 @@ fn row_lines(line: &mut [u8], at: usize, numbers: &[i32], rows: &[u64]) -> usize
     ensures written { Put (line_width * length rows.now) line.old at (flat_map (line_of numbers.now) (map single (plain_fields rows.now))) line.new result }
 {
     let mut place = at;
-    let mut i: usize = 0;
-    while i < rows.len() {
-        place = row_line(line, place, numbers, rows[i]);
-        i += 1;
+    for packed in rows {
+        place = row_line(line, place, numbers, *packed);
     }
     place
 }

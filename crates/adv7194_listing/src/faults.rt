@@ -9,13 +9,13 @@ ghost use Rattle.adv7194_listing.specs.Faults.{field_row, fault_words, fault_tex
 ghost use Rattle.adv7194_listing.specs.Words.{word_table, reserved_words, conflict_words, words_of, shown_numbers};
 ghost use Rattle.adv7194_lines.specs.Lines.{label_text};
 
-use adv7194_lines::lines::{ROWS, put_label};
+use adv7194_lines::lines::put_label;
 use adv7194_names::columns::{NAME, put_column};
 use adv7194_signalling::kind::{SignallingKind, kind};
 use adv7194_table::rows::rows;
 use field_table::held;
 use field_table::row::{Row, row_of};
-use refusals::Refusal;
+use refusals::{Fault, Refusal};
 use template::fill_column;
 use text::put;
 use writing::put_counted;
@@ -57,14 +57,11 @@ const NO_WORDS: usize = 12;
 pub fn field_row(field: u8) -> Row
     ensures answer { result ≡ field_row field }
 {
-    let table = rows();
-    let mut i: usize = 0;
-    while i < ROWS {
-        let row = row_of(table[i]);
+    for packed in rows() {
+        let row = row_of(packed);
         if row.field == field {
             return row;
         }
-        i += 1;
     }
     Row {
         field: 0,
@@ -82,13 +79,11 @@ pub fn field_row(field: u8) -> Row
 pub fn byte_at(image: &[u8], register: usize) -> u8
     ensures answer { result ≡ get_or image.now register 0 }
 {
-    if register < image.len() {
-        return image[register];
-    }
-    0
+    image.get(register).copied().unwrap_or(0)
 }
 
 // The table of words.
+#[tactic(auto, unfolding(crate::specs::Words::words, template::specs::Columns::words_text))]
 fn words() -> [u8; SIZE]
     ensures answer { result ≡ word_table }
 {
@@ -96,6 +91,7 @@ fn words() -> [u8; SIZE]
 }
 
 // Which words tell a reserved code: signalling's bytes, must-be-zero bits, or a field's code.
+#[tactic(auto, unfolding(crate::specs::Words::reserved_words))]
 fn reserved_words(field: u8) -> usize
     ensures answer { result ≡ reserved_words field }
 {
@@ -112,16 +108,16 @@ fn reserved_words(field: u8) -> usize
 fn conflict_words(r19: u8) -> usize
     ensures answer { result ≡ conflict_words r19 }
 {
-    let found = kind(r19);
-    match found {
-        SignallingKind::Off => NO_WORDS,
-        SignallingKind::Cgms => 6,
-        SignallingKind::Wss => 7,
-        SignallingKind::Refused(_) => 8,
+    match kind(r19) {
+        Ok(SignallingKind::Off) => NO_WORDS,
+        Ok(SignallingKind::Cgms) => 6,
+        Ok(SignallingKind::Wss) => 7,
+        Err(_) => 8,
     }
 }
 
 // Which words tell a refusal; none for a wrong length, whose words have a count.
+#[tactic(auto, unfolding(crate::specs::Words::words_of))]
 fn words_of(refusal: Refusal, field: u8, r19: u8) -> usize
     ensures answer { result ≡ words_of (number_of refusal) field r19 }
 {
@@ -133,14 +129,13 @@ fn words_of(refusal: Refusal, field: u8, r19: u8) -> usize
         Refusal::SignallingConflict => conflict_words(r19),
         Refusal::Disagreement => { if field == WORD_FIELD { 9 } else { 10 } }
         Refusal::RegisterUnknown => 11,
-        Refusal::ImageLength => NO_WORDS,
-        Refusal::BusAddress => NO_WORDS,
-        Refusal::PlanBytes => NO_WORDS,
-        Refusal::PlanRoom => NO_WORDS,
+        Refusal::ImageLength | Refusal::BusAddress | Refusal::PlanBytes | Refusal::PlanRoom =>
+            NO_WORDS,
     }
 }
 
 // The numbers that words show: signalling's three bytes, or the code that a field holds.
+#[tactic(auto, unfolding(crate::specs::Words::shown_numbers))]
 fn shown(image: &[u8], field: u8, column: usize) -> [i32; 3]
     ensures answer { result ≡ shown_numbers image.now field column }
 {
@@ -155,15 +150,19 @@ fn shown(image: &[u8], field: u8, column: usize) -> [i32; 3]
 }
 
 // Writes a refusal in words, after a colon.
-fn put_words(line: &mut [u8], at: usize, image: &[u8], refusal: Refusal, field: u8) -> usize
+fn put_words(line: &mut [u8], at: usize, image: &[u8], fault: Fault) -> usize
     requires { at + words_width ≤ length line.old }
-    ensures written { Put words_width line.old at (ascii ": " ++ fault_words image.now (number_of refusal) field) line.new result }
+    ensures written { Put words_width line.old at (ascii ": " ++ fault_words image.now (number_of fault.refusal) fault.field) line.new result }
 {
-    if refusal.number() == 1 {
+    if fault.refusal == Refusal::ImageLength {
         return put_counted(line, at, b": ", image.len() as u64, b" bytes, not 54");
     }
-    let column = words_of(refusal, field, byte_at(image, SIGNALLING_REGISTER));
-    let numbers = shown(image, field, column);
+    let column = words_of(
+        fault.refusal,
+        fault.field,
+        byte_at(image, SIGNALLING_REGISTER),
+    );
+    let numbers = shown(image, fault.field, column);
     let words = words();
     fill_column(line, at, &words, column, &numbers, 0)
 }
@@ -180,17 +179,11 @@ fn put_place(line: &mut [u8], at: usize, field: u8) -> usize
 }
 
 // Writes the line that says what is at fault.
-pub(crate) fn fault_line(
-    line: &mut [u8],
-    at: usize,
-    image: &[u8],
-    refusal: Refusal,
-    field: u8,
-) -> usize
+pub(crate) fn fault_line(line: &mut [u8], at: usize, image: &[u8], fault: Fault) -> usize
     requires { at + line_width ≤ length line.old }
-    ensures written { Put line_width line.old at (fault_text image.now (number_of refusal) field) line.new result }
+    ensures written { Put line_width line.old at (fault_text image.now (number_of fault.refusal) fault.field) line.new result }
 {
-    let place = put_place(line, at, field);
-    let words = put_words(line, place, image, refusal, field);
+    let place = put_place(line, at, fault.field);
+    let words = put_words(line, place, image, fault);
     put(line, words, b"\n")
 }

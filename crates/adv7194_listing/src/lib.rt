@@ -17,24 +17,23 @@ use adv7194_lines::lines::{NUMBERS, setting_lines};
 use adv7194_reading::read;
 use faults::fault_line;
 pub use faults::{byte_at, field_row};
-use field_table::Checked;
 use listing::refused_line;
-use refusals::Refusal;
-use text::{Place, append, put};
+use refusals::Fault;
+use text::{append, put};
 
 // Room for the text of any board.
 pub const TEXT_WIDTH: usize = 4096;
 
 // Writes the two lines of a refusal, and answers the place after them.
-fn refused_text(line: &mut [u8], image: &[u8], refusal: Refusal, field: u8) -> usize
+fn refused_text(line: &mut [u8], image: &[u8], fault: Fault) -> usize
     requires { text_width ≤ length line.old }
-    ensures written { Put text_width line.old 0 (refused_line (number_of refusal) field ++ fault_text image.now (number_of refusal) field) line.new result }
+    ensures written { Put text_width line.old 0 (refused_line (number_of fault.refusal) fault.field ++ fault_text image.now (number_of fault.refusal) fault.field) line.new result }
 {
-    let first = refused_line(refusal.number(), field);
+    let first = refused_line(fault.refusal.number(), fault.field);
     let bytes = first.bytes;
     let end = first.length;
     let second = put(line, 0, &bytes[0..end]);
-    fault_line(line, second, image, refusal, field)
+    fault_line(line, second, image, fault)
 }
 
 // Writes the text of a board, and answers the place after it.
@@ -43,15 +42,14 @@ fn compose(line: &mut [u8], image: &[u8], known: u64) -> usize
     ensures written { Put text_width line.old 0 (settings_text (board_of image.now known)) line.new result }
 {
     let mut numbers = [0i32; NUMBERS];
-    let answer = read(image, known, &mut numbers);
-    match answer {
-        Checked::Good => setting_lines(line, &numbers),
-        Checked::Refused { refusal, field } => refused_text(line, image, refusal, field),
+    match read(image, known, &mut numbers) {
+        Ok(()) => setting_lines(line, &numbers),
+        Err(fault) => refused_text(line, image, fault),
     }
 }
 
 // Writes the text of a board at the front of a lent one, or nothing where it does not fit. The board is an image and the map of its known registers.
-pub fn settings_text(image: &[u8], known: u64, out: &mut [u8]) -> Place
+pub fn settings_text(image: &[u8], known: u64, out: &mut [u8]) -> Option<usize>
     ensures answer { result ≡ place_after out.old 0 (settings_text (board_of image.now known)) }
     ensures memory { out.new ≡ appended out.old 0 (settings_text (board_of image.now known)) }
     ensures most { length (settings_text (board_of image.now known)) ≤ text_width }

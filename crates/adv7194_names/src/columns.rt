@@ -9,7 +9,7 @@ ghost use Rattle.adv7194_names.specs.Widths.{column_width};
 use template::columns::{column_end, column_start};
 use text::put;
 
-// How many columns a line has, and which they are.
+// How many columns a line has, and which they are. Numbers, since they index the table, and `put_column` takes any below four.
 const COLUMNS: usize = 4;
 
 pub const NAME: usize = 0;

@@ -30,22 +30,24 @@ use Rattle.adv7194_least.proofs.Joined.{plan-only}
 use Rattle.adv7194_least.proofs.Room.{plan-room, wide_room}
 use Rattle.adv7194_planning.specs.Rows.{list_of, row_planned, plan_order}
 use Rattle.adv7194_planning.specs.Planning.{planning_of, plan_left}
-use Rattle.adv7194_planning.proofs.CaseLaws.{unfixed}
+use Rattle.adv7194_planning.proofs.CaseLaws.{unfixed, refuse}
 use Rattle.adv7194_planning.proofs.Outcomes.{none-among, Passed, Outcome, early, short, planned, outcome}
 
 -- all that planning promises of an answer, and of what it leaves of the lent plan
 abbrev pub Clauses : Board → List ℤ → ℕ → ℕ → List ℕ → List ℕ → Verdict Counts → Type 0
 Clauses board zs address limit plan after v =
-    (v ≡ planning_of board zs address limit (length plan))
-    × ((after ≡ plan_left board zs address limit plan)
-    × (((l t b : ℕ) → v ≡ done l t b → CountedBy behind (take l after) l t b)
-    × (((l t b : ℕ) → v ≡ done l t b → Demanded board.registers zs (wanted_by board.registers zs))
-    × (((l t b : ℕ) → v ≡ done l t b → Played (aim_of board zs limit) (take l after))
-    × (((l t b : ℕ) → v ≡ done l t b → Least (aim_of board zs limit) t b)
-    × (((l t b : ℕ) → v ≡ done l t b → First (aim_of board zs limit) (list_of board zs limit))
-    × (((l t b : ℕ) → v ≡ done l t b → Only (aim_of board zs limit) (list_of board zs limit))
-    × (((f : ℕ) → v ≡ refused_at 10 f → (length plan < most_bytes) × (wide_limit ≤ limit → length plan < wide_bytes))
-    × Exactly (row_planned board zs address limit (length plan)) plan_order (counts_of (list_of board zs limit)) v))))))))
+    record {
+      answer : v ≡ planning_of board zs address limit (length plan);
+      memory : after ≡ plan_left board zs address limit plan;
+      counted : (l t b : ℕ) → v ≡ done l t b → CountedBy behind (take l after) l t b;
+      demanded : (l t b : ℕ) → v ≡ done l t b → Demanded board.registers zs (wanted_by board.registers zs);
+      played : (l t b : ℕ) → v ≡ done l t b → Played (aim_of board zs limit) (take l after);
+      least : (l t b : ℕ) → v ≡ done l t b → Least (aim_of board zs limit) t b;
+      first : (l t b : ℕ) → v ≡ done l t b → First (aim_of board zs limit) (list_of board zs limit);
+      only : (l t b : ℕ) → v ≡ done l t b → Only (aim_of board zs limit) (list_of board zs limit);
+      room : (f : ℕ) → v ≡ refused_at 10 f → (length plan < most_bytes) × (wide_limit ≤ limit → length plan < wide_bytes);
+      judged : Exactly (row_planned board zs address limit (length plan)) plan_order (counts_of (list_of board zs limit)) v;
+    }
 
 module _ (board : Board) (zs : List ℤ) (limit room : ℕ) where
   -- an answered plan: all before the room has passed, and the numbers are the list's
@@ -133,4 +135,20 @@ module _ (board : Board) (zs : List ℤ) (limit : ℕ) (bytes : (r : ℕ) → ge
 
     -- all that planning promises
     pub clauses : Clauses board zs address limit plan after v
-    clauses = (answer, (memory, (counted, (wanted, (played, (least, (first, (only, (room, judged)))))))))
+    clauses = record {
+      answer = answer;
+      memory = memory;
+      counted = counted;
+      demanded = wanted;
+      played = played;
+      least = least;
+      first = first;
+      only = only;
+      room = room;
+      judged = judged;
+    }
+
+  -- a refusal leaves the lent plan
+  pub refusal : (address : ℕ) (plan : List ℕ) (n f : ℕ) → planning_of board zs address limit (length plan) ≡ refused_at n f
+      → Clauses board zs address limit plan plan (refused_at n f)
+  refusal address plan n f e = clauses address plan plan (refused_at n f) (sym e) (refuse board zs address limit plan n f e)

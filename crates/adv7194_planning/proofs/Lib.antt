@@ -8,3 +8,4 @@ pub mod Outcomes
 pub mod KnownLaws
 pub mod Clauses
 pub mod NoLimit
+pub mod Checked

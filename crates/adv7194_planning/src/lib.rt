@@ -23,9 +23,8 @@ use crate::registers::{fixed_registers, register_maps};
 use adv7194_bus::REGISTERS;
 use adv7194_bus::board::{Board, board_of};
 use bus::address::address_right;
-use field_table::Checked;
-use planning::plan::{NO_FIELD, Planned, pack};
-use refusals::Refusal;
+use planning::plan::{Packed, pack};
+use refusals::{Fault, NO_FIELD, Refusal};
 
 mod checks;
 pub mod registers;
@@ -33,7 +32,13 @@ pub mod registers;
 pub use checks::check;
 
 // Plans the change from a board to a wanted image, of which every bit of the registers of a map is fixed, with a limit, into the lent plan.
-fn plan_change(board: Board, fixed: u64, wanted: &[u8], limit: u32, plan: &mut [u8]) -> Planned
+fn plan_change(
+    board: Board,
+    fixed: u64,
+    wanted: &[u8],
+    limit: u32,
+    plan: &mut [u8],
+) -> Result<Packed, Fault>
     requires { Change (aim_by board wanted.now fixed limit) }
     ensures answer { answer_of result ≡ packing_of (plan_of (aim_by board wanted.now fixed limit)) (length plan.old) }
     ensures memory { plan.new ≡ plan_after (plan_of (aim_by board wanted.now fixed limit)) plan.old }
@@ -58,7 +63,7 @@ pub fn plan(
     address: u32,
     limit: u32,
     plan: &mut [u8],
-) -> Planned
+) -> Result<Packed, Fault>
     ensures answer { answer_of result ≡ planning_of (board_of image.now known) numbers.now address limit (length plan.old) }
     ensures memory { plan.new ≡ plan_left (board_of image.now known) numbers.now address limit plan.old }
     ensures counted { (l t b : ℕ) → answer_of result ≡ done l t b → CountedBy behind (take l plan.new) l t b }
@@ -74,21 +79,13 @@ pub fn plan(
         (counts_of (list_of (board_of image.now known) numbers.now limit)) (answer_of result) }
 {
     if image.len() != REGISTERS as usize {
-        return Planned::Refused {
-            refusal: Refusal::ImageLength,
-            field: NO_FIELD,
-        };
+        return Err(Refusal::ImageLength.at(NO_FIELD));
     }
     if !address_right(address) {
-        return Planned::Refused {
-            refusal: Refusal::BusAddress,
-            field: NO_FIELD,
-        };
+        return Err(Refusal::BusAddress.at(NO_FIELD));
     }
     let board = board_of(image, known);
     let mut wanted = board.registers;
-    match check(known, numbers, limit, &mut wanted) {
-        Checked::Refused { refusal, field } => Planned::Refused { refusal, field },
-        Checked::Good => plan_change(board, fixed_registers(numbers), &wanted, limit, plan),
-    }
+    check(known, numbers, limit, &mut wanted)?;
+    plan_change(board, fixed_registers(numbers), &wanted, limit, plan)
 }

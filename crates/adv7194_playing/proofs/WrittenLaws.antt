@@ -58,8 +58,9 @@ module _ (kind : PlanKind) {plan : List ℕ} {map₀ : ℕ} {l₀ : List ℕ} {m
   refuse left m e h = answers kind plan (board_of l₀ map₀) (board_of left m) e refl h
 
   -- the plan has a fault
-  pub fault_answered : (m : ℕ) → rest_of plan c ≡ refused 9 → Answers kind plan (board_of l₀ map₀) (board_of l m) (refused 9)
-  fault_answered m e = refuse l m (ap (judged_if (takes kind)) (walk_fails w.walked e)) (as_many w)
+  pub fault_answered : (m : ℕ) {n : ℕ} → rest_of plan c ≡ refused n → Answers kind plan (board_of l₀ map₀) (board_of l m) (refused n)
+  fault_answered m e =
+      answers kind plan (board_of l₀ map₀) (board_of l m) (ap (judged_if (takes kind)) (walk_fails w.walked e)) refl (as_many w)
 
   -- at its end, its list is taken if there are enough
   at-end : (b : Bool) → enough kind transactions ≡ b → takes kind w.done ≡ b

@@ -1,8 +1,9 @@
 -- Document 01, "Refusals": playing takes the address used and the chip's own, checks 1, 2 for either, then 9, and answers the image and whether
 -- every byte was acknowledged. A refusal writes nothing. Document 02, P4: another play call takes just the plans of captions, by 1, 2, 9. P5: the image
 -- goes with its known registers, and playing answers which are known after it.
-use Rattle.std.specs.Prelude.{Bool, List, ℕ}
+use Rattle.std.specs.Prelude.{Bool, List, ℕ, Result, Ok, Err}
 use Rattle.refusals.specs.Refusal.{number_of}
+use Rattle.refusals.specs.declared.Refusal.{Refusal}
 use Rattle.refusals.specs.Verdict.{Verdict, good, refused_at}
 use Rattle.bus.specs.Transactions.{Transaction}
 use Rattle.packing.specs.Packing.{behind}
@@ -15,7 +16,6 @@ use Rattle.adv7194_captions.specs.Plans.{Captions as CaptionsOf, are_captions}
 use Rattle.adv7194_playing.specs.declared.PlanKind.{PlanKind}
 use Rattle.adv7194_playing.specs.declared.PlanKind.TheVariants.{Settings, Captions}
 use Rattle.adv7194_playing.specs.declared.Played.{Played}
-use Rattle.adv7194_playing.specs.declared.Played.TheVariants.{Done, Refused}
 use Rattle.bits.specs.Lists.{Every}
 
 -- the lists that a play call takes: those that keep the three rules, or those of captions
@@ -38,11 +38,11 @@ abbrev pub played_board : (List Transaction → Bool) → Board → ℕ → ℕ 
 played_board test b used own plan = board_of (registers_left (call_of test b used own plan)) (known_left (call_of test b used own plan) b.known)
 
 -- the answer as document 01 has it
-abbrev pub answer_of : Played → Verdict Bool
-answer_of (Done b known) = good b
-answer_of (Refused r) = refused_at (number_of r) 0
+abbrev pub answer_of : Result Played Refusal → Verdict Bool
+answer_of (Ok p) = good p.acknowledged
+answer_of (Err r) = refused_at (number_of r) 0
 
 -- the known registers after an answer: as they were after a refusal
-abbrev pub known_of : ℕ → Played → ℕ
-known_of known (Done b after) = after
-known_of known (Refused r) = known
+abbrev pub known_of : ℕ → Result Played Refusal → ℕ
+known_of known (Ok p) = p.known
+known_of known (Err r) = known

@@ -17,12 +17,12 @@ ghost use Rattle.adv7194_playing.specs.Written.{Written, count_of, map_of};
 ghost use Rattle.bits.specs.Lists.{Every};
 
 use adv7194_bus::REGISTERS;
-use adv7194_bus::image::copied;
 use adv7194_captions::{at_pair, is_odd};
-use bus::address::address_right;
+use bus::image::copied;
+use playing::check_call;
 use refusals::Refusal;
 use unpacking::places::copy_data;
-use unpacking::steps::{Order, Step, begin, next};
+use unpacking::steps::{Order, begin, next};
 
 // The map of no register.
 const NONE: u64 = 0;
@@ -39,18 +39,18 @@ pub enum PlanKind {
     Captions,
 }
 
-// What playing answers: whether every byte was acknowledged, and the map of the registers known after it; or a refusal, which makes none known.
+// What a plan that was played did: whether every byte was acknowledged, and the map of the registers known after it.
 #[derive(Clone, Copy)]
-pub enum Played {
-    Done { acknowledged: bool, known: u64 },
-    Refused(Refusal),
+pub struct Played {
+    pub acknowledged: bool,
+    pub known: u64,
 }
 
-// What a walk over a plan answers: how many transactions there are, and the map with their registers in it; or a refusal.
+// What a walk over a plan finds: how many transactions there are, and the map with their registers in it.
 #[derive(Clone, Copy)]
-enum Walk {
-    Taken { transactions: u8, known: u64 },
-    Refused(Refusal),
+struct Walk {
+    transactions: u8,
+    known: u64,
 }
 
 // Whether a plan of this kind must have a transaction.
@@ -95,7 +95,12 @@ fn takes_data(kind: PlanKind, registers: &[u8], subaddress: u8) -> bool
 
 // Writes the data of every transaction of a plan into registers and marks these in the map, as long as its bytes keep the packing and this kind takes the
 // transactions, and answers how many there are; the registers are no image of a chip's where the plan is refused.
-fn write_plan(kind: PlanKind, plan: &[u8], registers: &mut [u8], known: u64) -> Walk
+fn write_plan(
+    kind: PlanKind,
+    plan: &[u8],
+    registers: &mut [u8],
+    known: u64,
+) -> Result<Walk, Refusal>
     requires { length registers.old ≡ register_count }
     ensures answer { count_of result ≡ counted (judged_if (takes kind) (unpack plan.now)) }
     ensures memory { Written (judged_if (takes kind) (unpack plan.now)) (board_of registers.old known)
@@ -104,42 +109,31 @@ fn write_plan(kind: PlanKind, plan: &[u8], registers: &mut [u8], known: u64) -> 
     let mut cursor = begin(plan, Order::Ascending);
     let mut transactions: u8 = 0;
     let mut map = known;
-    loop {
-        match next(plan, cursor) {
-            Step::Fault => return Walk::Refused(Refusal::PlanBytes),
-            Step::End => {
-                if (transactions == 0) & needs_transaction(kind) {
-                    return Walk::Refused(Refusal::PlanBytes);
-                }
-                return Walk::Taken {
-                    transactions,
-                    known: map,
-                };
-            }
-            Step::Transaction {
-                subaddress,
-                count,
-                data,
-                after,
-            } => {
-                let written = touched(kind, subaddress, count);
-                if written == NONE {
-                    return Walk::Refused(Refusal::PlanBytes);
-                }
-                copy_data(plan, data, registers, subaddress, count);
-                if !takes_data(kind, registers, subaddress) {
-                    return Walk::Refused(Refusal::PlanBytes);
-                }
-                map = map | written;
-                cursor = after;
-                transactions += 1;
-            }
+    while let Some(found) = next(plan, cursor)? {
+        let written = touched(kind, found.subaddress, found.count);
+        if written == NONE {
+            return Err(Refusal::PlanBytes);
         }
+        copy_data(plan, found.data, registers, found.subaddress, found.count);
+        if !takes_data(kind, registers, found.subaddress) {
+            return Err(Refusal::PlanBytes);
+        }
+        map |= written;
+        cursor = found.after;
+        transactions += 1;
     }
+    if (transactions == 0) & needs_transaction(kind) {
+        return Err(Refusal::PlanBytes);
+    }
+    Ok(Walk {
+        transactions,
+        known: map,
+    })
 }
 
 // Plays a packed plan once image and addresses are checked: its data are written into a copy of the image; where the plan is accepted and was sent to
 // the chip's own address, the image becomes that copy, and the registers written are known.
+// Beside adv7195_playing's: that chip has no registers that are unknown, so one function for both would carry a map that means nothing there.
 fn play_checked(
     kind: PlanKind,
     image: &mut [u8],
@@ -147,31 +141,24 @@ fn play_checked(
     used: u32,
     own: u32,
     plan: &[u8],
-) -> Played
+) -> Result<Played, Refusal>
     requires { (length image.old ≡ register_count) × (address_right used ≡ true) × (address_right own ≡ true) }
     ensures answer { answer_of result ≡ play_of (call_of (takes kind) (board_of image.old known) used own plan.now) }
     ensures memory { board_of image.new (known_of known result) ≡ played_board (takes kind) (board_of image.old known) used own plan.now }
 {
-    let mut registers = copied(image);
-    match write_plan(kind, plan, &mut registers, known) {
-        Walk::Refused(refusal) => Played::Refused(refusal),
-        Walk::Taken {
-            transactions,
-            known: written,
-        } => {
-            if used != own {
-                return Played::Done {
-                    acknowledged: transactions == 0,
-                    known,
-                };
-            }
-            image.copy_from_slice(&registers);
-            Played::Done {
-                acknowledged: true,
-                known: written,
-            }
-        }
+    let mut registers: [u8; REGISTERS as usize] = copied(image);
+    let walk = write_plan(kind, plan, &mut registers, known)?;
+    if used != own {
+        return Ok(Played {
+            acknowledged: walk.transactions == 0,
+            known,
+        });
     }
+    image.copy_from_slice(&registers);
+    Ok(Played {
+        acknowledged: true,
+        known: walk.known,
+    })
 }
 
 // Plays a packed plan of this kind, sent at the address used, against a fresh chip of its own address that holds the image, of which the registers in
@@ -183,28 +170,26 @@ fn play_kind(
     used: u32,
     own: u32,
     plan: &[u8],
-) -> Played
+) -> Result<Played, Refusal>
     ensures answer { answer_of result ≡ play_of (call_of (takes kind) (board_of image.old known) used own plan.now) }
     ensures memory { board_of image.new (known_of known result) ≡ played_board (takes kind) (board_of image.old known) used own plan.now }
     ensures exactly { Exactly (row_played (call_of (takes kind) (board_of image.old known) used own plan.now)) play_order
         (acknowledged (call_of (takes kind) (board_of image.old known) used own plan.now)) (answer_of result) }
     ensures taken { JudgedBy (Takes kind) (call_of (takes kind) (board_of image.old known) used own plan.now) }
 {
-    if image.len() != REGISTERS as usize {
-        return Played::Refused(Refusal::ImageLength);
-    }
-    if !address_right(used) {
-        return Played::Refused(Refusal::BusAddress);
-    }
-    if !address_right(own) {
-        return Played::Refused(Refusal::BusAddress);
-    }
+    check_call(image.len(), REGISTERS as usize, used, own)?;
     play_checked(kind, image, known, used, own, plan)
 }
 
 // Plays a packed plan of settings, sent at the address used, against a fresh chip of its own address that holds the image, of which the registers in the
 // map are known.
-pub fn play(image: &mut [u8], known: u64, used: u32, own: u32, plan: &[u8]) -> Played
+pub fn play(
+    image: &mut [u8],
+    known: u64,
+    used: u32,
+    own: u32,
+    plan: &[u8],
+) -> Result<Played, Refusal>
     ensures answer { answer_of result ≡ play_of (call_of all_keep_rules (board_of image.old known) used own plan.now) }
     ensures memory { board_of image.new (known_of known result) ≡ played_board all_keep_rules (board_of image.old known) used own plan.now }
     ensures exactly { Exactly (row_played (call_of all_keep_rules (board_of image.old known) used own plan.now)) play_order
@@ -215,7 +200,13 @@ pub fn play(image: &mut [u8], known: u64, used: u32, own: u32, plan: &[u8]) -> P
 }
 
 // Plays a packed plan of captions, as `play` plays one of settings.
-pub fn play_captions(image: &mut [u8], known: u64, used: u32, own: u32, plan: &[u8]) -> Played
+pub fn play_captions(
+    image: &mut [u8],
+    known: u64,
+    used: u32,
+    own: u32,
+    plan: &[u8],
+) -> Result<Played, Refusal>
     ensures answer { answer_of result ≡ play_of (call_of are_captions (board_of image.old known) used own plan.now) }
     ensures memory { board_of image.new (known_of known result) ≡ played_board are_captions (board_of image.old known) used own plan.now }
     ensures exactly { Exactly (row_played (call_of are_captions (board_of image.old known) used own plan.now)) play_order

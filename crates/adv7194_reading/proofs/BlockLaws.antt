@@ -14,7 +14,7 @@ use Rattle.refusals.specs.Order.{first_of, places_at, places_in}
 use Rattle.refusals.proofs.VerdictLaws.{after-good, after_assoc}
 use Rattle.adv7194_table.specs.Fields.{standard, timing, output, picture, dnr}
 use Rattle.adv7194_table.specs.Blocks.{signalling, word}
-use Rattle.adv7194_table.specs.Table.{signals, curve, subcarrier, table}
+use Rattle.adv7194_table.specs.Table.{signals, subcarrier, table}
 use Rattle.field_table.specs.Blocks.{is}
 use Rattle.adv7194_signalling.specs.Signalling.{signalling_codes, no_signalling, coded_so, held_by, cgms_held, wss_held, signalling_held, held_conflict}
 use Rattle.adv7194_signalling.proofs.KindLaws.{sent, by_bits}

@@ -13,14 +13,17 @@ use Rattle.adv7194_table.specs.Table.{signals, curve, whole, table}
 use Rattle.adv7194_settings.specs.Held.{setting_held, bytes_in, block_reading, store_entry, no_numbers, settings_held}
 use Rattle.adv7194_settings.specs.Rows.{square_with_oversampling, pedestal_with_pal}
 use Rattle.adv7194_reading_blocks.specs.Blocks.{word_reading}
-use Rattle.adv7194_reading_blocks.proofs.SignalLaws.{conflict_by}
-use Rattle.adv7194_reading_blocks.proofs.WordLaws.{same_reading}
+use Rattle.adv7194_signalling.specs.Signalling.{held_conflict}
 use Rattle.adv7194_reading.specs.Steps.{first_fields, last_fields, fault_in, first_numbers}
 use Rattle.adv7194_reading.proofs.BlockLaws.{conflict_held, signalling_fault, word_fault}
 use Rattle.adv7194_reading.proofs.JudgeLaws.{square_held, pedestal_held, first-judged, last_judged}
 
 abbrev Found : Type 0
 Found = Verdict (Unit {0})
+
+-- row 7 of an image, by a standard
+abbrev conflict_by : List ℕ → ℤ → Found
+conflict_by image z = fault_where (held_conflict z (bytes_in image signalling)) 7 11
 
 -- ---- fields 1 to 10
 
@@ -112,9 +115,8 @@ module _ (image : List ℕ) where
       -- the word by the standard and square pixel read
       word_read : fault_of 28 (word_reading (bytes_in image word) (given n5 standard.row) (given n5 square_pixel.row)) ≡ word_fault image
       word_read =
-          ap (fault_of 28)
-          (same_reading refl (ap (λ (l : List ℤ). given l standard.row) last_read ∙ standard-held)
-          (ap (λ (l : List ℤ). given l square_pixel.row) last_read ∙ square_held_lem))
+          ap₂ (λ (x y : ℤ). fault_of 28 (word_reading (bytes_in image word) x y)) (ap (λ (l : List ℤ). given l standard.row) last_read ∙ standard-held)
+          (ap (λ (l : List ℤ). given l square_pixel.row) last_read ∙ square_held_lem)
 
       pub last_verdict_lem : (v : Found) {w1 w2 w3 w4 w5 w6 : Found}
           → w1 ≡ after v (after (conflict_by image (given zs standard.row)) (fault_of 11 (block_reading image signals signalling)))

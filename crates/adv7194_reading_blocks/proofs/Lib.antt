@@ -1,3 +1,3 @@
-pub mod SignalLaws
+pub mod StoreLaws
 pub mod CurveLaws
-pub mod WordLaws
+pub mod SignalLaws

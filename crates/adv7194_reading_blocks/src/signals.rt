@@ -1,9 +1,9 @@
 // Field 11, signalling: its registers judged and read, its five numbers stored.
-ghost use Rattle.std.specs.Prelude.{◌≡◌, [], ◌∷◌};
-ghost use Rattle.refusals.specs.Verdict.{after, fault_of, fault_where};
+ghost use Rattle.std.specs.Prelude.{◌≡◌, [], ◌∷◌, pos};
+ghost use Rattle.refusals.specs.Refusal.{value_or};
+ghost use Rattle.refusals.specs.Verdict.{after, fault_of, fault_where, verdict_as};
 ghost use Rattle.field_table.specs.Walk.{given as given_of};
-ghost use Rattle.field_table.specs.Blocks.{store_from};
-ghost use Rattle.field_table.specs.Answers.{checked_as};
+ghost use Rattle.field_table.specs.Blocks.{store_from, slice};
 ghost use Rattle.adv7194_table.specs.Fields.{standard};
 ghost use Rattle.adv7194_table.specs.Blocks.{signalling};
 ghost use Rattle.adv7194_table.specs.Table.{signals, whole};
@@ -13,15 +13,15 @@ ghost use Rattle.adv7194_signalling.specs.Answers.{numbers_of, read_as};
 ghost use Rattle.adv7194_settings.specs.Held.{bytes_in, block_reading, store_entry};
 
 use crate::places::{byte, keep};
-use adv7194_signalling::field::{Signalling, SignallingRead, held_conflict, signalling_setting};
+use adv7194_signalling::field::{Signalling, held_conflict, signalling_setting};
 use adv7194_signalling::registers::Registers;
 use adv7194_table::blocks::SIGNALLING;
 use adv7194_table::rows::STANDARD;
+use field_table::given;
 use field_table::row::row_of;
-use field_table::{Checked, given, then};
-use refusals::Refusal;
+use refusals::{Fault, Refusal};
 
-// Its registers and the indices of its numbers, by the table.
+// Its registers and the index of its numbers, by the table.
 const R19: usize = (SIGNALLING / 0x100 % 0x100) as usize;
 
 const R1A: usize = R19 + 1;
@@ -30,18 +30,11 @@ const R1B: usize = R19 + 2;
 
 const KIND: usize = (SIGNALLING / 0x100_0000 % 0x100) as usize;
 
-const NUMBER: usize = KIND + 1;
-
-const ODD: usize = KIND + 2;
-
-const EVEN: usize = KIND + 3;
-
-const CHIP_CHECK: usize = KIND + 4;
-
 // Its number.
 const FIELD: u8 = (SIGNALLING / 0x1_0000_0000) as u8;
 
 // The bytes of its registers.
+#[tactic(auto, unfolding(field_table::specs::Blocks::slice))]
 fn registers(image: &[u8]) -> Registers
     ensures answer { three_bytes result ≡ bytes_in image.now signalling }
 {
@@ -53,29 +46,13 @@ fn registers(image: &[u8]) -> Registers
 }
 
 // The fault that the kind in register 19 is with the standard read before.
-fn conflict(r19: u8, numbers: &[i32]) -> Checked
-    ensures answer { checked_as result ≡ fault_where (held_conflict (given_of numbers.now standard.row) (r19 ∷ [])) 7 11 }
+fn conflict(r19: u8, numbers: &[i32]) -> Result<(), Fault>
+    ensures answer { verdict_as result ≡ fault_where (held_conflict (given_of numbers.now standard.row) (r19 ∷ [])) 7 11 }
 {
     if held_conflict(given(numbers, row_of(STANDARD)), r19) {
-        return Checked::Refused {
-            refusal: Refusal::SignallingConflict,
-            field: FIELD,
-        };
+        return Err(Refusal::SignallingConflict.at(FIELD));
     }
-    Checked::Good
-}
-
-// The fault that the reading is.
-fn fault(read: SignallingRead) -> Checked
-    ensures answer { checked_as result ≡ fault_of 11 (read_as read) }
-{
-    match read {
-        SignallingRead::Setting(_) => Checked::Good,
-        SignallingRead::Refused(refusal) => Checked::Refused {
-            refusal,
-            field: FIELD,
-        },
-    }
+    Ok(())
 }
 
 // No signalling.
@@ -91,29 +68,39 @@ fn none() -> Signalling
     }
 }
 
-// The five numbers stored.
-fn keep_signalling(numbers: &mut [i32], setting: Signalling)
-    ensures memory { numbers.new ≡ store_from numbers.old signalling.index (numbers_of setting) }
+// The five numbers read stored; zeros where the registers are refused.
+fn keep_signalling(numbers: &mut [i32], read: Result<Signalling, Refusal>)
+    ensures memory { numbers.new ≡ store_from numbers.old signalling.index (slice (pos 0) (value_or [] (read_as read)) 0 signalling.numbers) }
 {
-    keep(numbers, KIND, setting.kind);
-    keep(numbers, NUMBER, setting.number);
-    keep(numbers, ODD, setting.odd);
-    keep(numbers, EVEN, setting.even);
-    keep(numbers, CHIP_CHECK, setting.chip_check);
+    let setting = read.unwrap_or(none());
+    let values = [
+        setting.kind,
+        setting.number,
+        setting.odd,
+        setting.even,
+        setting.chip_check,
+    ];
+    keep(numbers, KIND, &values);
 }
 
 // The field judged and read, after the fields before: row 7 first.
-pub fn read_signalling(before: Checked, image: &[u8], numbers: &mut [i32]) -> Checked
-    ensures answer { checked_as result ≡ after (checked_as before) (after (fault_where (held_conflict (given_of numbers.old standard.row) (bytes_in image.now signalling)) 7 11) (fault_of 11 (block_reading image.now signals signalling))) }
+pub fn read_signalling(
+    before: Result<(), Fault>,
+    image: &[u8],
+    numbers: &mut [i32],
+) -> Result<(), Fault>
+    ensures answer { verdict_as result ≡ after (verdict_as before) (after (fault_where (held_conflict (given_of numbers.old standard.row) (bytes_in image.now signalling)) 7 11) (fault_of 11 (block_reading image.now signals signalling))) }
     ensures memory { numbers.new ≡ store_entry image.now numbers.old (whole signals signalling) }
 {
     let held = registers(image);
-    let judged = then(before, conflict(held.r19, numbers));
+    let conflict = conflict(held.r19, numbers);
     let read = signalling_setting(held);
-    let SignallingRead::Setting(setting) = read else {
-        keep_signalling(numbers, none());
-        return then(judged, fault(read));
+    keep_signalling(numbers, read);
+    before?;
+    conflict?;
+    // Kept: document 01 names `let .. else` for a field's reader, the refusal returned with its field.
+    let Ok(_) = read else {
+        return read.map_err(|refusal| refusal.at(FIELD)).and(Ok(()));
     };
-    keep_signalling(numbers, setting);
-    judged
+    Ok(())
 }

@@ -1,18 +1,18 @@
 // Fields 18 to 25, digital noise reduction: gains, threshold, border area, block size, input, mode, block offset.
 ghost use Rattle.std.specs.Prelude.{◌≡◌};
-ghost use Rattle.refusals.specs.Verdict.{after};
+ghost use Rattle.refusals.specs.Verdict.{after, verdict_as};
 ghost use Rattle.field_table.specs.Walk.{judge_of, numbers_of};
-ghost use Rattle.field_table.specs.Answers.{checked_as};
 ghost use Rattle.adv7194_table.specs.Fields.{dnr};
 
 use adv7194_table::rows::{
     BLOCK_OFFSET, BLOCK_SIZE, BORDER_AREA, BORDER_GAIN, DATA_GAIN, DNR_INPUT, DNR_MODE, THRESHOLD,
 };
-use field_table::{Checked, read_row};
+use field_table::read_row;
+use refusals::Fault;
 
 // These fields judged and read, after the fields before.
-pub fn read_dnr(before: Checked, image: &[u8], numbers: &mut [i32]) -> Checked
-    ensures answer { checked_as result ≡ after (checked_as before) (judge_of image.now dnr) }
+pub fn read_dnr(before: Result<(), Fault>, image: &[u8], numbers: &mut [i32]) -> Result<(), Fault>
+    ensures answer { verdict_as result ≡ after (verdict_as before) (judge_of image.now dnr) }
     ensures memory { numbers.new ≡ numbers_of image.now numbers.old dnr }
 {
     let border_gain = read_row(before, BORDER_GAIN, image, numbers);

@@ -2,6 +2,9 @@
 use mathlib.Core.Path.{◌≡◌, refl, ap, ◌∙◌}
 use mathlib.Core.Bool.{Bool, true, false, cond}
 use mathlib.Core.List.{List, [], ◌∷◌, ◌++◌, map}
+use Rattle.std.specs.Prelude.{Option, None, Some, unwrap_or}
+use Rattle.std.specs.List.{find}
+use Rattle.std.specs.Option.{option_map}
 use Rattle.adv7194_reasons.specs.First.{first_true, NoneTrue, FirstTrue}
 
 module _ {A : Type 0} (P : A → Bool) where
@@ -33,6 +36,20 @@ module _ {A : Type 0} (P : A → Bool) where
   pub first_next : (x : A) (xs : List A) (other : A) → P x ≡ false → first_true P (x ∷ xs) other ≡ first_true P xs other
   unfolding first_true
   first_next x xs other e = rw e
+
+  -- it is what std's search finds
+  pub first_true_find : (xs : List A) (other : A) → unwrap_or (find P xs) other ≡ first_true P xs other
+  unfolding first_true
+  first_true_find [] other = refl
+  first_true_find (x ∷ xs) other = split (P x) (first_true_find xs other)
+    where
+      split : (t : Bool) → unwrap_or (find P xs) other ≡ first_true P xs other → unwrap_or (cond t (Some x) (find P xs)) other ≡ cond t x (first_true P xs other)
+      split true e = refl
+      split false e = e
+
+  pub first_found : (xs : List A) (r : Option A) (other : A) → option_map (λ (x : A). x) r ≡ find P xs → unwrap_or r other ≡ first_true P xs other
+  first_found xs None other e = ap (λ (o : Option A). unwrap_or o other) e ∙ first_true_find xs other
+  first_found xs (Some x) other e = ap (λ (o : Option A). unwrap_or o other) e ∙ first_true_find xs other
 
   -- so are several
   pub first_past : (xs ys : List A) (other : A) → NoneTrue P xs → first_true P (xs ++ ys) other ≡ first_true P ys other

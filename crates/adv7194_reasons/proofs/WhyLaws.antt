@@ -34,7 +34,14 @@ module _ (b : Board) (zs : List ℤ) (limit r : ℕ) where
 
   -- all that is promised of an answer
   pub clauses : (bytes : (i : ℕ) → get_or b.registers i 0 < 2 ^ 8) {v : Verdict Reason} → v ≡ why_of b zs limit r
-      → (v ≡ why_of b zs limit r)
-      × (((k : Reason) → v ≡ good k → TrueReason b zs limit r k) × Exactly (row_why b zs limit) why_order (reason_in b zs limit r) v)
+      → record {
+        answer : v ≡ why_of b zs limit r;
+        reason : (k : Reason) → v ≡ good k → TrueReason b zs limit r k;
+        judged : Exactly (row_why b zs limit) why_order (reason_in b zs limit r) v;
+      }
   unfolding why_of
-  clauses bytes e = (e, (λ k q. why_true b zs limit r bytes k (sym e ∙ q), exactly (row_why b zs limit) why_order (reason_in b zs limit r) e))
+  clauses bytes e = record {
+    answer = e;
+    reason = λ k q. why_true b zs limit r bytes k (sym e ∙ q);
+    judged = exactly (row_why b zs limit) why_order (reason_in b zs limit r) e;
+  }

@@ -1,6 +1,6 @@
 -- Document 02, P7: for an image, settings, a limit and a register the answer is a refusal by planning's checks without 2 and 10, by its number and field, or
 -- that the register isn't sent, or one reason.
-use Rattle.std.specs.Prelude.{Bool, List, [], ◌∷◌, ◌++◌, ℕ, ℤ}
+use Rattle.std.specs.Prelude.{Bool, List, [], ◌∷◌, ◌++◌, ℕ, ℤ, Result, Ok, Err}
 use Rattle.refusals.specs.Refusal.{number_of}
 use Rattle.refusals.specs.Verdict.{Verdict, good, refused_at}
 use Rattle.refusals.specs.Order.{Place, places_at, first_of, places_in}
@@ -10,8 +10,9 @@ use Rattle.adv7194_table.specs.Table.{table, order_of}
 use Rattle.adv7194_settings.specs.Order.{order}
 use Rattle.adv7194_least.specs.Aim.{aim_of}
 use Rattle.adv7194_planning.specs.Rows.{list_of, row_planned}
-use Rattle.adv7194_reasons.specs.declared.Explained.{Explained}
-use Rattle.adv7194_reasons.specs.declared.Explained.TheVariants.{Refused, NotSent, Unknown, Changed, Zeroed, Companion, Bridge}
+use Rattle.refusals.specs.declared.Fault.{Fault}
+use Rattle.adv7194_reasons.specs.declared.Reason as declared
+use Rattle.adv7194_reasons.specs.declared.Reason.TheVariants.{NotSent, Unknown, Changed, Zeroed, Companion, Bridge}
 use Rattle.adv7194_reasons.specs.Reasons.{Reason, not_sent, unknown, changed, zeroed, companion, bridge, reason_of}
 
 -- planning's checking order without the address (2) and the room (10)
@@ -30,12 +31,16 @@ reason_in b zs limit r = reason_of (aim_of b zs limit) (list_of b zs limit) r
 unfoldable pub why_of : Board → List ℤ → ℕ → ℕ → Verdict Reason
 why_of b zs limit r = first_of (row_why b zs limit) why_order (reason_in b zs limit r)
 
--- what each case of the answer stands for
-abbrev pub why_as : Explained → Verdict Reason
-why_as (Refused r f) = refused_at (number_of r) f
-why_as NotSent = good not_sent
-why_as Unknown = good unknown
-why_as (Changed f) = good (changed f)
-why_as Zeroed = good zeroed
-why_as Companion = good companion
-why_as (Bridge i j) = good (bridge i j)
+-- what each reason found stands for
+abbrev pub reason_as : declared.Reason → Reason
+reason_as NotSent = not_sent
+reason_as Unknown = unknown
+reason_as (Changed f) = changed f
+reason_as Zeroed = zeroed
+reason_as Companion = companion
+reason_as (Bridge i j) = bridge i j
+
+-- and each answer
+abbrev pub why_as : Result declared.Reason Fault → Verdict Reason
+why_as (Ok k) = good (reason_as k)
+why_as (Err e) = refused_at (number_of e.refusal) e.field

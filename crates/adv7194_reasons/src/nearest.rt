@@ -22,9 +22,7 @@ pub fn next_below(map: u64, register: usize) -> u8
     requires { register < register_count }
     ensures answer { result ≡ next_below (has map) register }
 {
-    let mut at = register;
-    while 0 < at {
-        at -= 1;
+    for at in (0..register).rev() {
         if bits::maps::has(map, at as u64) {
             return at as u8;
         }
@@ -37,12 +35,10 @@ pub fn next_above(map: u64, register: usize) -> u8
     requires { register < register_count }
     ensures answer { result ≡ next_above (has map) register }
 {
-    let mut at = register + 1;
-    while at < REGISTERS as usize {
+    for at in register + 1..REGISTERS as usize {
         if bits::maps::has(map, at as u64) {
             return at as u8;
         }
-        at += 1;
     }
-    at as u8
+    REGISTERS as u8
 }

@@ -2,7 +2,7 @@
 ghost use Rattle.std.specs.Prelude.{◌≤◌};
 
 use crate::context::Context;
-use crate::forms::{PLAN7195, PLAYCAP};
+use crate::forms::Operation;
 use crate::print;
 use adv7194_answers::play_numbers::PlayAnswer;
 use answers::plan_numbers::PlanAnswer;
@@ -30,11 +30,8 @@ const FIRST_CHARACTER: usize = 2;
 pub(crate) fn settings(tokens: Tokens) -> [i32; 64] {
     let held = tokens.held;
     let mut settings = [0i32; 64];
-    let mut i = 0;
-    while i < MOST_SETTINGS {
-        let n = tokens::signed(held[i + FIRST_SETTING]);
-        settings[i] = n;
-        i += 1;
+    for (setting, token) in settings.iter_mut().zip(&held[FIRST_SETTING..]) {
+        *setting = tokens::signed(*token);
     }
     settings
 }
@@ -69,16 +66,16 @@ pub(crate) fn plan(
     plan: &mut [u8],
     context: Context,
 ) -> io::Result<()> {
-    if context.word == PLAN7195 {
+    if context.operation == Operation::Plan7195 {
         let answer = adv7195_c::adv7195_plan(image, settings, context.first, plan);
         return planned(rt, answer, plan);
     }
     let answer = adv7194_c::adv7194_plan(
         image,
-        context.known,
+        context.given.known,
         settings,
         context.first,
-        context.limit,
+        context.given.limit,
         plan,
     );
     planned(rt, answer, plan)
@@ -130,9 +127,9 @@ pub(crate) fn why(
 ) -> io::Result<()> {
     let answer = adv7194_c::adv7194_why(
         image,
-        context.known,
+        context.given.known,
         settings,
-        context.limit,
+        context.given.limit,
         context.first,
     );
     print::verdict(rt, answer.refusal, answer.field)?;
@@ -156,23 +153,29 @@ pub(crate) fn play(
     plan: &[u8],
     context: Context,
 ) -> io::Result<()> {
-    if context.word == PLAYCAP {
+    if context.operation == Operation::PlayCaptions {
         let answer = adv7194_c::adv7194_play_captions(
             image,
-            context.known,
+            context.given.known,
             context.first,
             context.second,
             plan,
         );
-        return played(rt, answer, context.given, image);
+        return played(rt, answer, context.given.flags, image);
     }
-    let answer = adv7194_c::adv7194_play(image, context.known, context.first, context.second, plan);
-    played(rt, answer, context.given, image)
+    let answer = adv7194_c::adv7194_play(
+        image,
+        context.given.known,
+        context.first,
+        context.second,
+        plan,
+    );
+    played(rt, answer, context.given.flags, image)
 }
 
 // Reading a pair of captions.
 pub(crate) fn read_captions(rt: &impl Print, image: &[u8], context: Context) -> io::Result<()> {
-    let answer = adv7194_c::adv7194_read_captions(image, context.known, context.first);
+    let answer = adv7194_c::adv7194_read_captions(image, context.given.known, context.first);
     print::verdict(rt, answer.refusal, answer.field)?;
     print::decimal(rt, answer.first)?;
     print::decimal(rt, answer.second)

@@ -14,9 +14,6 @@ const REGISTERS: usize = adv7194_bus::REGISTERS as usize;
 // Above every address.
 const OWN_LIMIT: u32 = 0x100;
 
-// The most tokens of a record.
-const MOST: usize = 192;
-
 // Events by their letters; any other letter is a byte read and not acknowledged.
 const START: u64 = 0x153;
 
@@ -91,12 +88,9 @@ fn all(
     let count = tokens.count;
     let mut state = chip::fresh();
     let mut map = known;
-    let mut i = tokens.second;
-    while i < count {
-        let token = held[i % MOST];
-        map = known_after(state, event(token), map);
-        state = one(rt, state, token, own, registers)?;
-        i += 1;
+    for token in held.iter().take(count).skip(tokens.second) {
+        map = known_after(state, event(*token), map);
+        state = one(rt, state, *token, own, registers)?;
     }
     ended(rt, state)?;
     Ok(map)
@@ -114,11 +108,11 @@ fn run(
         rt,
         tokens,
         (context.first % OWN_LIMIT) as u8,
-        context.known,
+        context.given.known,
         registers,
     )?;
     print::bytes(rt, registers)?;
-    print::known(rt, context.given, map)
+    print::known(rt, context.given.flags, map)
 }
 
 // Answers a record of events, if its list has all registers.

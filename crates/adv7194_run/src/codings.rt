@@ -5,8 +5,9 @@ ghost use Rattle.field_table.specs.Walk.{row_fits};
 
 use crate::print;
 use adv7194_table::rows;
-use field_table::row::{Coded, Decoded, row_of};
+use field_table::row::row_of;
 use records::tokens;
+use refusals::Refusal;
 use std::io;
 
 // The last field that is set by one number, and the one before it that is not.
@@ -48,7 +49,7 @@ fn plain_row(field: u32) -> u64
 }
 
 // The code of a field's setting.
-fn code_of(field: u32, n: i32) -> Coded {
+fn code_of(field: u32, n: i32) -> Result<u8, Refusal> {
     match field {
         8 => adv7194_codes::clamp_delay_code(n),
         12 => adv7194_codes::thousandths_code(rows::CONTRAST, n),
@@ -62,7 +63,7 @@ fn code_of(field: u32, n: i32) -> Coded {
 }
 
 // The setting of a field's code.
-fn setting_of(field: u32, c: u8) -> Decoded {
+fn setting_of(field: u32, c: u8) -> Result<i32, Refusal> {
     match field {
         8 => adv7194_codes::clamp_delay_setting(c),
         12 => adv7194_codes::thousandths_setting(rows::CONTRAST, c),
@@ -81,11 +82,11 @@ pub(crate) fn code(rt: &impl Print, field: u32, setting: i32) -> io::Result<()> 
         return print::no_record(rt);
     }
     match code_of(field, setting) {
-        Coded::Code(c) => {
+        Ok(c) => {
             print::verdict(rt, 0, 0)?;
             print::byte(rt, c)
         }
-        Coded::Refused(why) => print::verdict(rt, why.number() as u32, field),
+        Err(why) => print::verdict(rt, why.number() as u32, field),
     }
 }
 
@@ -95,10 +96,10 @@ pub(crate) fn setting(rt: &impl Print, field: u32, code: u32) -> io::Result<()> 
         return print::no_record(rt);
     }
     match setting_of(field, (code % 256) as u8) {
-        Decoded::Setting(n) => {
+        Ok(n) => {
             print::verdict(rt, 0, 0)?;
             print::number(rt, n)
         }
-        Decoded::Unreadable(why) => print::verdict(rt, why.number() as u32, field),
+        Err(why) => print::verdict(rt, why.number() as u32, field),
     }
 }

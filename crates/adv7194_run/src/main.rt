@@ -46,7 +46,7 @@ const LINE_WIDTH: usize = 1024;
 
 // A proved loop has to end, and nothing says that the input does: turns are counted up to a number that no run uses up.
 fn main(rt: HostRuntime) -> io::Result<()> {
-    let mut context = initial();
+    let mut given = initial();
     let mut input = rt.stdin();
     for _ in 0..u64::MAX {
         let mut line = [0u8; LINE_WIDTH];
@@ -54,7 +54,7 @@ fn main(rt: HostRuntime) -> io::Result<()> {
         if n == 0 {
             return Ok(());
         }
-        context = kinds::answer(&rt, &line[0..n - 1], context)?;
+        given = kinds::answer(&rt, &line[0..n - 1], given)?;
     }
     Ok(())
 }

@@ -1,14 +1,5 @@
 // Words, numbers and bytes on standard output.
 use std::io;
-use text::Place;
-
-// Room for a space and a signed number of 32 bits.
-const NUMBER: usize = 12;
-
-// How many bytes a map of registers is, and where the highest begins.
-const MAP_BYTES: u32 = 8;
-
-const HIGHEST_BYTE: u32 = 56;
 
 // Text as it stands.
 pub(crate) fn text(rt: &impl Print, words: &[u8]) -> io::Result<()> {
@@ -17,14 +8,7 @@ pub(crate) fn text(rt: &impl Print, words: &[u8]) -> io::Result<()> {
 
 // A space, and a signed number in decimal.
 pub(crate) fn number(rt: &impl Print, n: i32) -> io::Result<()> {
-    let mut line = [b' '; NUMBER];
-    let Place::After(end) = text::signed(&mut line, 1, n) else {
-        return Ok(());
-    };
-    if end <= NUMBER {
-        return text(rt, &line[0..end]);
-    }
-    Ok(())
+    print!(rt; " {n}")
 }
 
 // A space, and a number in decimal.
@@ -34,16 +18,13 @@ pub(crate) fn decimal(rt: &impl Print, n: u32) -> io::Result<()> {
 
 // A space, and a byte in two hexadecimal digits.
 pub(crate) fn byte(rt: &impl Print, b: u8) -> io::Result<()> {
-    let mut line = [b' '; 3];
-    text::hex_byte(&mut line, 1, b);
-    text(rt, &line)
+    print!(rt; " {b:02X}")
 }
 
 // A space, a byte in two hexadecimal digits, and a mark.
 pub(crate) fn marked(rt: &impl Print, b: u8, mark: u8) -> io::Result<()> {
-    let mut line = [b' ', b' ', b' ', mark];
-    text::hex_byte(&mut line, 1, b);
-    text(rt, &line)
+    byte(rt, b)?;
+    text(rt, &[mark])
 }
 
 // Bytes, each after a space.
@@ -60,10 +41,7 @@ pub(crate) fn known(rt: &impl Print, given: bool, map: u64) -> io::Result<()> {
         return Ok(());
     }
     text(rt, b" known")?;
-    for i in 0..MAP_BYTES {
-        byte(rt, ((map >> (HIGHEST_BYTE - 8 * i)) % 256) as u8)?;
-    }
-    Ok(())
+    bytes(rt, &map.to_be_bytes())
 }
 
 // Signed numbers, each after a space.

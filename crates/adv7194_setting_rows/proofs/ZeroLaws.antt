@@ -52,41 +52,13 @@ bits_7_4 b h = eqb→eq (bit_and b 0x0F) (with_field 4 4 b 0) (below_at (λ k. e
 abbrev pub cleared : List ℕ → ℕ → List ℕ
 cleared image r = set image r (bit_and (get_or image r 0) (255 - get_or zero_masks r 0))
 
--- a verdict before a row that has no fault
-unmoved : (v : Verdict (Unit {0})) (n : ℕ) {j : Judged ℕ} → j ≡ accepted 0 → v ≡ after v (fault_of n j)
-unmoved v n e = sym (ap (λ (k : Judged ℕ). after v (fault_of n k)) e ∙ after-good v)
-
--- what these rows do: no fault, and their bits cleared
-pub brightness-step : (zs : List ℤ) (v : Verdict (Unit {0})) (image : List ℕ) {l : List ℕ} → length zs ≡ number_count → get_or image 0x21 0 < 2 ^ 8
-    → l ≡ cleared image 0x21 → (v ≡ after v (coding_fault zs brightness_zero)) × (l ≡ put image (write_of zs brightness_zero))
+-- the bits that these rows clear
+pub brightness-cleared : (zs : List ℤ) (image : List ℕ) {l : List ℕ} → length zs ≡ number_count → get_or image 0x21 0 < 2 ^ 8 → l ≡ cleared image 0x21
+    → l ≡ put image (write_of zs brightness_zero)
 unfolding zero_masks zero_mask mask_where table timing output picture dnr
-brightness-step zs v image size small e = (
-  unmoved v 16 (brightness-zero zs size),
-  e ∙ ap (set image 0x21)
-      (bit_7 (get_or image 0x21 0) small ∙ ap (λ (j : Judged ℕ). with_field 7 1 (get_or image 0x21 0) (value_or 0 j)) (sym (brightness-zero zs size))),
-)
+brightness-cleared zs image size small e = rw (e, brightness-zero zs size, bit_7 (get_or image 0x21 0) small)
 
-pub sharpness-step : (zs : List ℤ) (v : Verdict (Unit {0})) (image : List ℕ) {l : List ℕ} → length zs ≡ number_count → get_or image 0x22 0 < 2 ^ 8
-    → l ≡ cleared image 0x22 → (v ≡ after v (coding_fault zs sharpness_zero)) × (l ≡ put image (write_of zs sharpness_zero))
+pub sharpness-cleared : (zs : List ℤ) (image : List ℕ) {l : List ℕ} → length zs ≡ number_count → get_or image 0x22 0 < 2 ^ 8 → l ≡ cleared image 0x22
+    → l ≡ put image (write_of zs sharpness_zero)
 unfolding zero_masks zero_mask mask_where table timing output picture dnr
-sharpness-step zs v image size small e = (
-  unmoved v 17 (sharpness-zero zs size),
-  e ∙ ap (set image 0x22)
-      (bits_7_4 (get_or image 0x22 0) small ∙ ap (λ (j : Judged ℕ). with_field 4 4 (get_or image 0x22 0) (value_or 0 j)) (sym (sharpness-zero zs size))),
-)
-
--- ---- a register of the image, or none
-
--- the byte without the table's bits is set
-pub clear_there : (image : List ℕ) {r s v m : ℕ} → r ≡ s → v ≡ bit_and (get_or image r 0) (255 - m) → m ≡ get_or zero_masks r 0 → get_or image r 0 < 2 ^ 8
-    → (set image r v ≡ cleared image s) × (get_or image s 0 < 2 ^ 8)
-clear_there image {r} {s} {v} {m} e f g small =
-    subst (λ (x : ℕ). (set image r v ≡ cleared image x) × (get_or image x 0 < 2 ^ 8)) e
-    (ap (set image r) (f ∙ ap (λ (k : ℕ). bit_and (get_or image r 0) (255 - k)) g), small)
-
--- past the image there is nothing to clear
-pub clear-past : (image : List ℕ) {r s : ℕ} → r ≡ s → length image ≤ r → (image ≡ cleared image s) × (get_or image s 0 < 2 ^ 8)
-clear-past image {r} {s} e past =
-    let h : length image ≤ s = omega arith in
-    let none = get_or-eq_default image 0 h in
-    (sym (set_out image s _ h), omega arith)
+sharpness-cleared zs image size small e = rw (e, sharpness-zero zs size, bits_7_4 (get_or image 0x22 0) small)

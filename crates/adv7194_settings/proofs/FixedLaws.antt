@@ -9,19 +9,19 @@ use native.Mathlib.Omega.{arith}
 use lib.Dec.{T, eqb, leb, ltb, leb→le, ltb→lt}
 use lib.IntN.{ℤ}
 use lib.ListN.{length, get_or}
-use borrow.Author.Tests.{ne_eqb}
+use borrow.Author.Tests.{le-leb, le-ltb, ne_eqb}
 use Rattle.bits.specs.Fields.{bit}
 use Rattle.bits.proofs.FlagLaws.{first, second, holds, fails}
 use Rattle.bits.proofs.SetLaws.{by_bits_lem}
 use Rattle.rounding.proofs.Range.{below, below_at, imp, imp→}
 use Rattle.adv7194_bus.specs.Kind.{register_count}
 use Rattle.adv7194_bus.specs.declared.board.Board.{Board}
+use Rattle.adv7194_table.specs.declared.blocks.Block.{Block}
 use Rattle.adv7194_table.specs.Blocks.{signalling}
 use Rattle.adv7194_table.specs.Fields.{timing, output, picture, dnr}
 use Rattle.adv7194_table.specs.Table.{signals, Entry, single, whole, table}
-use Rattle.adv7194_table.specs.Masks.{bits_of, mask_where, field_mask, zero_mask, own_mask}
+use Rattle.adv7194_table.specs.Masks.{in_block, bits_of, mask_where, field_mask, zero_mask, own_mask}
 use Rattle.adv7194_table.specs.Registers.{has_bits, field_among, field_count}
-use Rattle.adv7194_table.proofs.MaskLaws.{past-block}
 use Rattle.adv7194_table.proofs.RegisterLaws.{one_below}
 use Rattle.adv7194_settings.specs.Codes.{block_codes}
 use Rattle.adv7194_settings.specs.Wanted.{wanted_by}
@@ -34,6 +34,10 @@ use Rattle.refusals.specs.Refusal.{value_or}
 use Rattle.adv7194_settings.proofs.Names.{unknown}
 
 -- ---- past the last register
+
+-- a block has no register past its last
+past-block : (b : Block) (r : ℕ) → b.register + b.registers ≤ r → in_block b r ≡ false
+past-block b r h = rw (le-leb b.register r (omega arith), le-ltb r (b.register + b.registers) h)
 
 -- an entry's registers are below n
 abbrev entry_below : ℕ → Entry → Bool

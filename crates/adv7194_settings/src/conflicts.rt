@@ -1,17 +1,16 @@
 // Settings that don't go together.
 ghost use Rattle.std.specs.Prelude.{◌≡◌};
 ghost use Rattle.refusals.specs.Refusal.{number_of};
-ghost use Rattle.refusals.specs.Verdict.{after, fault_where};
+ghost use Rattle.refusals.specs.Verdict.{after, fault_where, verdict_as};
 ghost use Rattle.field_table.specs.Rows.{row_of};
 ghost use Rattle.field_table.specs.Walk.{given as given_of};
 ghost use Rattle.field_table.specs.Blocks.{is};
-ghost use Rattle.field_table.specs.Answers.{checked_as};
 ghost use Rattle.adv7194_settings.specs.Rows.{square_with_oversampling, pedestal_with_pal};
 
 use adv7194_table::rows::{OVERSAMPLING, PEDESTAL, SQUARE_PIXEL, STANDARD};
+use field_table::given;
 use field_table::row::row_of;
-use field_table::{Checked, given, then};
-use refusals::Refusal;
+use refusals::{Fault, Refusal};
 
 // A yes, and the standard PAL.
 const ONE: i32 = 1;
@@ -24,43 +23,39 @@ fn is_one(packed: u64, numbers: &[i32]) -> bool
 }
 
 // The fault of a conflict, where there is one.
-pub fn fault(conflict: bool, refusal: Refusal, field: u8) -> Checked
-    ensures answer { checked_as result ≡ fault_where conflict (number_of refusal) field }
+pub fn fault(conflict: bool, refusal: Refusal, field: u8) -> Result<(), Fault>
+    ensures answer { verdict_as result ≡ fault_where conflict (number_of refusal) field }
 {
     if conflict {
-        return Checked::Refused { refusal, field };
+        return Err(refusal.at(field));
     }
-    Checked::Good
+    Ok(())
 }
 
 // Square pixel with 4x oversampling, after the fields before.
-pub fn square_with_oversampling(before: Checked, numbers: &[i32]) -> Checked
-    ensures answer { checked_as result ≡ after (checked_as before) (fault_where (square_with_oversampling numbers.now) 5 3) }
+pub fn square_with_oversampling(before: Result<(), Fault>, numbers: &[i32]) -> Result<(), Fault>
+    ensures answer { verdict_as result ≡ after (verdict_as before) (fault_where (square_with_oversampling numbers.now) 5 3) }
 {
+    before?;
     let square = is_one(SQUARE_PIXEL, numbers);
     let oversampling = is_one(OVERSAMPLING, numbers);
-    then(
-        before,
-        fault(
-            square & oversampling,
-            Refusal::SquarePixelWithOversampling,
-            row_of(OVERSAMPLING).field,
-        ),
+    fault(
+        square & oversampling,
+        Refusal::SquarePixelWithOversampling,
+        row_of(OVERSAMPLING).field,
     )
 }
 
 // Pedestal with PAL, after the fields before.
-pub fn pedestal_with_pal(before: Checked, numbers: &[i32]) -> Checked
-    ensures answer { checked_as result ≡ after (checked_as before) (fault_where (pedestal_with_pal numbers.now) 6 4) }
+pub fn pedestal_with_pal(before: Result<(), Fault>, numbers: &[i32]) -> Result<(), Fault>
+    ensures answer { verdict_as result ≡ after (verdict_as before) (fault_where (pedestal_with_pal numbers.now) 6 4) }
 {
+    before?;
     let pedestal = is_one(PEDESTAL, numbers);
     let pal = is_one(STANDARD, numbers);
-    then(
-        before,
-        fault(
-            pedestal & pal,
-            Refusal::PedestalWithPal,
-            row_of(PEDESTAL).field,
-        ),
+    fault(
+        pedestal & pal,
+        Refusal::PedestalWithPal,
+        row_of(PEDESTAL).field,
     )
 }

@@ -2,7 +2,7 @@
 -- Assumes nothing.
 use mathlib.Core.Path.{◌≡◌, refl, ap}
 use mathlib.Core.Bool.{Bool, true, false, not, cond, ◌&&◌, ◌||◌}
-use mathlib.Core.List.{List, ◌∷◌}
+use mathlib.Core.List.{List, [], ◌∷◌}
 use Prim.Native.Nat.{ℕ, ◌+◌, ◌/◌, ◌%◌, ◌^◌, ◌<◌}
 use native.Mathlib.Omega.{arith}
 use lib.Dec.{T, eqb, eqb→eq}
@@ -14,7 +14,8 @@ use Rattle.rounding.proofs.Range.{below_at, imp, imp→}
 use Rattle.field_table.specs.Blocks.{is}
 use Rattle.adv7194_signalling.specs.Cgms.{cgms_of}
 use Rattle.adv7194_signalling.specs.Wss.{wss_of}
-use Rattle.adv7194_signalling.specs.Kind.{by_kind, kind_of}
+use Rattle.adv7194_signalling.specs.Kind.{by_kind, kind_named, kind_of}
+use Rattle.adv7194_signalling.specs.Signalling.{number_of, signalling_codes}
 use Rattle.adv7194_signalling.proofs.CgmsLaws.{cgms_number}
 use Rattle.adv7194_signalling.proofs.CgmsReadLaws.{parts, is_coded}
 use Rattle.adv7194_signalling.proofs.NumberLaws.{yes_is}
@@ -49,6 +50,28 @@ by_answer_lem {A} refusal wss cgms off r19 = by (has r19 7) (sent r19) (has r19 
     by false true p = refl
     by true false p = refl
     by true true p = refl
+
+-- a setting's coding by the kind that it names
+pub codes-named : (zs : List ℤ)
+    → by_answer refused (wss_of (number_of zs 1)) (cgms_of (number_of zs 1) (number_of zs 2) (number_of zs 3) (number_of zs 4)) (accepted [])
+    (kind_named (number_of zs 0))
+    ≡ signalling_codes zs
+unfolding signalling_codes
+codes-named zs = by (is 0 (number_of zs 0)) (is 1 (number_of zs 0)) (is 2 (number_of zs 0))
+  where
+    cgms : Judged (List ℕ)
+    cgms = cgms_of (number_of zs 1) (number_of zs 2) (number_of zs 3) (number_of zs 4)
+
+    wss : Judged (List ℕ)
+    wss = wss_of (number_of zs 1)
+
+    by : (x y z : Bool)
+        → by_answer refused wss cgms (accepted []) (cond x (accepted 0) (cond y (accepted 1) (cond z (accepted 2) (refused 3))))
+        ≡ cond x (accepted []) (cond y cgms (cond z wss (refused 3)))
+    by true y z = refl
+    by false true z = refl
+    by false false true = refl
+    by false false false = refl
 
 -- ---- what is coded
 

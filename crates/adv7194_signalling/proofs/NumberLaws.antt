@@ -1,19 +1,15 @@
 -- Signed settings: what it says of one that it is within 0 to top. Assumes nothing.
-use mathlib.Core.Path.{◌≡◌, refl, ap, ◌∙◌}
+use mathlib.Core.Path.{◌≡◌, refl}
 use mathlib.Core.Bool.{true, false}
-use mathlib.Core.List.{List, [], ◌∷◌}
 use Prim.Native.Nat.{ℕ, suc, ◌%◌, ◌^◌, ◌≤◌, ◌<◌}
 use native.Mathlib.Nat.{mod-lt, zero-lt-suc, le_of_suc-le-suc}
 use native.Mathlib.Omega.{arith}
 use lib.Dec.{T, eqb, leb}
 use lib.IntN.{ℤ, pos, negsuc, nat_abs}
-use lib.Signed.{lt_z, non_neg, mag}
+use lib.Signed.{lt_z, non_neg}
 use mir.Syntax.{w32}
 use mir.Val.{Fits, SFits}
-use mir.ValLaws.{to_z-of_z}
 use borrow.Author.Tests.{ltb-true, leb-true, le-leb}
-use Rattle.refusals.specs.Refusal.{Judged, accepted}
-use Rattle.rounding.proofs.Range.{back}
 use Rattle.field_table.specs.Blocks.{is, between}
 
 -- no number is below 0
@@ -56,23 +52,3 @@ yes_is (negsuc n) w = absurd w.sign
 -- a remainder is within its divisor
 pub rest-within : (n top : ℕ) → between 0 top (pos (n % suc top)) ≡ true
 rest-within n top = rw (from_zero (n % suc top)) (le-leb (n % suc top) top (le_of_suc-le-suc (mod-lt n (zero-lt-suc top))))
-
--- ---- what a callee says of numbers that were passed to it
-
-pub passed : {A : Type 0} (code : ℤ → A) (z : ℤ) {v : A} → v ≡ code (back w32 z) → mag z < 2 ^ 31 → v ≡ code z
-passed code z e h = e ∙ ap code (to_z-of_z w32 z (record { sfits = h }))
-
--- the same of four
-pub passed4 : {A : Type 0} (code : ℤ → ℤ → ℤ → ℤ → A) (a b c d : ℤ) {v : A} → v ≡ code (back w32 a) (back w32 b) (back w32 c) (back w32 d)
-    → mag a < 2 ^ 31 → mag b < 2 ^ 31 → mag c < 2 ^ 31 → mag d < 2 ^ 31 → v ≡ code a b c d
-passed4 code a b c d e ha hb hc hd =
-    passed (λ (x : ℤ). code x b c d) a
-    (passed (λ (x : ℤ). code (back w32 a) x c d) b
-    (passed (λ (x : ℤ). code (back w32 a) (back w32 b) x d) c (passed (λ (x : ℤ). code (back w32 a) (back w32 b) (back w32 c) x) d e hd) hc)
-    hb)
-    ha
-
--- and of four that are kept
-pub four_back : (a b c d : ℤ) → mag a < 2 ^ 31 → mag b < 2 ^ 31 → mag c < 2 ^ 31 → mag d < 2 ^ 31
-    → ◌≡◌ {A = Judged (List ℤ)} (accepted (pos 1 ∷ back w32 a ∷ back w32 b ∷ back w32 c ∷ back w32 d ∷ [])) (accepted (pos 1 ∷ a ∷ b ∷ c ∷ d ∷ []))
-four_back a b c d = passed4 (λ (x y z u : ℤ). accepted (pos 1 ∷ x ∷ y ∷ z ∷ u ∷ [])) a b c d refl

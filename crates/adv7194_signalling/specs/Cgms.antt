@@ -3,13 +3,11 @@
 -- C16-C19 bits 0-3 of 19; bit 4 of 19 is the chip check, bits 5 and 6 the odd and even field, bit 7 zero.
 use Rattle.std.specs.Prelude.{Bool, false, cond, ◌&&◌, List, [], ◌∷◌, ◌++◌, ℕ, ℤ, nat_abs}
 use Rattle.bits.specs.Strings.{lsb_first, msb_first}
-use Rattle.refusals.specs.Refusal.{Judged, accepted, refused, number_of}
+use Rattle.refusals.specs.Refusal.{Judged, accepted, refused}
 use Rattle.field_table.specs.Blocks.{is, between}
 use Rattle.adv7194_signalling.specs.Word.{register_bytes}
 use Rattle.adv7194_signalling.specs.Held.{Held}
 use Rattle.adv7194_signalling.specs.declared.cgms.CgmsSetting.{CgmsSetting}
-use Rattle.adv7194_signalling.specs.declared.cgms.CgmsRead.{CgmsRead}
-use Rattle.adv7194_signalling.specs.declared.cgms.CgmsRead.TheVariants as read
 use Rattle.adv7194_signalling.specs.Check.{check_of}
 
 -- the word's 24 bits: C0 to C19, then those of 19 from bit 4 up
@@ -28,11 +26,6 @@ cgms_of payload odd even chip =
 -- a setting's coding
 abbrev pub cgms_code : CgmsSetting → Judged (List ℕ)
 cgms_code s = cgms_of s.payload s.odd s.even s.chip_check
-
--- what the reader answers
-abbrev pub cgms_read_as : CgmsRead → Judged CgmsSetting
-cgms_read_as (read.Setting s) = accepted s
-cgms_read_as (read.Refused why) = refused (number_of why)
 
 -- an answer is the only setting that is coded as the bytes
 abbrev pub CgmsHeld : List ℕ → Judged CgmsSetting → Type 0

@@ -3,11 +3,9 @@
 use Rattle.std.specs.Prelude.{Bool, true, false, cond, List, [], ◌∷◌, ◌++◌, ℕ, ℤ, nat_abs, replicate}
 use Rattle.bits.specs.Strings.{lsb_first}
 use Rattle.bits.specs.Parity.{odd_in}
-use Rattle.refusals.specs.Refusal.{Judged, accepted, refused, number_of}
+use Rattle.refusals.specs.Refusal.{Judged, accepted, refused}
 use Rattle.field_table.specs.Blocks.{between}
 use Rattle.adv7194_signalling.specs.Held.{Held}
-use Rattle.adv7194_signalling.specs.declared.wss.WssRead.{WssRead}
-use Rattle.adv7194_signalling.specs.declared.wss.WssRead.TheVariants as read
 use Rattle.adv7194_signalling.specs.Word.{register_bytes}
 
 -- the word's 24 bits: W0 to W13, zeros, and bit 7 of 19
@@ -22,11 +20,6 @@ wss_of number =
     (refused 3)
 
 -- ---- the reader of a number
-
--- what the reader answers
-abbrev pub wss_read_as : WssRead → Judged ℤ
-wss_read_as (read.Setting z) = accepted z
-wss_read_as (read.Refused why) = refused (number_of why)
 
 -- an answer is the only number that is coded as the bytes
 abbrev pub WssHeld : List ℕ → Judged ℤ → Type 0

@@ -1,14 +1,15 @@
 // CGMS: a payload of 14 bits, six check bits, and the fields that carry them.
 ghost use Rattle.std.specs.Prelude.{◌≡◌, ◌^◌, ◌<◌, eqb};
 ghost use Rattle.bits.specs.Strings.{lsb_value};
+ghost use Rattle.refusals.specs.Refusal.{judged_as};
 ghost use Rattle.adv7194_signalling.specs.Word.{three_bytes, coded_as};
-ghost use Rattle.adv7194_signalling.specs.Cgms.{cgms_bits, cgms_of, CgmsHeld, cgms_read_as};
+ghost use Rattle.adv7194_signalling.specs.Cgms.{cgms_bits, cgms_of, CgmsHeld};
 ghost use Rattle.adv7194_signalling.specs.Signalling.{cgms_held};
 ghost use Rattle.adv7194_signalling.specs.Answers.{cgms_numbers};
 
 use crate::check::check_bits;
 use crate::numbers::{NUMBER_TOP, YES_TOP, within};
-use crate::registers::{Coded, Registers};
+use crate::registers::Registers;
 use crate::word::{joined, split};
 use refusals::Refusal;
 
@@ -20,13 +21,6 @@ pub struct CgmsSetting {
     pub odd: i32,
     pub even: i32,
     pub chip_check: i32,
-}
-
-// The setting that registers hold, or the refusal.
-#[derive(Clone, Copy)]
-pub enum CgmsRead {
-    Setting(CgmsSetting),
-    Refused(Refusal),
 }
 
 // C14, the first check bit, in the word.
@@ -54,7 +48,7 @@ pub fn cgms_word(payload: u32, odd: u32, even: u32, chip: u32) -> u32
 }
 
 // The registers of a CGMS setting, or refusal 3.
-pub fn cgms_code(payload: i32, odd: i32, even: i32, chip_check: i32) -> Coded
+pub fn cgms_code(payload: i32, odd: i32, even: i32, chip_check: i32) -> Result<Registers, Refusal>
     ensures answer { coded_as result ≡ cgms_of payload odd even chip_check }
 {
     let inside = within(payload, NUMBER_TOP)
@@ -63,15 +57,15 @@ pub fn cgms_code(payload: i32, odd: i32, even: i32, chip_check: i32) -> Coded
         & within(chip_check, YES_TOP);
     if inside {
         let word = cgms_word(payload as u32, odd as u32, even as u32, chip_check as u32);
-        return Coded::Registers(split(word));
+        return Ok(split(word));
     }
-    Coded::Refused(Refusal::OutOfRange)
+    Err(Refusal::OutOfRange)
 }
 
 // The CGMS setting that the registers hold, or refusal 8: the setting put in the word, with its check bits, is coded again and compared.
-pub fn cgms_setting(registers: Registers) -> CgmsRead
-    ensures answer { cgms_numbers (cgms_read_as result) ≡ cgms_held (three_bytes registers) }
-    ensures only { CgmsHeld (three_bytes registers) (cgms_read_as result) }
+pub fn cgms_setting(registers: Registers) -> Result<CgmsSetting, Refusal>
+    ensures answer { cgms_numbers (judged_as result) ≡ cgms_held (three_bytes registers) }
+    ensures only { CgmsHeld (three_bytes registers) (judged_as result) }
 {
     let word = joined(registers);
     let payload = word % FIRST_CHECK;
@@ -79,12 +73,12 @@ pub fn cgms_setting(registers: Registers) -> CgmsRead
     let even = word / EVEN_FIELD % 2;
     let chip = word / CHIP_CHECK % 2;
     if cgms_word(payload, odd, even, chip) == word {
-        return CgmsRead::Setting(CgmsSetting {
+        return Ok(CgmsSetting {
             payload: payload as i32,
             odd: odd as i32,
             even: even as i32,
             chip_check: chip as i32,
         });
     }
-    CgmsRead::Refused(Refusal::Disagreement)
+    Err(Refusal::Disagreement)
 }

@@ -1,16 +1,14 @@
 // Field 11's setting as five numbers: coded in registers 19, 1A and 1B, read back, and checked against the television standard.
 ghost use Rattle.std.specs.Prelude.{◌≡◌, [], ◌∷◌, pos};
-ghost use Rattle.refusals.specs.Refusal.{accepted};
-ghost use Rattle.adv7194_signalling.specs.Word.{three_bytes, coded_as};
-ghost use Rattle.adv7194_signalling.specs.Cgms.{cgms_read_as};
-ghost use Rattle.adv7194_signalling.specs.Wss.{wss_read_as};
+ghost use Rattle.adv7194_signalling.specs.Word.{three_bytes};
+ghost use Rattle.adv7194_signalling.specs.Kind.{kind_number};
 ghost use Rattle.adv7194_signalling.specs.Signalling.{signalling_codes, signalling_held, signalling_conflict, held_conflict};
-ghost use Rattle.adv7194_signalling.specs.Answers.{numbers_of, cgms_numbers, wss_numbers, code_as, read_as};
+ghost use Rattle.adv7194_signalling.specs.Answers.{numbers_of, cgms_setting_numbers, code_as, read_as};
 
-use crate::cgms::{CgmsRead, cgms_code, cgms_setting};
+use crate::cgms::{CgmsSetting, cgms_code, cgms_setting};
 use crate::kind::{SignallingKind, kind};
-use crate::registers::{Coded, Registers};
-use crate::wss::{WssRead, wss_code, wss_setting};
+use crate::registers::Registers;
+use crate::wss::{wss_code, wss_setting};
 use refusals::Refusal;
 
 // A setting: its kind, the payload of CGMS or the number of WSS, and three yes/no numbers of CGMS. What a kind doesn't use is 0 when read.
@@ -23,29 +21,7 @@ pub struct Signalling {
     pub chip_check: i32,
 }
 
-// A setting's coding: off, which has no bytes, the registers, or the setting's refusal.
-#[derive(Clone, Copy)]
-pub enum SignallingCode {
-    Off,
-    Registers(Registers),
-    Refused(Refusal),
-}
-
-// The setting that registers hold, or the refusal.
-#[derive(Clone, Copy)]
-pub enum SignallingRead {
-    Setting(Signalling),
-    Refused(Refusal),
-}
-
-// The kinds.
-const OFF: i32 = 0;
-
-const CGMS: i32 = 1;
-
-const WSS: i32 = 2;
-
-// The television standards.
+// The television standards, as the setting has them: any number can be handed in, and one that is neither is in no conflict.
 const NTSC: i32 = 0;
 
 const PAL: i32 = 1;
@@ -53,86 +29,62 @@ const PAL: i32 = 1;
 // A no.
 const NO: i32 = 0;
 
-// The coding of CGMS or WSS as that of the field.
-fn coded(code: Coded) -> SignallingCode
-    ensures answer { code_as result ≡ coded_as code }
-{
-    match code {
-        Coded::Registers(registers) => SignallingCode::Registers(registers),
-        Coded::Refused(why) => SignallingCode::Refused(why),
-    }
-}
+impl From<CgmsSetting> for Signalling {
+    ghost from_gives = { λ held setting. numbers_of setting ≡ cgms_setting_numbers held };
 
-// The registers of a setting, or its refusal.
-pub fn signalling_code(setting: Signalling) -> SignallingCode
-    ensures answer { code_as result ≡ signalling_codes (numbers_of setting) }
-{
-    if setting.kind == OFF {
-        return SignallingCode::Off;
-    }
-    if setting.kind == CGMS {
-        return coded(cgms_code(
-            setting.number,
-            setting.odd,
-            setting.even,
-            setting.chip_check,
-        ));
-    }
-    if setting.kind == WSS {
-        return coded(wss_code(setting.number));
-    }
-    SignallingCode::Refused(Refusal::OutOfRange)
-}
-
-// The reading of CGMS as that of the field.
-fn of_cgms(read: CgmsRead) -> SignallingRead
-    ensures answer { read_as result ≡ cgms_numbers (cgms_read_as read) }
-{
-    match read {
-        CgmsRead::Setting(held) => SignallingRead::Setting(Signalling {
-            kind: CGMS,
+    // A CGMS setting as the field's.
+    fn from(held: CgmsSetting) -> Self {
+        Signalling {
+            kind: i32::from(SignallingKind::Cgms),
             number: held.payload,
             odd: held.odd,
             even: held.even,
             chip_check: held.chip_check,
-        }),
-        CgmsRead::Refused(why) => SignallingRead::Refused(why),
+        }
     }
 }
 
 // A setting that has no yes.
-fn plain(kind: i32, number: i32) -> SignallingRead
-    ensures answer { read_as result ≡ accepted (kind ∷ number ∷ pos 0 ∷ pos 0 ∷ pos 0 ∷ []) }
+fn plain(kind: SignallingKind, number: i32) -> Signalling
+    ensures answer { numbers_of result ≡ pos (kind_number kind) ∷ number ∷ pos 0 ∷ pos 0 ∷ pos 0 ∷ [] }
 {
-    SignallingRead::Setting(Signalling {
-        kind,
+    Signalling {
+        kind: i32::from(kind),
         number,
         odd: NO,
         even: NO,
         chip_check: NO,
-    })
+    }
 }
 
-// The reading of WSS as that of the field.
-fn of_wss(read: WssRead) -> SignallingRead
-    ensures answer { read_as result ≡ wss_numbers (wss_read_as read) }
+// The registers of a setting, none for off, or its refusal.
+pub fn signalling_code(setting: Signalling) -> Result<Option<Registers>, Refusal>
+    ensures answer { code_as result ≡ signalling_codes (numbers_of setting) }
 {
-    match read {
-        WssRead::Setting(number) => plain(WSS, number),
-        WssRead::Refused(why) => SignallingRead::Refused(why),
+    match SignallingKind::try_from(setting.kind)? {
+        SignallingKind::Off => Ok(None),
+        SignallingKind::Cgms => cgms_code(
+            setting.number,
+            setting.odd,
+            setting.even,
+            setting.chip_check,
+        )
+        .map(Some),
+        SignallingKind::Wss => wss_code(setting.number).map(Some),
     }
 }
 
 // The setting that the registers hold, or its refusal: the kind, then its reader.
-pub fn signalling_setting(registers: Registers) -> SignallingRead
+pub fn signalling_setting(registers: Registers) -> Result<Signalling, Refusal>
     ensures answer { read_as result ≡ signalling_held (three_bytes registers) }
 {
-    let held = kind(registers.r19);
-    match held {
-        SignallingKind::Off => plain(OFF, 0),
-        SignallingKind::Cgms => of_cgms(cgms_setting(registers)),
-        SignallingKind::Wss => of_wss(wss_setting(registers)),
-        SignallingKind::Refused(why) => SignallingRead::Refused(why),
+    match kind(registers.r19)? {
+        SignallingKind::Off => Ok(plain(SignallingKind::Off, 0)),
+        SignallingKind::Cgms => cgms_setting(registers).map(|held| Signalling::from(held)),
+        SignallingKind::Wss => wss_setting(registers).map(|number| plain(
+            SignallingKind::Wss,
+            number,
+        )),
     }
 }
 
@@ -140,19 +92,25 @@ pub fn signalling_setting(registers: Registers) -> SignallingRead
 pub fn signalling_conflict(standard: i32, setting: Signalling) -> bool
     ensures answer { result ≡ signalling_conflict standard (numbers_of setting) }
 {
-    let cgms = (standard == PAL) | ((setting.odd == NO) & (setting.even == NO));
-    ((setting.kind == CGMS) & cgms) | ((setting.kind == WSS) & (standard == NTSC))
+    match SignallingKind::try_from(setting.kind) {
+        Ok(SignallingKind::Cgms) => {
+            (standard == PAL) | ((setting.odd == NO) & (setting.even == NO))
+        }
+        Ok(SignallingKind::Wss) => standard == NTSC,
+        Ok(SignallingKind::Off) | Err(_) => false,
+    }
 }
 
 // Whether the kind that register 19 holds is two at once, or doesn't go with a standard.
 pub fn held_conflict(standard: i32, r19: u8) -> bool
     ensures answer { result ≡ held_conflict standard (r19 ∷ []) }
 {
-    let held = kind(r19);
-    match held {
-        SignallingKind::Off => false,
-        SignallingKind::Cgms => standard == PAL,
-        SignallingKind::Wss => standard == NTSC,
-        SignallingKind::Refused(why) => why.number() == Refusal::SignallingConflict.number(),
+    match kind(r19) {
+        Ok(held) => match held {
+            SignallingKind::Off => false,
+            SignallingKind::Cgms => standard == PAL,
+            SignallingKind::Wss => standard == NTSC,
+        },
+        Err(why) => why == Refusal::SignallingConflict,
     }
 }

@@ -1,5 +1,4 @@
-// The three signalling registers, and what a coding answers.
-use refusals::Refusal;
+// The three signalling registers.
 
 // Registers 19, 1A and 1B.
 #[derive(Clone, Copy)]
@@ -7,11 +6,4 @@ pub struct Registers {
     pub r19: u8,
     pub r1a: u8,
     pub r1b: u8,
-}
-
-// The registers that code a setting, or the setting's refusal.
-#[derive(Clone, Copy)]
-pub enum Coded {
-    Registers(Registers),
-    Refused(Refusal),
 }

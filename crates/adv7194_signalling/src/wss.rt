@@ -1,22 +1,16 @@
 // WSS: a number of 14 bits, of which the four lowest hold an odd number of ones.
 ghost use Rattle.std.specs.Prelude.{◌≡◌};
+ghost use Rattle.refusals.specs.Refusal.{judged_as};
 ghost use Rattle.adv7194_signalling.specs.Word.{three_bytes, coded_as};
-ghost use Rattle.adv7194_signalling.specs.Wss.{wss_of, WssHeld, wss_read_as};
+ghost use Rattle.adv7194_signalling.specs.Wss.{wss_of, WssHeld};
 ghost use Rattle.adv7194_signalling.specs.Signalling.{wss_held};
 ghost use Rattle.adv7194_signalling.specs.Answers.{wss_numbers};
 
 use crate::numbers::{NUMBER_TOP, within};
-use crate::registers::{Coded, Registers};
+use crate::registers::Registers;
 use crate::word::{joined, split};
 use bits::parity::odd_ones;
 use refusals::Refusal;
-
-// The setting that registers hold, a number, or the refusal.
-#[derive(Clone, Copy)]
-pub enum WssRead {
-    Setting(i32),
-    Refused(Refusal),
-}
 
 // The bit past W13 in the word.
 const PAST_NUMBER: u32 = 0x4000;
@@ -28,28 +22,28 @@ const WSS: u32 = 0x80_0000;
 const ODD_WIDTH: u32 = 4;
 
 // The registers of a WSS number, or refusal 3 or 4.
-pub fn wss_code(number: i32) -> Coded
+pub fn wss_code(number: i32) -> Result<Registers, Refusal>
     ensures answer { coded_as result ≡ wss_of number }
 {
     if within(number, NUMBER_TOP) {
         let w = number as u32;
         if odd_ones(w, ODD_WIDTH) {
-            return Coded::Registers(split(w + WSS));
+            return Ok(split(w + WSS));
         }
-        return Coded::Refused(Refusal::Reserved);
+        return Err(Refusal::Reserved);
     }
-    Coded::Refused(Refusal::OutOfRange)
+    Err(Refusal::OutOfRange)
 }
 
 // The WSS number that the registers hold, or refusal 4.
-pub fn wss_setting(registers: Registers) -> WssRead
-    ensures answer { wss_numbers (wss_read_as result) ≡ wss_held (three_bytes registers) }
-    ensures only { WssHeld (three_bytes registers) (wss_read_as result) }
+pub fn wss_setting(registers: Registers) -> Result<i32, Refusal>
+    ensures answer { wss_numbers (judged_as result) ≡ wss_held (three_bytes registers) }
+    ensures only { WssHeld (three_bytes registers) (judged_as result) }
 {
     let word = joined(registers);
     let number = word % PAST_NUMBER;
     if (number + WSS == word) & odd_ones(number, ODD_WIDTH) {
-        return WssRead::Setting(number as i32);
+        return Ok(number as i32);
     }
-    WssRead::Refused(Refusal::Reserved)
+    Err(Refusal::Reserved)
 }

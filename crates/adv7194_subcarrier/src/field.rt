@@ -9,14 +9,8 @@ ghost use Rattle.adv7194_subcarrier.specs.Answers.{word_read_as};
 use crate::{Standard, word};
 use refusals::Refusal;
 
-// What reading the word answers: it agrees with the standard and square pixel, or the refusal.
-#[derive(Clone, Copy)]
-pub enum WordRead {
-    Agrees,
-    Refused(Refusal),
-}
-
-// The setting of the standard that is PAL; any other is NTSC.
+// The setting of the standard that is PAL; any other is NTSC. It stays a number, as C hands it in: `Standard` from a number would have to be refused or made
+// up where the word has to be answered all the same.
 const PAL: i32 = 1;
 
 // The setting of square pixel that is a yes.
@@ -53,12 +47,19 @@ pub fn word_codes(standard: i32, square: i32) -> [u8; 4]
 }
 
 // Whether the bytes of the registers are the word's, or refusal 8.
-pub fn word_setting(b0: u8, b1: u8, b2: u8, b3: u8, standard: i32, square: i32) -> WordRead
+pub fn word_setting(
+    b0: u8,
+    b1: u8,
+    b2: u8,
+    b3: u8,
+    standard: i32,
+    square: i32,
+) -> Result<(), Refusal>
     ensures answer { word_read_as result ≡ cond (same_bytes (b0 ∷ b1 ∷ b2 ∷ b3 ∷ []) (word_codes standard square)) (accepted []) (refused 8) }
 {
     let held = b0 as u32 + b1 as u32 * BYTE_1 + b2 as u32 * BYTE_2 + b3 as u32 * BYTE_3;
     if held == word_set(standard, square) {
-        return WordRead::Agrees;
+        return Ok(());
     }
-    WordRead::Refused(Refusal::Disagreement)
+    Err(Refusal::Disagreement)
 }

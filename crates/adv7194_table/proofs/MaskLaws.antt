@@ -1,15 +1,14 @@
 -- The masks of registers: those of a field by rows and blocks, and that all of a register's masks together are at most a byte. Assumes nothing.
-use mathlib.Core.Path.{◌≡◌, refl, sym, ap, ◌∙◌}
+use mathlib.Core.Path.{◌≡◌, refl, ap, ◌∙◌}
 use mathlib.Core.Bool.{Bool, true, false, not, cond}
 use mathlib.Core.List.{List, [], ◌∷◌}
-use Prim.Native.Nat.{ℕ, zero, suc, ◌+◌, ◌-◌, ◌*◌, ◌^◌, ◌≤◌, ◌<◌}
+use Prim.Native.Nat.{ℕ, zero, suc, ◌+◌, ◌≤◌, ◌<◌}
 use native.Mathlib.Numerals.{add-one}
 use native.Mathlib.Omega.{arith}
 use lib.Dec.{eqb, leb, ltb, leb→le}
 use lib.ListN.{length, get_or, drop}
 use lib.Seq.{drop-cons, drop-length}
-use borrow.Author.Tests.{lt-leb, le-leb, lt-ltb, le-ltb, eq-eqb, ne_eqb}
-use Rattle.field_table.specs.declared.row.Row.{Row}
+use borrow.Author.Tests.{le-leb, le-ltb}
 use Rattle.field_table.specs.Rows.{row_of}
 use Rattle.adv7194_bus.specs.Kind.{register_count, read_only}
 use Rattle.bits.proofs.Checks.{below, at-below}
@@ -92,85 +91,14 @@ pub zero-mask-at : (r : ℕ) → r < register_count → get_or zero_masks r 0 �
 unfolding zero_masks
 zero-mask-at r h = each_at zero_mask 0 register_count r h ∙ ap zero_mask (omega arith)
 
--- ---- one row's and one block's bits
-
--- those of field n
-abbrev row_own : Row → ℕ → ℕ → ℕ
-row_own s n r = cond (eqb s.field n) (row_bits s r) 0
-
-abbrev block_own : Block → ℕ → ℕ → ℕ
-block_own b n r = cond (eqb b.field n) (block_bits b r) 0
-
-module _ {x y : Row} (n r : ℕ) (e : x ≡ y) where
-  pub other_field : (x.field ≡ n → ⊥) → 0 ≡ row_own y n r
-  other_field h = let g : eqb y.field n ≡ false = ne_eqb _ _ (λ p. h (ap (λ (s : Row). s.field) e ∙ p)) in rw g
-
-  pub other_register : (x.register ≡ r → ⊥) → 0 ≡ row_own y n r
-  other_register h = let g : eqb y.register r ≡ false = ne_eqb _ _ (λ p. h (ap (λ (s : Row). s.register) e ∙ p)) in rw g (either (eqb y.field n))
-    where
-      either : (b : Bool) → ◌≡◌ {A = ℕ} 0 (cond b 0 0)
-      either true = refl
-      either false = refl
-
-  pub own_bits_lem : x.field ≡ n → x.register ≡ r → (2 ^ x.width - 1) * 2 ^ x.bit ≡ row_own y n r
-  own_bits_lem h k =
-      let f : eqb y.field n ≡ true = eq-eqb _ _ (sym (ap (λ (s : Row). s.field) e) ∙ h) in
-      let g : eqb y.register r ≡ true = eq-eqb _ _ (sym (ap (λ (s : Row). s.register) e) ∙ k) in
-      rw (f, g) (ap (λ (s : Row). (2 ^ s.width - 1) * 2 ^ s.bit) e)
-
-module _ {x y : Block} (n r : ℕ) (e : x ≡ y) where
-  pub other_block : (x.field ≡ n → ⊥) → 0 ≡ block_own y n r
-  other_block h = let g : eqb y.field n ≡ false = ne_eqb _ _ (λ p. h (ap (λ (s : Block). s.field) e ∙ p)) in rw g
-
-  pub outside-block : in_block x r ≡ false → 0 ≡ block_own y n r
-  outside-block h = let g : in_block y r ≡ false = sym (ap (λ (s : Block). in_block s r) e) ∙ h in rw g (either (eqb y.field n))
-    where
-      either : (b : Bool) → ◌≡◌ {A = ℕ} 0 (cond b 0 0)
-      either true = refl
-      either false = refl
-
-  pub in_block_lem : x.field ≡ n → in_block x r ≡ true → 0xFF ≡ block_own y n r
-  in_block_lem h k =
-      let f : eqb y.field n ≡ true = eq-eqb _ _ (sym (ap (λ (s : Block). s.field) e) ∙ h) in
-      let g : in_block y r ≡ true = sym (ap (λ (s : Block). in_block s r) e) ∙ k in
-      rw (f, g)
-
--- how a register lies to a block
-pub before-block : (x : Block) (r : ℕ) → r < x.register → in_block x r ≡ false
-before-block x r h = let g : leb x.register r ≡ false = lt-leb _ _ h in rw g
-
+-- a register past a block's
 pub past-block : (x : Block) (r : ℕ) → x.register + x.registers ≤ r → in_block x r ≡ false
 past-block x r h =
     let g : leb x.register r ≡ true = le-leb x.register r (omega arith) in
     let k : ltb r (x.register + x.registers) ≡ false = le-ltb _ _ h in
     rw (g, k)
 
-pub within_block : (x : Block) (r : ℕ) → x.register ≤ r → r < x.register + x.registers → in_block x r ≡ true
-within_block x r h l =
-    let g : leb x.register r ≡ true = le-leb _ _ h in
-    let k : ltb r (x.register + x.registers) ≡ true = lt-ltb _ _ l in
-    rw (g, k)
-
 -- ---- row by row and block by block
-
--- as many as they are packed in
-rows_length : (ps : List ℕ) → length (rows_of ps) ≡ length ps
-unfolding rows_of
-rows_length [] = refl
-rows_length (p ∷ ps) = ap suc (rows_length ps)
-
-blocks-length : (ps : List ℕ) → length (blocks_of ps) ≡ length ps
-unfolding blocks_of
-blocks-length [] = refl
-blocks-length (p ∷ ps) = ap suc (blocks-length ps)
-
-pub row_count : (ps : List ℕ) → rows_of ps ≡ rows_in (single_fields table) → length ps ≡ 26
-unfolding rows_in single_fields table timing output picture dnr
-row_count ps e = sym (rows_length ps) ∙ ap length e
-
-pub block-count : (ps : List ℕ) → blocks_of ps ≡ blocks_in table → length ps ≡ 4
-unfolding blocks_in table timing output picture dnr
-block-count ps e = sym (blocks-length ps) ∙ ap length e
 
 module _ (n r : ℕ) (ps : List ℕ) (i : ℕ) where
   pub rows_next : i < length ps

@@ -3,16 +3,17 @@ use mathlib.Core.Path.{◌≡◌, refl, sym, ap, ap₂, ◌∙◌, subst}
 use mathlib.Core.Logic.{◌⊎◌, inl, inr, ⊎_elim}
 use mathlib.Core.Bool.{Bool, true, false, not, cond, ◌&&◌, ◌||◌, and-false, or-true}
 use mathlib.Core.List.{List, [], ◌∷◌}
-use Prim.Native.Nat.{ℕ, zero, suc, ◌+◌, ◌-◌, ◌%◌, ◌^◌, ◌≤◌, ◌<◌}
+use Prim.Native.Nat.{ℕ, zero, suc, ◌+◌, ◌%◌, ◌^◌, ◌≤◌, ◌<◌}
 use native.Mathlib.Nat.{pow-suc, add-div_left, add-mod_left, div-eq_of_lt}
 use native.Mathlib.Numerals.{add-one}
 use native.Mathlib.Omega.{arith}
 use lib.Bits.{bit_and, and_le_l}
 use lib.Count.{count_trailing_zeros}
 use lib.Dec.{T, eqb, eqb→eq}
-use lib.ListN.{get_or}
 use lib.Pow.{pow_pos}
-use borrow.Author.Tests.{eqb-true, eqb-false, eq-eqb, ne_eqb}
+use borrow.Author.Tests.{eqb-true, eqb-false, eq-eqb}
+use Rattle.std.specs.Prelude.{Some, unwrap_or}
+use Rattle.std.specs.List.{position_from}
 use Rattle.bits.specs.Maps.{has}
 use Rattle.bits.proofs.FlagLaws.{either}
 use Rattle.bits.proofs.MapLaws.{least}
@@ -24,7 +25,7 @@ use Rattle.adv7194_table.specs.Table.{table, order_of}
 use Rattle.adv7194_table.specs.Masks.{mask_where, own_mask, each}
 use Rattle.adv7194_table.specs.Registers.{has_bits, some_below, field_among, lowest_in, lowest_field, field_count, registers_below, field_registers}
 use Rattle.adv7194_table.proofs.TableLaws.{order_is}
-use Rattle.adv7194_table.proofs.MaskLaws.{own_all, each_at}
+use Rattle.adv7194_table.proofs.MaskLaws.{own_all}
 
 -- ---- one of the numbers below n
 
@@ -112,23 +113,6 @@ among-map map f =
     own : ℕ
     own = registers_below f register_count
 
--- the field's entry of the table
-registers-at : (f : ℕ) → f < field_count → get_or field_registers f 0 ≡ registers_below f register_count
-unfolding field_registers
-registers-at f h = each_at (λ f. registers_below f register_count) 0 field_count f h ∙ ap (λ (n : ℕ). registers_below n register_count) (omega arith)
-
--- so the test of the field's entry says whether it has one
-module _ (map f : ℕ) {fields : List ℕ} (e : fields ≡ field_registers) (h : f < field_count) where
-  by_entry : field_among (has map) f ≡ not (eqb (bit_and (get_or fields f 0) map) 0)
-  by_entry =
-      among-map map f ∙ ap (λ (m : ℕ). not (eqb (bit_and m map) 0)) (sym (ap (λ (l : List ℕ). get_or l f 0) e ∙ registers-at f h))
-
-  pub not_among : bit_and (get_or fields f 0) map ≡ 0 → field_among (has map) f ≡ false
-  not_among z = by_entry ∙ ap not (eq-eqb _ 0 z)
-
-  pub is_among : (bit_and (get_or fields f 0) map ≡ 0 → ⊥) → field_among (has map) f ≡ true
-  is_among z = by_entry ∙ ap not (ne_eqb _ 0 z)
-
 -- ---- the lowest field
 
 -- the lowest of n fields from k on
@@ -158,19 +142,6 @@ module _ (P : ℕ → Bool) where
       split true h = inr (omega arith)
       split false h = ⊎_elim (λ e. inl e) (λ l. inr (omega arith)) h
 
-  -- the same for a loop's turn, with the fields up to the last
-  pub turn_here : (f : ℕ) → f < field_count → field_among P f ≡ true → lowest_from P f (field_count - f) ≡ f
-  turn_here f h e = let k : field_count - f ≡ suc (field_count - (f + 1)) = omega arith in ap (lowest_from P f) k ∙ lowest_here f (field_count - (f + 1)) e
-
-  pub turn_next : (f : ℕ) → f < field_count → field_among P f ≡ false → lowest_from P (f + 1) (field_count - (f + 1)) ≡ lowest_from P f (field_count - f)
-  turn_next f h e =
-      let k : field_count - f ≡ suc (field_count - (f + 1)) = omega arith in
-      ap (λ (x : ℕ). lowest_from P x (field_count - (f + 1))) (add-one f) ∙ sym (lowest_next f (field_count - (f + 1)) e) ∙ sym (ap (lowest_from P f) k)
-
-  pub turn_end : (f : ℕ) → field_count ≤ f → lowest_from P f (field_count - f) ≡ 0
-  unfolding lowest_in
-  turn_end f h = let k : field_count - f ≡ 0 = omega arith in ap (lowest_from P f) k
-
   -- where no field has such a register
   pub none_lowest : ((f : ℕ) → field_among P f ≡ false) → (fs : List ℕ) → lowest_in P fs ≡ 0
   unfolding lowest_in
@@ -188,6 +159,34 @@ same_lowest P Q h = go (order_of table)
     go : (fs : List ℕ) → lowest_in P fs ≡ lowest_in Q fs
     go [] = refl
     go (f ∷ fs) = ap₂ (λ (b : Bool) (n : ℕ). cond b f n) (same f) (go fs)
+
+-- the first of some fields from k on that pass is the lowest of them
+first_of : (P : ℕ → Bool) (map k n : ℕ) → ((f : ℕ) → field_among P f ≡ not (eqb (bit_and (registers_below f register_count) map) 0))
+    → unwrap_or (position_from (λ m. not (eqb (bit_and m map) 0)) k (each (λ f. registers_below f register_count) k n)) 0 ≡ lowest_from P k n
+unfolding lowest_in
+first_of P map k zero h = refl
+first_of P map k (suc n) h = by (not (eqb (bit_and (registers_below k register_count) map) 0)) (h k) (rw (add-one k) (first_of P map (suc k) n h))
+  where
+    rest : List ℕ
+    rest = each (λ f. registers_below f register_count) (suc k) n
+
+    by : (b : Bool) → field_among P k ≡ b
+        → unwrap_or (position_from (λ m. not (eqb (bit_and m map) 0)) (k + 1) rest) 0 ≡ lowest_from P (suc k) n
+        → unwrap_or (cond b (Some k) (position_from (λ m. not (eqb (bit_and m map) 0)) (k + 1) rest)) 0 ≡ lowest_from P k (suc n)
+    by true e later = rw e
+    by false e later = rw e later
+
+-- field 0 has no register
+none_first : (map : ℕ) → bit_and (registers_below 0 register_count) map ≡ 0
+unfolding registers_below own_mask mask_where table timing output picture dnr
+none_first map = omega (arith, and_le_l 0 map)
+
+-- so the first of all fields that has a register of a map is the lowest
+pub first_field : (map : ℕ) → unwrap_or (position_from (λ m. not (eqb (bit_and m map) 0)) 0 field_registers) 0 ≡ lowest_field (has map)
+unfolding field_registers
+first_field map =
+    first_of (has map) map 0 field_count (among-map map)
+    ∙ lowest_next (has map) 0 28 (among-map map 0 ∙ ap not (eq-eqb _ 0 (none_first map))) ∙ sym (lowest_fields (has map))
 
 -- ---- the registers of all fields
 

@@ -1,5 +1,7 @@
-// The bits of a register that count to a field, must-be-zero bits too, and what an image has in them and in the bits outside all fields.
-ghost use Rattle.std.specs.Prelude.{◌≡◌, cond, ◌-◌, ◌*◌, ◌^◌, ◌<◌, ◌≤◌, eqb};
+// The bits of a register that count to a field, must-be-zero bits too, and what an image has in them and in the bits outside all fields. Field and register
+// stay two parameters, and that the chip has the register a `requires` of each function: a type for it would be a narrower one than callers pass, who have a
+// number that a loop counts, at which the `requires` proves by itself. The rows' and the blocks' sum are two loops, as their rows are of two types.
+ghost use Rattle.std.specs.Prelude.{◌≡◌, cond, ◌-◌, ◌*◌, ◌^◌, ◌<◌, ◌≤◌, eqb, get_or};
 ghost use Rattle.field_table.specs.Rows.{row_of};
 ghost use Rattle.adv7194_bus.specs.Kind.{register_count};
 ghost use Rattle.adv7194_table.specs.Blocks.{block_of};
@@ -60,12 +62,9 @@ fn rows_mask(field: u8, register: usize) -> u64
     ensures answer { result ≡ rows_mask field register (rows_in (single_fields table)) }
     ensures small { result ≤ 26 * 2 ^ 32 }
 {
-    let rows = rows();
-    let mut mask: u64 = 0;
-    let mut i = 0;
-    while i < rows.len() {
-        mask += row_bits(rows[i], field, register);
-        i += 1;
+    let mut mask = 0;
+    for packed in rows() {
+        mask += row_bits(packed, field, register);
     }
     mask
 }
@@ -75,12 +74,9 @@ fn blocks_mask(field: u8, register: usize) -> u64
     ensures answer { result ≡ blocks_mask field register (blocks_in table) }
     ensures small { result ≤ 4 * 2 ^ 32 }
 {
-    let blocks = blocks();
-    let mut mask: u64 = 0;
-    let mut i = 0;
-    while i < blocks.len() {
-        mask += block_bits(blocks[i], field, register);
-        i += 1;
+    let mut mask = 0;
+    for packed in blocks() {
+        mask += block_bits(packed, field, register);
     }
     mask
 }
@@ -93,15 +89,19 @@ pub fn own_mask(field: u8, register: usize) -> u8
     (rows_mask(field, register) + blocks_mask(field, register)) as u8
 }
 
+// The byte of a register; 0 where an image has no such register.
+fn byte_of(image: &[u8], register: usize) -> u8
+    ensures answer { result ≡ get_or image.now register 0 }
+{
+    image.get(register).copied().unwrap_or(0)
+}
+
 // What an image has in them, every other bit zero; 0 where it has no such register.
 pub fn own_bits(image: &[u8], field: u8, register: usize) -> u8
     requires { register < register_count }
     ensures answer { result ≡ own_bits image.now field register }
 {
-    if register < image.len() {
-        return image[register] & own_mask(field, register);
-    }
-    0
+    byte_of(image, register) & own_mask(field, register)
 }
 
 // The bits of a register that belong to a field, must-be-zero bits apart.
@@ -119,10 +119,7 @@ pub fn setting_bits(image: &[u8], field: u8, register: usize) -> u8
     requires { register < register_count }
     ensures answer { result ≡ setting_bits image.now field register }
 {
-    if register < image.len() {
-        return image[register] & setting_mask(field, register);
-    }
-    0
+    byte_of(image, register) & setting_mask(field, register)
 }
 
 // What an image has in a register's must-be-zero bits, every other bit zero; 0 where it has no such register.
@@ -130,10 +127,7 @@ pub fn zero_bits(image: &[u8], register: usize) -> u8
     requires { register < register_count }
     ensures answer { result ≡ zero_bits image.now register }
 {
-    if register < image.len() {
-        return image[register] & must_be_zero(register);
-    }
-    0
+    byte_of(image, register) & must_be_zero(register)
 }
 
 // What an image has in a register's bits outside all fields, every other bit zero; 0 where it has no such register.
@@ -141,8 +135,5 @@ pub fn outside_bits(image: &[u8], register: usize) -> u8
     requires { register < register_count }
     ensures answer { result ≡ outside_bits image.now register }
 {
-    if register < image.len() {
-        return image[register] & outside(register);
-    }
-    0
+    byte_of(image, register) & outside(register)
 }

@@ -3,9 +3,6 @@ ghost use Rattle.std.specs.Prelude.{◌≡◌};
 ghost use Rattle.bits.specs.Maps.{has};
 ghost use Rattle.adv7194_table.specs.Registers.{field_registers, lowest_field};
 
-// How many numbers of fields there are: 0, which is none's, to 28.
-const FIELDS: usize = 29;
-
 // The map of each field's registers, by its number.
 const FIELD_REGISTERS: [u64; 29] = [
     0x0,
@@ -56,13 +53,8 @@ pub fn lowest_field(map: u64) -> u8
     if map & ALL_FIELDS == 0 {
         return 0;
     }
-    let fields = field_registers();
-    let mut field: usize = 1;
-    while field < FIELDS {
-        if fields[field] & map != 0 {
-            return field as u8;
-        }
-        field += 1;
-    }
-    0
+    field_registers()
+        .iter()
+        .position(|registers| registers & map != 0)
+        .unwrap_or(0) as u8
 }

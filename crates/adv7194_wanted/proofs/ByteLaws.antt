@@ -1,12 +1,12 @@
 -- Bytes put in registers one after the other. Assumes nothing.
 use mathlib.Core.Path.{◌≡◌, refl, sym, ap, ap₂, ◌∙◌}
-use mathlib.Core.List.{List, [], ◌∷◌}
+use mathlib.Core.List.{List, ◌∷◌}
 use Prim.Native.Nat.{ℕ, zero, suc, ◌+◌, ◌-◌, ◌≤◌, ◌<◌}
 use native.Mathlib.Numerals.{add-one}
 use native.Mathlib.Omega.{arith}
 use lib.IntN.{ℤ, pos}
 use lib.ListN.{length, get_or, take, drop}
-use lib.Seq.{take_all, drop-cons, drop-length}
+use lib.Seq.{drop-cons, drop-length}
 use Rattle.field_table.specs.Writes.{Write, put, puts}
 use Rattle.field_table.specs.Blocks.{byte_writes, slice}
 
@@ -43,17 +43,8 @@ numbers_part zs k zero h = refl
 numbers_part zs k (suc n) h =
     ap (λ (l : List ℤ). get_or zs k (pos 0) ∷ l) (numbers_part zs (suc k) n (omega arith)) ∙ ap (take (suc n)) (sym (drop-cons zs k (pos 0) (omega arith)))
 
--- all of them
-pub numbers-all : (zs : List ℤ) {n : ℕ} → length zs ≡ n → slice (pos 0) zs 0 n ≡ zs
-numbers-all zs {n} size = numbers_part zs 0 n (omega arith) ∙ take_all n zs (omega arith)
-
 -- the part that begins at index i
 pub part_numbers : (zs : List ℤ) {i : ℕ} (k n : ℕ) → i ≡ k → k + n ≤ length zs → take ((i + n) - i) (drop i zs) ≡ slice (pos 0) zs k n
 part_numbers zs {i} k n e h =
     let size : (i + n) - i ≡ n = omega arith in
     ap₂ (λ (m j : ℕ). take m (drop j zs)) size e ∙ sym (numbers_part zs k n h)
-
--- five numbers, each the same
-pub five : {a b c d e v w x y z : ℤ} → a ≡ v → b ≡ w → c ≡ x → d ≡ y → e ≡ z
-    → ◌≡◌ {A = List ℤ} (a ∷ b ∷ c ∷ d ∷ e ∷ []) (v ∷ w ∷ x ∷ y ∷ z ∷ [])
-five p q r s t = cc

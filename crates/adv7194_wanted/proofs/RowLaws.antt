@@ -86,7 +86,3 @@ pub pedestal_rows : (f : ℕ) (j : Judged ℕ) (b : Bool) → Sound j
     (cond b (refused_at 6 f) (cond (refused_by 8 j || false) (refused_at 8 f) (good (tt {0})))))
     ≡ after (fault_of f j) (fault_where b 6 f)
 pedestal_rows f j b h = coding_rows f j false b h
-
--- a refusal at a field is the fault that its coding is
-pub fault_is : {A : Type 0} (f : ℕ) {g n : ℕ} {j : Judged A} → j ≡ refused n → g ≡ f → ◌≡◌ {A = Found} (refused_at n g) (fault_of f j)
-fault_is f e p = rw (e, p)

@@ -26,9 +26,7 @@ pub(crate) fn put_bytes(packed: u64, bytes: &[u8], image: &mut [u8])
     ensures memory { image.new ≡ puts image.old (byte_writes (block_of packed).register bytes.now) }
 {
     let first = block_of(packed).register;
-    let mut i = 0;
-    while i < bytes.len() {
-        put(image, first + i, 0, WIDTH, bytes[i]);
-        i += 1;
+    for (i, byte) in bytes.iter().enumerate() {
+        put(image, first + i, 0, WIDTH, *byte);
     }
 }

@@ -1,9 +1,8 @@
 // Field 11, signalling.
 ghost use Rattle.std.specs.Prelude.{◌≡◌, [], length};
-ghost use Rattle.refusals.specs.Verdict.{after, fault_of, fault_where};
+ghost use Rattle.refusals.specs.Verdict.{after, fault_of, fault_where, verdict_as};
 ghost use Rattle.field_table.specs.Writes.{puts};
 ghost use Rattle.field_table.specs.Walk.{given as given_of};
-ghost use Rattle.field_table.specs.Answers.{checked_as};
 ghost use Rattle.adv7194_table.specs.Fields.{number_count, standard};
 ghost use Rattle.adv7194_table.specs.Blocks.{signalling};
 ghost use Rattle.adv7194_table.specs.Table.{signals, whole};
@@ -15,12 +14,13 @@ ghost use Rattle.refusals.specs.Refusal.{value_or};
 
 use crate::placing::{put, put_bytes};
 use adv7194_settings::fault;
-use adv7194_signalling::field::{Signalling, SignallingCode, signalling_code, signalling_conflict};
+use adv7194_signalling::field::{Signalling, signalling_code, signalling_conflict};
+use adv7194_signalling::registers::Registers;
 use adv7194_table::blocks::{SIGNALLING, block_of};
 use adv7194_table::rows::STANDARD;
+use field_table::given;
 use field_table::row::row_of;
-use field_table::{Checked, given, then};
-use refusals::Refusal;
+use refusals::{Fault, Refusal};
 
 // How many numbers the setting is.
 const NUMBERS: usize = 5;
@@ -54,20 +54,6 @@ fn signalling_in(numbers: &[i32]) -> Signalling
     of_five(&numbers[first..end])
 }
 
-// The fault that a coding is.
-fn code_fault(code: SignallingCode) -> Checked
-    ensures answer { checked_as result ≡ fault_of 11 (code_as code) }
-{
-    match code {
-        SignallingCode::Off => Checked::Good,
-        SignallingCode::Registers(_) => Checked::Good,
-        SignallingCode::Refused(refusal) => Checked::Refused {
-            refusal,
-            field: block_of(SIGNALLING).field,
-        },
-    }
-}
-
 // Bits 7-4 of the first register cleared.
 fn clear_kind(image: &mut [u8])
     ensures memory { image.new ≡ puts image.old (block_writes signals signalling []) }
@@ -82,43 +68,47 @@ fn clear_kind(image: &mut [u8])
 }
 
 // The registers of a coding set; bits 7-4 of the first cleared where it has none.
-fn put_code(code: SignallingCode, image: &mut [u8])
+fn put_code(code: Result<Option<Registers>, Refusal>, image: &mut [u8])
     ensures memory { image.new ≡ puts image.old (block_writes signals signalling (value_or [] (code_as code))) }
 {
-    match code {
-        SignallingCode::Off => clear_kind(image),
-        SignallingCode::Registers(r) => {
-            let bytes = [r.r19, r.r1a, r.r1b];
-            put_bytes(SIGNALLING, &bytes, image);
-        }
-        SignallingCode::Refused(_) => clear_kind(image),
+    if let Ok(Some(r)) = code {
+        let bytes = [r.r19, r.r1a, r.r1b];
+        put_bytes(SIGNALLING, &bytes, image);
+    } else {
+        clear_kind(image);
     }
 }
 
 // The conflict of row 7, after the fields before.
-fn signalling_with_standard(before: Checked, setting: Signalling, numbers: &[i32]) -> Checked
-    ensures answer { checked_as result ≡ after (checked_as before) (fault_where (signalling_conflict (given_of numbers.now standard.row) (numbers_of setting)) 7 11) }
+fn signalling_with_standard(
+    before: Result<(), Fault>,
+    setting: Signalling,
+    numbers: &[i32],
+) -> Result<(), Fault>
+    ensures answer { verdict_as result ≡ after (verdict_as before) (fault_where (signalling_conflict (given_of numbers.now standard.row) (numbers_of setting)) 7 11) }
 {
-    let conflict = signalling_conflict(given(numbers, row_of(STANDARD)), setting);
-    then(
-        before,
-        fault(
-            conflict,
-            Refusal::SignallingConflict,
-            block_of(SIGNALLING).field,
-        ),
+    before?;
+    fault(
+        signalling_conflict(given(numbers, row_of(STANDARD)), setting),
+        Refusal::SignallingConflict,
+        block_of(SIGNALLING).field,
     )
 }
 
 // The setting checked, its conflict first, and its code put in its registers, after the fields before.
-pub(crate) fn want_signalling(before: Checked, numbers: &[i32], image: &mut [u8]) -> Checked
+pub(crate) fn want_signalling(
+    before: Result<(), Fault>,
+    numbers: &[i32],
+    image: &mut [u8],
+) -> Result<(), Fault>
     requires { length numbers.now ≡ number_count }
-    ensures answer { checked_as result ≡ after (checked_as before) (after (fault_where (signalling_conflict (given_of numbers.now standard.row) (numbers_in numbers.now signalling)) 7 11) (fault_of 11 (signalling_codes (numbers_in numbers.now signalling)))) }
+    ensures answer { verdict_as result ≡ after (verdict_as before) (after (fault_where (signalling_conflict (given_of numbers.now standard.row) (numbers_in numbers.now signalling)) 7 11) (fault_of 11 (signalling_codes (numbers_in numbers.now signalling)))) }
     ensures memory { image.new ≡ puts image.old (entry_writes numbers.now (whole signals signalling)) }
 {
     let setting = signalling_in(numbers);
-    let conflict = signalling_with_standard(before, setting, numbers);
     let code = signalling_code(setting);
     put_code(code, image);
-    then(conflict, code_fault(code))
+    signalling_with_standard(before, setting, numbers)?;
+    code.map_err(|refusal| refusal.at(block_of(SIGNALLING).field))?;
+    Ok(())
 }

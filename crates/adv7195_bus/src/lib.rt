@@ -1,11 +1,9 @@
-// The ADV7195 in progressive-scan mode as a chip on the bus: how many registers it has, the rule for what is written to it, the bit that needs preparing, and
-// an image's bytes.
+// The ADV7195 in progressive-scan mode as a chip on the bus: how many registers it has, the rule for what is written to it, and the bit that needs preparing.
 #![tactic(auto)]
 
-ghost use Rattle.std.specs.Prelude.{◌≡◌, length};
+ghost use Rattle.std.specs.Prelude.{◌≡◌};
 ghost use Rattle.std.specs.Bool.{xor};
 ghost use Rattle.bits.specs.Maps.{has};
-ghost use Rattle.adv7195_bus.specs.Kind.{register_count};
 ghost use Rattle.adv7195_bus.specs.Rules.{keeps_rules};
 ghost use Rattle.adv7195_bus.specs.Order.{interpolation_bit};
 
@@ -40,26 +38,11 @@ pub fn flips(before: u8, after: u8) -> bool
 }
 
 // Whether a write transaction with this subaddress and that many data bytes keeps the rule.
+#[tactic(auto, unfolding(crate::specs::Rules::keeps_rules))]
 pub fn keeps_rules(subaddress: u8, count: u8) -> bool
     ensures answer { result ≡ keeps_rules subaddress count }
 {
-    if count == 0 {
-        return true;
-    }
     let start = subaddress as u32;
     let end = start + count as u32;
-    if REGISTERS < end {
-        return false;
-    }
-    (end <= UNNAMED) | (NAMED_AGAIN <= start)
-}
-
-// An image's bytes, copied.
-pub fn copied(image: &[u8]) -> [u8; 40]
-    requires { length image.now ≡ register_count }
-    ensures answer { result ≡ image.now }
-{
-    let mut registers = [0u8; 40];
-    registers.copy_from_slice(image);
-    registers
+    (count == 0) | ((end <= REGISTERS) & ((end <= UNNAMED) | (NAMED_AGAIN <= start)))
 }

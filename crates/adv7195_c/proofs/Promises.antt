@@ -6,7 +6,9 @@ use lib.IntN.{ℤ}
 use lib.ListN.{length, take}
 use Rattle.packing.specs.Packing.{anywhere}
 use Rattle.unpacking.specs.Unpacking.{CountedBy}
-use Rattle.planning.specs.declared.plan.Planned.{Planned}
+use Rattle.std.specs.Prelude.{Result}
+use Rattle.refusals.specs.declared.Fault.{Fault}
+use Rattle.planning.specs.declared.plan.Packed.{Packed}
 use Rattle.planning.specs.Plan.{answer_of}
 use Rattle.answers.specs.declared.plan_numbers.PlanAnswer.{PlanAnswer}
 use Rattle.answers.specs.Answers.{plan_answer}
@@ -21,38 +23,29 @@ use Rattle.adv7195_planning.proofs.Clauses.{Clauses}
 abbrev pub Promises : List ℕ → List ℤ → ℕ → List ℕ → List ℕ → PlanAnswer → Type 0
 Promises image numbers address plan after r =
     let wanted = wanted_by image numbers in
-    (r ≡ plan_answer (planning_of image numbers address (length plan)))
-    × ((after ≡ plan_left image numbers address plan)
-    × ((r.refusal ≡ 0 → CountedBy anywhere (take r.length after) r.length r.transactions r.bus_bytes)
-    × ((r.refusal ≡ 0 → Demanded image numbers wanted)
-    × ((r.refusal ≡ 0 → Played image wanted (take r.length after))
-    × ((r.refusal ≡ 0 → Least image wanted r.transactions r.bus_bytes)
-    × ((r.refusal ≡ 0 → First image wanted (list_of image numbers))
-    × (r.refusal ≡ 10 → length plan < most_bytes)))))))
+    record {
+      answer : r ≡ plan_answer (planning_of image numbers address (length plan));
+      memory : after ≡ plan_left image numbers address plan;
+      counted : r.refusal ≡ 0 → CountedBy anywhere (take r.length after) r.length r.transactions r.bus_bytes;
+      demanded : r.refusal ≡ 0 → Demanded image numbers wanted;
+      played : r.refusal ≡ 0 → Played image wanted (take r.length after);
+      least : r.refusal ≡ 0 → Least image wanted r.transactions r.bus_bytes;
+      first : r.refusal ≡ 0 → First image wanted (list_of image numbers);
+      room : r.refusal ≡ 10 → length plan < most_bytes;
+    }
 
 -- what planning promises of its answer, it promises of the numbers
-pub promised : (image : List ℕ) (numbers : List ℤ) (address : ℕ) (plan after : List ℕ) (p : Planned)
+pub promised : (image : List ℕ) (numbers : List ℤ) (address : ℕ) (plan after : List ℕ) (p : Result Packed Fault)
     → Clauses image numbers address plan after (answer_of p) → Promises image numbers address plan after (plan_answer (answer_of p))
 promised image numbers address plan after p c =
     let wanted = wanted_by image numbers in
-    let rest = c.1.1 in
-    let more = rest.1.1 in
-    let last = more.1.1 in (
-      ap plan_answer c.0,
-      (
-        c.1.0,
-        (
-          planned (λ l t b. CountedBy anywhere (take l after) l t b) p rest.0,
-          (
-            planned (λ l t b. Demanded image numbers wanted) p rest.1.0,
-            (
-              planned (λ l t b. Played image wanted (take l after)) p more.0,
-              (
-                planned (λ l t b. Least image wanted t b) p more.1.0,
-                (planned (λ l t b. First image wanted (list_of image numbers)) p last.0, short p last.1.0),
-              ),
-            ),
-          ),
-        ),
-      ),
-    )
+    record {
+      answer = ap plan_answer c.answer;
+      memory = c.memory;
+      counted = planned (λ l t b. CountedBy anywhere (take l after) l t b) p c.counted;
+      demanded = planned (λ l t b. Demanded image numbers wanted) p c.demanded;
+      played = planned (λ l t b. Played image wanted (take l after)) p c.played;
+      least = planned (λ l t b. Least image wanted t b) p c.least;
+      first = planned (λ l t b. First image wanted (list_of image numbers)) p c.first;
+      room = short p c.room;
+    }

@@ -1,5 +1,5 @@
-// What C and Rust link for the ADV7195 in progressive-scan mode: planning, playing and reading with settings and answers as numbers, and a plan's
-// transactions. A slice is a pointer and a length.
+// The functions that adv7195_c_c, which C and Rust link, exports for the ADV7195 in progressive-scan mode: planning, playing and reading with settings and
+// answers as numbers, and a plan's transactions.
 #![tactic(auto)]
 
 ghost use Rattle.std.specs.Prelude.{◌≡◌, ◌<◌, length, take};

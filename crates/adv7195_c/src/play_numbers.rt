@@ -3,18 +3,12 @@ ghost use Rattle.std.specs.Prelude.{◌≡◌};
 ghost use Rattle.adv7195_playing.specs.Playing.{answer_of};
 ghost use Rattle.adv7195_c.specs.Answers.{play_answer};
 
-use adv7195_playing::Played;
+use refusals::Refusal;
 
 // The refusal where there is none, the field of every refusal, and what is answered after one.
 const NONE: u32 = 0;
 
-// Every byte was acknowledged.
-const YES: u32 = 1;
-
-// Some byte was not.
-const NO: u32 = 0;
-
-// A refusal, or 0; a field, which is always 0; whether every byte was acknowledged.
+// A refusal, or 0; a field, which is always 0; whether every byte was acknowledged. C knows this layout and that of the ADV7194's answer, so that they are two.
 #[repr(C)]
 #[derive(Clone, Copy)]
 pub struct PlayAnswer {
@@ -24,19 +18,19 @@ pub struct PlayAnswer {
 }
 
 // Playing's answer.
-pub fn play_answer(played: Played) -> PlayAnswer
+pub fn play_answer(played: Result<bool, Refusal>) -> PlayAnswer
     ensures answer { result ≡ play_answer (answer_of played) }
 {
     match played {
-        Played::Refused(refusal) => PlayAnswer {
+        Ok(acknowledged) => PlayAnswer {
+            refusal: NONE,
+            field: NONE,
+            acknowledged: acknowledged as u32,
+        },
+        Err(refusal) => PlayAnswer {
             refusal: refusal.number() as u32,
             field: NONE,
             acknowledged: NONE,
-        },
-        Played::Done(acknowledged) => PlayAnswer {
-            refusal: NONE,
-            field: NONE,
-            acknowledged: if acknowledged { YES } else { NO },
         },
     }
 }

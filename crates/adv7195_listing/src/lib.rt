@@ -11,11 +11,10 @@ ghost use Rattle.adv7195_listing.specs.Listing.{settings_text, text_width};
 
 use adv7195_reading::read;
 use adv7195_settings::NUMBERS;
-use field_table::Checked;
 use listing::refused_line;
-use refusals::Refusal;
+use refusals::Fault;
 use template::fill;
-use text::{Place, append};
+use text::append;
 
 // Room for the text of any image.
 pub const TEXT_WIDTH: usize = 2048;
@@ -79,7 +78,7 @@ fn lines() -> [u8; SIZE]
 }
 
 // Writes the lines of settings at the front of the memory lent, or nothing where they do not fit.
-fn list_settings(out: &mut [u8], numbers: &[i32]) -> Place
+fn list_settings(out: &mut [u8], numbers: &[i32]) -> Option<usize>
     ensures answer { result ≡ place_after out.old 0 (filled template numbers.now) }
     ensures memory { out.new ≡ appended out.old 0 (filled template numbers.now) }
     ensures most { length (filled template numbers.now) ≤ text_width }
@@ -91,27 +90,26 @@ fn list_settings(out: &mut [u8], numbers: &[i32]) -> Place
 }
 
 // Writes the line of a refusal at the front of the memory lent, or nothing where it does not fit.
-fn list_refusal(out: &mut [u8], refusal: Refusal, field: u8) -> Place
-    ensures answer { result ≡ place_after out.old 0 (refused_line (number_of refusal) field) }
-    ensures memory { out.new ≡ appended out.old 0 (refused_line (number_of refusal) field) }
-    ensures most { length (refused_line (number_of refusal) field) ≤ text_width }
+fn list_refusal(out: &mut [u8], fault: Fault) -> Option<usize>
+    ensures answer { result ≡ place_after out.old 0 (refused_line (number_of fault.refusal) fault.field) }
+    ensures memory { out.new ≡ appended out.old 0 (refused_line (number_of fault.refusal) fault.field) }
+    ensures most { length (refused_line (number_of fault.refusal) fault.field) ≤ text_width }
 {
-    let line = refused_line(refusal.number(), field);
+    let line = refused_line(fault.refusal.number(), fault.field);
     let bytes = line.bytes;
     let end = line.length;
     append(out, 0, &bytes[0..end])
 }
 
 // Writes the text of an image at the front of the memory lent, or nothing where it does not fit.
-pub fn settings_text(image: &[u8], out: &mut [u8]) -> Place
+pub fn settings_text(image: &[u8], out: &mut [u8]) -> Option<usize>
     ensures answer { result ≡ place_after out.old 0 (settings_text image.now) }
     ensures memory { out.new ≡ appended out.old 0 (settings_text image.now) }
     ensures most { length (settings_text image.now) ≤ text_width }
 {
     let mut numbers = [0i32; NUMBERS];
-    let answer = read(image, &mut numbers);
-    match answer {
-        Checked::Good => list_settings(out, &numbers),
-        Checked::Refused { refusal, field } => list_refusal(out, refusal, field),
+    match read(image, &mut numbers) {
+        Ok(()) => list_settings(out, &numbers),
+        Err(fault) => list_refusal(out, fault),
     }
 }

@@ -33,16 +33,17 @@ use Rattle.adv7195_planning.proofs.CaseLaws.{other_row, wrong_length, wrong_addr
 
 -- all that planning promises of an answer, and of what it leaves of the lent plan
 abbrev pub Clauses : List ℕ → List ℤ → ℕ → List ℕ → List ℕ → Verdict Counts → Type 0
-Clauses image zs address plan left v =
-    (v ≡ planning_of image zs address (length plan))
-    × ((left ≡ plan_left image zs address plan)
-    × (((l t b : ℕ) → v ≡ done l t b → CountedBy anywhere (take l left) l t b)
-    × (((l t b : ℕ) → v ≡ done l t b → Demanded image zs (wanted_by image zs))
-    × (((l t b : ℕ) → v ≡ done l t b → Played image (wanted_by image zs) (take l left))
-    × (((l t b : ℕ) → v ≡ done l t b → Least image (wanted_by image zs) t b)
-    × (((l t b : ℕ) → v ≡ done l t b → First image (wanted_by image zs) (list_of image zs))
-    × (((f : ℕ) → v ≡ refused_at 10 f → length plan < most_bytes)
-    × Exactly (row_planned image zs address (length plan)) plan_order (counts_of (list_of image zs)) v)))))))
+Clauses image zs address plan left v = record {
+  answer : v ≡ planning_of image zs address (length plan);
+  memory : left ≡ plan_left image zs address plan;
+  counted : (l t b : ℕ) → v ≡ done l t b → CountedBy anywhere (take l left) l t b;
+  demanded : (l t b : ℕ) → v ≡ done l t b → Demanded image zs (wanted_by image zs);
+  played : (l t b : ℕ) → v ≡ done l t b → Played image (wanted_by image zs) (take l left);
+  least : (l t b : ℕ) → v ≡ done l t b → Least image (wanted_by image zs) t b;
+  first : (l t b : ℕ) → v ≡ done l t b → First image (wanted_by image zs) (list_of image zs);
+  room : (f : ℕ) → v ≡ refused_at 10 f → length plan < most_bytes;
+  judged : Exactly (row_planned image zs address (length plan)) plan_order (counts_of (list_of image zs)) v;
+}
 
 module _ (image : List ℕ) (zs : List ℤ) (address room : ℕ) where
   -- an answered plan: the image has a byte a register, and the numbers are the list's
@@ -142,4 +143,19 @@ module _ (image : List ℕ) (zs : List ℤ) (bytes : (r : ℕ) → get_or image 
 
     -- all that planning promises
     pub clauses : Clauses image zs address plan left v
-    clauses = (answer, (memory, (counted, (wanted, (played, (least, (first, (room, judged))))))))
+    clauses = record {
+      answer = answer;
+      memory = memory;
+      counted = counted;
+      demanded = wanted;
+      played = played;
+      least = least;
+      first = first;
+      room = room;
+      judged = judged;
+    }
+
+  -- of a refusal
+  pub refusal : (address : ℕ) (plan : List ℕ) {n f : ℕ} → planning_of image zs address (length plan) ≡ refused_at n f
+      → Clauses image zs address plan plan (refused_at n f)
+  refusal address plan e = clauses address plan plan _ (sym e) (sym (ap (packed_left (list_of image zs) plan) e))

@@ -16,14 +16,12 @@ ghost use Rattle.adv7195_planning.specs.Planning.{list_of, row_planned, plan_ord
 
 use crate::registers::{beside, changed_registers};
 use crate::start::preparing_start;
-use adv7195_bus::{
-    MODE_REGISTER_3, MODE_REGISTER_6, PREPARING_BYTE, REGISTERS, WRITABLE, copied, flips,
-};
+use adv7195_bus::{MODE_REGISTER_3, MODE_REGISTER_6, PREPARING_BYTE, REGISTERS, WRITABLE, flips};
 use adv7195_settings::{NUMBERS, want};
 use bus::address::address_right;
-use field_table::Checked;
-use planning::plan::{NO_FIELD, Planned, pack, pack_after};
-use refusals::Refusal;
+use bus::image::copied;
+use planning::plan::{Packed, pack, pack_after};
+use refusals::{Fault, NO_FIELD, Refusal};
 
 mod registers;
 mod start;
@@ -35,7 +33,7 @@ const NONE_HELD: u64 = 0;
 const PREPARED: usize = MODE_REGISTER_6 + 1;
 
 // Plans the change from an image to a wanted one, into the lent plan.
-fn plan_change(image: &[u8], wanted: &[u8], plan: &mut [u8]) -> Planned
+fn plan_change(image: &[u8], wanted: &[u8], plan: &mut [u8]) -> Result<Packed, Fault>
     requires { Change image.now wanted.now }
     ensures answer { answer_of result ≡ packing_of (plan_of image.now wanted.now) (length plan.old) }
     ensures memory { plan.new ≡ plan_after (plan_of image.now wanted.now) plan.old }
@@ -54,7 +52,7 @@ fn plan_change(image: &[u8], wanted: &[u8], plan: &mut [u8]) -> Planned
     let restored = wanted[MODE_REGISTER_6] != PREPARING_BYTE;
     let start = preparing_start(changed, restored);
     let needed = beside(changed, restored, start);
-    let mut bytes = copied(wanted);
+    let mut bytes: [u8; REGISTERS as usize] = copied(wanted);
     bytes[MODE_REGISTER_6] = PREPARING_BYTE;
     let from = start as usize;
     pack_after(
@@ -68,7 +66,7 @@ fn plan_change(image: &[u8], wanted: &[u8], plan: &mut [u8]) -> Planned
 }
 
 // Plans the settings over an image, for the chip at a bus address, into the lent plan.
-pub fn plan(image: &[u8], numbers: &[i32], address: u32, plan: &mut [u8]) -> Planned
+pub fn plan(image: &[u8], numbers: &[i32], address: u32, plan: &mut [u8]) -> Result<Packed, Fault>
     ensures answer { answer_of result ≡ planning_of image.now numbers.now address (length plan.old) }
     ensures memory { plan.new ≡ plan_left image.now numbers.now address plan.old }
     ensures counted { (l t b : ℕ) → answer_of result ≡ done l t b → CountedBy anywhere (take l plan.new) l t b }
@@ -82,26 +80,15 @@ pub fn plan(image: &[u8], numbers: &[i32], address: u32, plan: &mut [u8]) -> Pla
         (counts_of (list_of image.now numbers.now)) (answer_of result) }
 {
     if image.len() != REGISTERS as usize {
-        return Planned::Refused {
-            refusal: Refusal::ImageLength,
-            field: NO_FIELD,
-        };
+        return Err(Refusal::ImageLength.at(NO_FIELD));
     }
     if !address_right(address) {
-        return Planned::Refused {
-            refusal: Refusal::BusAddress,
-            field: NO_FIELD,
-        };
+        return Err(Refusal::BusAddress.at(NO_FIELD));
     }
     if numbers.len() != NUMBERS {
-        return Planned::Refused {
-            refusal: Refusal::OutOfRange,
-            field: NO_FIELD,
-        };
+        return Err(Refusal::OutOfRange.at(NO_FIELD));
     }
-    let mut wanted = copied(image);
-    match want(numbers, &mut wanted) {
-        Checked::Refused { refusal, field } => Planned::Refused { refusal, field },
-        Checked::Good => plan_change(image, &wanted, plan),
-    }
+    let mut wanted: [u8; REGISTERS as usize] = copied(image);
+    want(numbers, &mut wanted)?;
+    plan_change(image, &wanted, plan)
 }

@@ -37,13 +37,11 @@ pub fn preparing_start(changed: u64, restored: bool) -> u32
     ensures range { (first_start ≤ result) × (result ≤ mode_register6) }
     ensures answer { (image wanted : List ℕ) → Told image wanted changed restored → result ≡ preparing_start image wanted }
 {
-    let mut best = HIGHEST;
-    let mut least = flip_weight(changed, restored, HIGHEST);
-    let mut a = HIGHEST;
-    while LOWEST < a {
-        a -= 1;
+    let mut best = LOWEST;
+    let mut least = flip_weight(changed, restored, LOWEST);
+    for a in LOWEST + 1..END {
         let weight = flip_weight(changed, restored, a);
-        if weight <= least {
+        if weight < least {
             best = a;
             least = weight;
         }

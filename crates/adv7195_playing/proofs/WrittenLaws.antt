@@ -58,7 +58,7 @@ unprepared false p = refl
 
 module _ {plan before : List ℕ} {p : Bool} {now : List ℕ} {c : Cursor} {transactions : ℕ} (w : Passed plan before p now c transactions) where
   -- the plan has a fault
-  pub fault_answered : rest_of plan c ≡ refused 9 → Answers plan before now (refused 9)
+  pub fault_answered : {n : ℕ} → rest_of plan c ≡ refused n → Answers plan before now (refused n)
   fault_answered e = answers plan before now (ap (judged_if (takes before)) (walk_fails w.walked e)) refl (as_many w)
 
   module _ (long : length before ≡ register_count) where

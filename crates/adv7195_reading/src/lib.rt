@@ -2,41 +2,28 @@
 #![tactic(auto)]
 
 ghost use Rattle.std.specs.Prelude.{◌≡◌, length};
+ghost use Rattle.refusals.specs.Verdict.{verdict_as};
 ghost use Rattle.refusals.specs.Order.{Exactly};
-ghost use Rattle.field_table.specs.Answers.{checked_as};
 ghost use Rattle.adv7195_settings.specs.Reading.{row_read, read_order, read_of, read_left};
 
 use adv7195_bus::REGISTERS;
 use adv7195_settings::{NUMBERS, PARTS, numbers_of, rows};
-use field_table::Checked;
-use refusals::Refusal;
-
-// The field of a refusal where none applies.
-const NO_FIELD: u8 = 0;
+use refusals::{Fault, NO_FIELD, Refusal};
 
 // The settings of an image, left in the 58 lent numbers; on a refusal these are as they were.
-pub fn read(image: &[u8], numbers: &mut [i32]) -> Checked
-    ensures answer { checked_as result ≡ read_of image.now (length numbers.old) }
+pub fn read(image: &[u8], numbers: &mut [i32]) -> Result<(), Fault>
+    ensures answer { verdict_as result ≡ read_of image.now (length numbers.old) }
     ensures memory { numbers.new ≡ read_left image.now numbers.old }
-    ensures exactly { Exactly (row_read image.now (length numbers.old)) read_order tt (checked_as result) }
+    ensures exactly { Exactly (row_read image.now (length numbers.old)) read_order tt (verdict_as result) }
 {
     if image.len() != REGISTERS as usize {
-        return Checked::Refused {
-            refusal: Refusal::ImageLength,
-            field: NO_FIELD,
-        };
+        return Err(Refusal::ImageLength.at(NO_FIELD));
     }
     if numbers.len() != NUMBERS {
-        return Checked::Refused {
-            refusal: Refusal::OutOfRange,
-            field: NO_FIELD,
-        };
+        return Err(Refusal::OutOfRange.at(NO_FIELD));
     }
     let mut parts = [0i32; PARTS];
-    let judged = field_table::read(&rows(), image, &mut parts);
-    let Checked::Good = judged else {
-        return judged;
-    };
+    field_table::read(&rows(), image, &mut parts)?;
     numbers_of(&parts, numbers);
-    Checked::Good
+    Ok(())
 }

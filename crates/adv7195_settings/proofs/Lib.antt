@@ -5,3 +5,4 @@ pub mod WantedLaws
 pub mod InverseLaws
 pub mod PlaceLaws
 pub mod ReadingLaws
+pub mod PlacedLaws

@@ -2,12 +2,12 @@
 #![tactic(auto)]
 
 ghost use Rattle.std.specs.Prelude.{◌≡◌, length};
-ghost use Rattle.field_table.specs.Answers.{checked_as};
+ghost use Rattle.refusals.specs.Verdict.{verdict_as};
 ghost use Rattle.adv7195_settings.specs.Numbers.{number_count};
 ghost use Rattle.adv7195_settings.specs.Wanted.{wanted_by};
 ghost use Rattle.adv7195_settings.specs.Rows.{check_of};
 
-use field_table::Checked;
+use refusals::Fault;
 
 mod numbers;
 mod table;
@@ -17,9 +17,9 @@ pub use numbers::{NUMBERS, PARTS, numbers_of};
 pub use table::rows;
 
 // Settings checked, and what they want over a lent image, which takes its place; where they are refused, it doesn't count.
-pub fn want(numbers: &[i32], image: &mut [u8]) -> Checked
+pub fn want(numbers: &[i32], image: &mut [u8]) -> Result<(), Fault>
     requires { length numbers.now ≡ number_count }
-    ensures answer { checked_as result ≡ check_of numbers.now }
+    ensures answer { verdict_as result ≡ check_of numbers.now }
     ensures memory { image.new ≡ wanted_by image.old numbers.now }
 {
     let parts = parts_of(numbers);

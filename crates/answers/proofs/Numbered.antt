@@ -2,13 +2,14 @@
 use mathlib.Core.Path.{◌≡◌, refl, ap}
 use Prim.Native.Nat.{ℕ}
 use native.Mathlib.Omega.{arith}
+use Rattle.std.specs.Prelude.{Result, Ok, Err}
+use Rattle.refusals.specs.declared.Fault.{Fault}
 use Rattle.refusals.specs.declared.Refusal.{Refusal}
 use Rattle.refusals.specs.declared.Refusal.TheVariants.{ImageLength, BusAddress, OutOfRange, Reserved, SquarePixelWithOversampling, PedestalWithPal}
 use Rattle.refusals.specs.declared.Refusal.TheVariants.{SignallingConflict, Disagreement, PlanBytes, PlanRoom, RegisterUnknown}
 use Rattle.refusals.specs.Refusal.{number_of}
 use Rattle.refusals.specs.Verdict.{refused_at}
-use Rattle.planning.specs.declared.plan.Planned.{Planned}
-use Rattle.planning.specs.declared.plan.Planned.TheVariants.{Done, Refused}
+use Rattle.planning.specs.declared.plan.Packed.{Packed}
 use Rattle.planning.specs.Plan.{answer_of, done}
 use Rattle.answers.specs.declared.plan_numbers.PlanAnswer.{PlanAnswer}
 use Rattle.answers.specs.Answers.{plan_answer}
@@ -28,16 +29,16 @@ numbered PlanRoom e = omega arith
 numbered RegisterUnknown e = omega arith
 
 -- planning's answer as numbers
-abbrev pub numbers_of : Planned → PlanAnswer
+abbrev pub numbers_of : Result Packed Fault → PlanAnswer
 numbers_of p = plan_answer (answer_of p)
 
 -- where nothing is refused, what holds of a plan's numbers holds of those answered
-pub planned : (P : ℕ → ℕ → ℕ → Type 0) (p : Planned) → ((l t b : ℕ) → answer_of p ≡ done l t b → P l t b)
+pub planned : (P : ℕ → ℕ → ℕ → Type 0) (p : Result Packed Fault) → ((l t b : ℕ) → answer_of p ≡ done l t b → P l t b)
     → (numbers_of p).refusal ≡ 0 → P (numbers_of p).length (numbers_of p).transactions (numbers_of p).bus_bytes
-planned P (Done l t b) h e = h l t b refl
-planned P (Refused r f) h e = absurd (numbered r e)
+planned P (Ok k) h e = h k.length k.transactions k.bus_bytes refl
+planned P (Err r) h e = absurd (numbered r.refusal e)
 
 -- where 10 is answered, the room was refused
-pub short : {P : Type 0} (p : Planned) → ((f : ℕ) → answer_of p ≡ refused_at 10 f → P) → (numbers_of p).refusal ≡ 10 → P
-short (Done l t b) h e = absurd (omega arith)
-short (Refused r f) h e = h f (ap (λ (n : ℕ). refused_at n f) e)
+pub short : {P : Type 0} (p : Result Packed Fault) → ((f : ℕ) → answer_of p ≡ refused_at 10 f → P) → (numbers_of p).refusal ≡ 10 → P
+short (Ok k) h e = absurd (omega arith)
+short (Err r) h e = h r.field (ap (λ (n : ℕ). refused_at n r.field) e)

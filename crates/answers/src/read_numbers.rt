@@ -1,9 +1,9 @@
 // Reading's answer as numbers.
 ghost use Rattle.std.specs.Prelude.{◌≡◌};
-ghost use Rattle.field_table.specs.Answers.{checked_as};
+ghost use Rattle.refusals.specs.Verdict.{verdict_as};
 ghost use Rattle.answers.specs.Answers.{read_answer};
 
-use field_table::Checked;
+use refusals::Fault;
 
 // The refusal and the field where there is none.
 const NONE: u32 = 0;
@@ -17,17 +17,17 @@ pub struct ReadAnswer {
 }
 
 // Reading's answer.
-pub fn read_answer(taken: Checked) -> ReadAnswer
-    ensures answer { result ≡ read_answer (checked_as taken) }
+pub fn read_answer(taken: Result<(), Fault>) -> ReadAnswer
+    ensures answer { result ≡ read_answer (verdict_as taken) }
 {
     match taken {
-        Checked::Refused { refusal, field } => ReadAnswer {
-            refusal: refusal.number() as u32,
-            field: field as u32,
-        },
-        Checked::Good => ReadAnswer {
+        Ok(()) => ReadAnswer {
             refusal: NONE,
             field: NONE,
+        },
+        Err(fault) => ReadAnswer {
+            refusal: fault.refusal.number() as u32,
+            field: fault.field as u32,
         },
     }
 }

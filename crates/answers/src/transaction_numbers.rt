@@ -3,7 +3,8 @@ ghost use Rattle.std.specs.Prelude.{◌≡◌};
 ghost use Rattle.unpacking.specs.Indexed.{answer_of};
 ghost use Rattle.answers.specs.Answers.{transaction_answer};
 
-use unpacking::indexed::Answer;
+use refusals::Refusal;
+use unpacking::indexed::Header;
 
 // The refusal where there is none, the field of every refusal, and what is answered after one.
 const NONE: u32 = 0;
@@ -19,21 +20,21 @@ pub struct TransactionAnswer {
 }
 
 // A transaction's answer.
-pub fn transaction_answer(taken: Answer) -> TransactionAnswer
+pub fn transaction_answer(taken: Result<Header, Refusal>) -> TransactionAnswer
     ensures answer { result ≡ transaction_answer (answer_of taken) }
 {
     match taken {
-        Answer::Refused(refusal) => TransactionAnswer {
+        Ok(header) => TransactionAnswer {
+            refusal: NONE,
+            field: NONE,
+            subaddress: header.subaddress as u32,
+            count: header.count as u32,
+        },
+        Err(refusal) => TransactionAnswer {
             refusal: refusal.number() as u32,
             field: NONE,
             subaddress: NONE,
             count: NONE,
-        },
-        Answer::Transaction { subaddress, count } => TransactionAnswer {
-            refusal: NONE,
-            field: NONE,
-            subaddress: subaddress as u32,
-            count: count as u32,
         },
     }
 }

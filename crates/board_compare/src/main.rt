@@ -2,17 +2,16 @@
 #![tactic(auto)]
 
 use compare_listing::compare_listing;
-use input::read_full;
+use input::{INPUT_ROOM, print_text, read_full};
 use std::env::{Env, FillError};
 use std::fs::Files;
 use std::{fs, io, str};
-use text::Place;
 
 // The program's own name and two files.
 const ARGUMENTS: usize = 3;
 
-// The bytes of memory for a file's name, and for an image.
-const INPUT_ROOM: usize = 4096;
+// The bytes of memory for a file's name.
+const NAME_ROOM: usize = 4096;
 
 // Room for the text of any two images.
 const TEXT_ROOM: usize = 16384;
@@ -25,7 +24,7 @@ fn is_given(rt: &impl Env, argument: usize) -> bool {
 
 // Opens the file that an argument names; or tells why it can't be opened, and answers nothing.
 fn open<R: Env + Files + Eprint>(rt: &R, argument: usize) -> io::Result<Option<R::File>> {
-    let mut path = [0u8; INPUT_ROOM];
+    let mut path = [0u8; NAME_ROOM];
     let Ok(length) = rt.arg(argument, &mut path) else {
         eprintln!(rt; "file name: File name too long")?;
         return Ok(None);
@@ -44,15 +43,7 @@ fn open<R: Env + Files + Eprint>(rt: &R, argument: usize) -> io::Result<Option<R
     }
 }
 
-// Prints the text of two images, by way of the memory lent.
-fn print_text(rt: &impl Print, out: &mut [u8], a: &[u8], b: &[u8]) -> io::Result<()> {
-    let Place::After(end) = compare_listing(out, a, b) else {
-        return Ok(());
-    };
-    rt.write_all(&out[0..end])
-}
-
-// Reads the second image, and prints the text of both. There is room for more than an image, so that a byte too many is seen.
+// Reads the second image, and prints the text of both.
 fn print_with(rt: &(impl Env + Files + Print + Eprint), a: &[u8]) -> io::Result<()> {
     let Some(mut file) = open(rt, 2)? else {
         return Ok(());
@@ -60,12 +51,13 @@ fn print_with(rt: &(impl Env + Files + Print + Eprint), a: &[u8]) -> io::Result<
     let mut b = [0u8; INPUT_ROOM];
     let got = read_full(&mut file, &mut b)?;
     let mut out = [0u8; TEXT_ROOM];
-    print_text(rt, &mut out, a, &b[..got])
+    let end = compare_listing(&mut out, a, &b[..got]);
+    print_text(rt, &out, end)
 }
 
 // Reads the first image, and goes on with the second.
 fn main(rt: HostRuntime) -> io::Result<()> {
-    if !is_given(&rt, ARGUMENTS - 1) | is_given(&rt, ARGUMENTS) {
+    if !is_given(&rt, ARGUMENTS - 1) || is_given(&rt, ARGUMENTS) {
         eprintln!(rt; "usage: board_compare IMAGE IMAGE")?;
         return Ok(());
     }

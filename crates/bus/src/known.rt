@@ -16,28 +16,30 @@ fn mark(map: u64, register: usize) -> u64
 }
 
 // Whether a byte from the master is stored at the pointer of a chip with that many registers, whatever its address, the bytes that it holds and the byte.
-fn stored(phase: Phase, pointer: usize, dropped: u64, registers: usize) -> bool
-    ensures answer { (own : ℕ) (bytes : List ℕ) (byte : ℕ) → result ≡ (from_master (kind_of own dropped registers) phase (chip_at phase pointer bytes) byte).stored }
+#[tactic(auto, unfolding(crate::specs::Chip::from_master))]
+fn stored(state: State, dropped: u64, registers: usize) -> bool
+    ensures answer { (own : ℕ) (bytes : List ℕ) (byte : ℕ) → result
+        ≡ (from_master (kind_of own dropped registers) state.phase (chip_at state.phase state.pointer bytes) byte).stored }
 {
-    match phase {
+    let pointer = state.pointer;
+    match state.phase {
         Phase::AwaitData => pointer < registers && !bits::maps::has(dropped, pointer as u64),
         Phase::Idle | Phase::AwaitAddress | Phase::AwaitSubaddress | Phase::Sending => false,
     }
 }
 
 // The known registers after an event at a chip with that many registers, whatever its address and the bytes that it holds.
+#[tactic(auto, unfolding(crate::specs::Known::known_by, crate::specs::Chip::step))]
 pub fn known_by(state: State, event: Event, dropped: u64, registers: usize, known: u64) -> u64
     requires { registers ≤ map_width }
     ensures answer { (own : ℕ) (bytes : List ℕ) → result ≡ known_by (kind_of own dropped registers) (chip_at state.phase state.pointer bytes) known event }
 {
-    let phase = state.phase;
-    let pointer = state.pointer;
     match event {
         Event::Start => known,
         Event::Stop => known,
         Event::FromMaster(_) => {
-            if stored(phase, pointer, dropped, registers) {
-                mark(known, pointer)
+            if stored(state, dropped, registers) {
+                mark(known, state.pointer)
             } else {
                 known
             }

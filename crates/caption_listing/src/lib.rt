@@ -9,15 +9,10 @@ use adv7194_bus::BOARD_ADDRESS;
 use adv7194_caption_planning::plan_captions;
 use adv7194_captions::{FIELD, PAIR};
 use answer_listing::answer_listing;
-use planning::plan::Planned;
 use refusals::Refusal;
-use text::Place;
 
 // The most bytes that a packed plan of captions has.
 const MOST_BYTES: usize = 8;
-
-// The bytes of both pairs.
-const BOTH: usize = 2 * PAIR;
 
 // A pair of characters, as planning takes them.
 fn pair_of(first: u8, second: u8) -> [i32; PAIR]
@@ -27,7 +22,7 @@ fn pair_of(first: u8, second: u8) -> [i32; PAIR]
 }
 
 // Plans one or both pairs, and writes the text of what planning answers.
-fn list_pairs(out: &mut [u8], extended: &[i32], ordinary: &[i32]) -> Place
+fn list_pairs(out: &mut [u8], extended: &[i32], ordinary: &[i32]) -> Option<usize>
     ensures answer { result ≡ place_after out.old 0 (pairs_text extended.now ordinary.now) }
     ensures memory { out.new ≡ appended out.old 0 (pairs_text extended.now ordinary.now) }
 {
@@ -37,23 +32,13 @@ fn list_pairs(out: &mut [u8], extended: &[i32], ordinary: &[i32]) -> Place
 }
 
 // Writes the text for an input's bytes, which are the characters, at the front of the memory lent.
-pub fn caption_listing(out: &mut [u8], input: &[u8]) -> Place
+pub fn caption_listing(out: &mut [u8], input: &[u8]) -> Option<usize>
     ensures answer { result ≡ place_after out.old 0 (caption_text input.now) }
     ensures memory { out.new ≡ appended out.old 0 (caption_text input.now) }
 {
-    if input.len() == PAIR {
-        let ordinary = pair_of(input[0], input[1]);
-        let none = [0i32; 0];
-        return list_pairs(out, &none, &ordinary);
+    match *input {
+        [a, b] => list_pairs(out, &[], &pair_of(a, b)),
+        [a, b, c, d] => list_pairs(out, &pair_of(a, b), &pair_of(c, d)),
+        _ => answer_listing(out, Err(Refusal::OutOfRange.at(FIELD)), input),
     }
-    if input.len() == BOTH {
-        let extended = pair_of(input[0], input[1]);
-        let ordinary = pair_of(input[2], input[3]);
-        return list_pairs(out, &extended, &ordinary);
-    }
-    let refused = Planned::Refused {
-        refusal: Refusal::OutOfRange,
-        field: FIELD,
-    };
-    answer_listing(out, refused, input)
 }

@@ -71,10 +71,8 @@ pub fn field_lines(
     ensures written { Put (field_width * 28) line.old at (flat_map (field_line readable a.now b.now left.now right.now) (fields_differing a.now b.now)) line.new result }
 {
     let mut place = at;
-    let mut field: u8 = 1;
-    while field <= LAST_FIELD {
+    for field in 1..=LAST_FIELD {
         place = field_line(line, place, readable, a, b, left, right, field);
-        field += 1;
     }
     place
 }

@@ -49,10 +49,8 @@ fn put_raw(line: &mut [u8], at: usize, image: &[u8], field: u8) -> usize
     ensures written { Put raw_width line.old at (hex_text (raw_code image.now field)) line.new result }
 {
     let mut place = at;
-    let mut register: usize = 0;
-    while register < REGISTERS as usize {
+    for register in 0..REGISTERS as usize {
         place = put_own(line, place, image, field, register);
-        register += 1;
     }
     place
 }

@@ -1,14 +1,13 @@
--- The text of two images by what reading answers of each, and by their lengths. Assumes nothing.
+-- The text of two images by what reading answers of each. Assumes nothing.
 use mathlib.Core.Path.{◌≡◌, refl}
 use mathlib.Core.Bool.{Bool, true, false, cond, ◌&&◌}
 use mathlib.Core.List.{List}
 use Prim.Native.Nat.{ℕ}
 use lib.IntN.{ℤ}
-use Rattle.listing.specs.Lines.{refused_line}
 use Rattle.adv7194_settings.specs.Held.{settings_held}
-use Rattle.adv7194_compare.specs.Compare.{can_be_read, whole}
+use Rattle.adv7194_compare.specs.Compare.{can_be_read}
 use Rattle.compare_fields.specs.FieldLines.{field_line}
-use Rattle.compare_listing.specs.CompareText.{side_text, compare_text}
+use Rattle.compare_listing.specs.CompareText.{side_text}
 
 module _ (a b : List ℕ) where
   -- raw codes don't depend on numbers
@@ -23,16 +22,3 @@ module _ (a b : List ℕ) where
       → x ≡ cond (can_be_read a) (settings_held a) y → x' ≡ cond (can_be_read b) (settings_held b) z
       → side_text u a b x x' ≡ side_text (can_be_read a && can_be_read b) a b (settings_held a) (settings_held b)
   by_reading y z {s} {t} {u} {x} {x'} e f g h k = rw (e, f, g, h, k) (left_numbers y z (can_be_read a) (can_be_read b))
-
-  -- by the lengths
-  pub first_short : whole a ≡ false → refused_line 1 0 ≡ compare_text a b
-  unfolding compare_text
-  first_short h = rw h
-
-  pub second_short : whole a ≡ true → whole b ≡ false → refused_line 1 0 ≡ compare_text a b
-  unfolding compare_text
-  second_short h k = rw (h, k)
-
-  pub both_whole : whole a ≡ true → whole b ≡ true → side_text (can_be_read a && can_be_read b) a b (settings_held a) (settings_held b) ≡ compare_text a b
-  unfolding compare_text
-  both_whole h k = rw (h, k)

@@ -15,17 +15,13 @@ use adv7194_compare::{fields_differing, registers_differing, taken, whole};
 use compare_fields::field_lines;
 use lines::register_lines;
 use listing::refused_line;
-use refusals::Refusal;
-use text::Place;
+use refusals::{NO_FIELD, Refusal};
 use writing::put_counted;
 
 mod lines;
 
 // How many numbers settings are.
 const NUMBERS: usize = 49;
-
-// The field of a refusal where none applies.
-const NO_FIELD: u8 = 0;
 
 // Room for the text of any two images.
 const TEXT_ROOM: usize = 16384;
@@ -64,7 +60,7 @@ fn list_sides(
     b: &[u8],
     left: &[i32],
     right: &[i32],
-) -> Place
+) -> Option<usize>
     ensures answer { result ≡ place_after out.old 0 (side_text readable a.now b.now left.now right.now) }
     ensures memory { out.new ≡ appended out.old 0 (side_text readable a.now b.now left.now right.now) }
 {
@@ -73,15 +69,8 @@ fn list_sides(
     text::append(out, 0, &line[0..end])
 }
 
-// Whether two tests hold.
-fn both(first: bool, second: bool) -> bool
-    ensures answer { result ≡ (first && second) }
-{
-    if first { second } else { false }
-}
-
 // Reads two images of the right length, and writes their text at the front of the memory lent.
-fn list_images(out: &mut [u8], a: &[u8], b: &[u8]) -> Place
+fn list_images(out: &mut [u8], a: &[u8], b: &[u8]) -> Option<usize>
     ensures answer { result ≡ place_after out.old 0 (side_text (can_be_read a.now && can_be_read b.now) a.now b.now (settings_held a.now) (settings_held b.now)) }
     ensures memory { out.new ≡ appended out.old 0 (side_text (can_be_read a.now && can_be_read b.now) a.now b.now (settings_held a.now) (settings_held b.now)) }
 {
@@ -89,11 +78,11 @@ fn list_images(out: &mut [u8], a: &[u8], b: &[u8]) -> Place
     let mut right = [0i32; NUMBERS];
     let first = taken(a, &mut left);
     let second = taken(b, &mut right);
-    list_sides(out, both(first, second), a, b, &left, &right)
+    list_sides(out, first && second, a, b, &left, &right)
 }
 
 // Writes the line of refusal 1 at the front of the memory lent.
-fn list_refusal(out: &mut [u8]) -> Place
+fn list_refusal(out: &mut [u8]) -> Option<usize>
     ensures answer { result ≡ place_after out.old 0 (refused_line 1 0) }
     ensures memory { out.new ≡ appended out.old 0 (refused_line 1 0) }
 {
@@ -104,14 +93,12 @@ fn list_refusal(out: &mut [u8]) -> Place
 }
 
 // Writes the text of two images side by side at the front of the memory lent.
-pub fn compare_listing(out: &mut [u8], a: &[u8], b: &[u8]) -> Place
+#[tactic(auto, unfolding(crate::specs::CompareText::compare_text))]
+pub fn compare_listing(out: &mut [u8], a: &[u8], b: &[u8]) -> Option<usize>
     ensures answer { result ≡ place_after out.old 0 (compare_text a.now b.now) }
     ensures memory { out.new ≡ appended out.old 0 (compare_text a.now b.now) }
 {
-    if !whole(a) {
-        return list_refusal(out);
-    }
-    if !whole(b) {
+    if !whole(a) || !whole(b) {
         return list_refusal(out);
     }
     list_images(out, a, b)

@@ -42,10 +42,8 @@ pub(crate) fn register_lines(line: &mut [u8], at: usize, a: &[u8], b: &[u8]) -> 
     ensures written { Put (register_width * 54) line.old at (flat_map (register_line a.now b.now) (registers_differing a.now b.now)) line.new result }
 {
     let mut place = at;
-    let mut register: usize = 0;
-    while register < REGISTERS as usize {
+    for register in 0..REGISTERS as usize {
         place = register_line(line, place, a, b, register);
-        register += 1;
     }
     place
 }

@@ -113,6 +113,15 @@ cut-none needed held limit first end taken starts h n =
     let m : min first end ≡ first = omega arith in
     record { from = omega arith; need = λ k. n; sofar = λ allowed w π ρ ts s. rw m s }
 
+-- a transaction ends past its start, and in the run
+pub stop_inside : (needed held limit end at stop : ℕ) → at < end → stop ≡ stop_of (run_task needed held limit end) (end - suc at) (suc at) at
+    → (at < stop) × (stop ≤ end)
+stop_inside needed held limit end at stop h e =
+    let q = stop_in (run_task needed held limit end) (end - suc at) (suc at) at in
+    let q₀ = q.0 in
+    let q₁ = q.1 in
+    (omega arith, omega arith)
+
 -- and with each round one more
 pub cut_round : (needed held limit first end taken starts taken' starts' taken'' starts'' at stop gap : ℕ) → needed < 2 ^ 64 → end < 64 → at < end
     → stop ≡ stop_of (run_task needed held limit end) (end - suc at) (suc at) at → gap ≡ count_trailing_zeros map_width (needed / 2 ^ stop)

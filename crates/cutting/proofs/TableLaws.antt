@@ -27,6 +27,11 @@ most = start_weight + byte_weight + too_heavy
 abbrev pub largest_weight : ℕ
 largest_weight = 65_000_000
 
+-- one of two numbers is no more than the most of both
+pub either : (b : Bool) (x y m : ℕ) → x ≤ m → y ≤ m → cond b x y ≤ m
+either true x y m h k = h
+either false x y m h k = k
+
 module _ (needed held limit end : ℕ) where
   -- the task of the run
   abbrev q : Task

@@ -32,21 +32,10 @@ fn end_weight(held: u64, at: usize, rest: u32) -> u32
 {
     let weight = BYTE * at as u32 + rest;
     if bits::maps::has(held, at as u64) {
-        return weight + HEAVY;
+        weight + HEAVY
+    } else {
+        weight
     }
-    weight
-}
-
-// The last register before which a transaction may end.
-fn last_end(start: usize, limit: usize, end: usize) -> usize
-    requires { (start < map_width) × (limit ≤ map_width) }
-    ensures answer { result ≡ min (start + limit) end }
-{
-    let reach = start + limit;
-    if reach < end {
-        return reach;
-    }
-    end
 }
 
 // The highest candidate before which a transaction that starts at a register may end: of the ends that weigh least, the first.
@@ -54,7 +43,7 @@ fn best_end(candidates: u64, start: usize, limit: usize, end: usize) -> usize
     requires { (((start < end) × (end < map_width)) × ((0 < limit) × (limit ≤ map_width))) × (has candidates (suc start) ≡ true) }
     ensures answer { Highest candidates (min (start + limit) end) result }
 {
-    let last = last_end(start, limit, end);
+    let last = usize::min(start + limit, end);
     last - u64::leading_zeros(candidates << (HIGHEST - last)) as usize
 }
 
@@ -63,6 +52,7 @@ fn with_candidate(candidates: u64, weights: &[u32; TABLE], at: usize) -> u64
     requires { at < map_width }
     ensures answer { (end : ℕ) → at ≤ end → Candidates (λ i. get_or weights.now i 0) candidates (suc at) end → Candidates (λ i. get_or weights.now i 0) result at end }
 {
+    // A `while`, not a `for`: the candidates that are left tell which one is the next.
     let mut kept = candidates;
     while kept != 0 {
         let low = bits::maps::lowest(kept) as usize;
@@ -80,9 +70,10 @@ fn rest_weight(needed: u64, at: usize, ending: u32, rest: u32) -> u32
     ensures answer { result ≡ cond (has needed at) (start_weight + ending - byte_weight * at) rest }
 {
     if bits::maps::has(needed, at as u64) {
-        return START + ending - BYTE * at as u32;
+        START + ending - BYTE * at as u32
+    } else {
+        rest
     }
-    rest
 }
 
 // Where the transactions of a run that weigh least end, by the registers that they start at.
@@ -90,14 +81,13 @@ fn run_ends(needed: u64, held: u64, first: usize, end: usize, limit: usize) -> [
     requires { (first < end) × ((end < map_width) × ((0 < limit) × (limit ≤ map_width))) }
     ensures answer { (i : ℕ) → first ≤ i → i < end → has needed i ≡ true → get_or result i 0 ≡ stop_of (run_task needed held limit end) (end - suc i) (suc i) i }
 {
+    // Two arrays, not one of pairs: the ends are what is answered, the weights only what they are found by.
     let mut ends: [u8; TABLE] = [0; TABLE];
     let mut weights: [u32; TABLE] = [0; TABLE];
     let mut rest: u32 = 0;
     weights[end] = end_weight(held, end, rest);
     let mut candidates: u64 = 1 << end;
-    let mut at = end;
-    while first < at {
-        at -= 1;
+    for at in (first..end).rev() {
         let stop = best_end(candidates, at, limit, end);
         ends[at] = stop as u8;
         rest = rest_weight(needed, at, weights[stop], rest);
@@ -119,6 +109,7 @@ pub fn cut_run(
     requires { ((first < end) × ((end < map_width) × ((0 < limit) × (limit ≤ map_width)))) × (has needed first ≡ true) }
     ensures answer { (allowed : ℕ) (w : List ℕ) → Plannable needed allowed held limit w → Run (has needed) (has allowed) first end → (ts : List Transaction) → MapsSoFar ts (plan_from needed allowed held limit w first) spans.taken spans.starts → MapsSoFar ts (plan_from needed allowed held limit w end) result.taken result.starts }
 {
+    // A `while`, not a `for`: the table tells how far a transaction goes, and the map where the next one starts.
     let ends = run_ends(needed, held, first, end, limit);
     let mut cut = spans;
     let mut at = first;

@@ -20,7 +20,7 @@ use Rattle.bits.proofs.SetLaws.{has_and, has_or, has_span, same_map, none_has}
 use Rattle.rounding.proofs.Range.{imp, imp→}
 use Rattle.field_table.specs.declared.row.Row.{Row}
 use Rattle.field_table.specs.Coding.{Field, outside, encode, plain_of}
-use Rattle.field_table.specs.Writes.{Write, sets, bit_after, AllHeld}
+use Rattle.field_table.specs.Writes.{sets, bit_after, AllHeld}
 use Rattle.field_table.specs.Walk.{given, row_write, writes_of, row_fits}
 use Rattle.field_table.specs.Masks.{row_bits, mask_where}
 use Rattle.field_table.specs.RoundTrip.{rows_apart, apart_from, all_apart, only_zero}

@@ -7,8 +7,8 @@ use native.Mathlib.Omega.{arith}
 use lib.Dec.{T, ltb, leb→le, ltb→lt}
 use lib.IntN.{ℤ, pos, negsuc, nat_abs}
 use lib.Pow.{pow_mono}
-use lib.Signed.{lt_z, non_neg, pos-nat_abs}
-use borrow.Author.Tests.{ltb-true, ltb-false, le-ltb, lt-ltb}
+use lib.Signed.{non_neg, pos-nat_abs}
+use borrow.Author.Tests.{ltb-false, lt-ltb}
 use Rattle.refusals.specs.Refusal.{accepted, refused, value_or}
 use Rattle.bits.proofs.FlagLaws.{first, second}
 use Rattle.field_table.specs.declared.row.Row.{Row}
@@ -43,13 +43,6 @@ row_fits_lem r t =
     }
 
 -- ---- the refusal of a number that is no setting
-
-pub refused-negative : (r : Row) (z : ℤ) → lt_z z (pos 0) ≡ true → 3 ≡ cond (is_code plain r.width z) (refusal_outside r) 3
-refused-negative r (pos n) e = absurd (omega (arith, ltb-true n 0 e))
-refused-negative r (negsuc n) e = refl
-
-pub refused_beyond : (r : Row) (n : ℕ) → 2 ^ r.width ≤ n → 3 ≡ cond (is_code plain r.width (pos n)) (refusal_outside r) 3
-refused_beyond r n h = rw (le-ltb n (2 ^ r.width) h)
 
 pub refused-code : (r : Row) (n : ℕ) → n < 2 ^ r.width → refusal_outside r ≡ cond (is_code plain r.width (pos n)) (refusal_outside r) 3
 refused-code r n h = rw (lt-ltb n (2 ^ r.width) h)

@@ -1,13 +1,13 @@
 -- The machine's signed 32-bit numbers, where they are small. Assumes nothing.
-use mathlib.Core.Path.{◌≡◌, refl, sym, ap, ◌∙◌, subst}
+use mathlib.Core.Path.{◌≡◌, refl, sym, ap, ◌∙◌}
 use mathlib.Core.Bool.{true, false}
 use Prim.Native.Nat.{ℕ, zero, suc, ◌-◌, ◌^◌, ◌<◌}
 use native.Mathlib.Omega.{arith}
-use lib.Dec.{T, eqb}
-use lib.IntN.{ℤ, pos, negsuc, neg_ℤ, nat_abs, ◌-ℤ◌}
-use lib.Signed.{lt_z, non_neg, mag}
+use lib.Dec.{eqb}
+use lib.IntN.{ℤ, pos, negsuc, neg_ℤ, ◌-ℤ◌}
+use lib.Signed.{mag}
 use mir.Syntax.{w32}
-use mir.Val.{to_z, of_z, Fits, SFits}
+use mir.Val.{to_z, of_z, SFits}
 use mir.ValLaws.{to_z-of_z}
 use borrow.Author.Tests.{lt-ltb, eq-eqb, ne_eqb}
 use Rattle.rounding.proofs.Range.{back}
@@ -32,15 +32,6 @@ negated_fits r h = rw (as_signed r h, opposite_is r) (opposite_fits r h)
 
 pub negated : (r : ℕ) → r < 2 ^ 31 → back w32 (pos 0 -ℤ to_z w32 r) ≡ neg_ℤ (pos r)
 negated r h = rw (as_signed r h, opposite_is r) (to_z-of_z w32 (neg_ℤ (pos r)) (opposite_fits r h))
-
--- a signed number that is not negative
-pub is_positive : (z : ℤ) → lt_z z (pos 0) ≡ false → pos (nat_abs z) ≡ z
-is_positive (pos n) e = refl
-is_positive (negsuc n) e = absurd (subst T e tt)
-
-pub cast_positive : (z : ℤ) → lt_z z (pos 0) ≡ false → SFits w32 z → T (non_neg z) × Fits w32 (nat_abs z)
-cast_positive (pos n) e f = (tt, record { fits = omega (arith, f.sfits) })
-cast_positive (negsuc n) e f = absurd (subst T e tt)
 
 -- ---- a number compared with a small one, as the machine compares them
 

@@ -1,23 +1,20 @@
 -- A table walked row by row. Assumes nothing.
 use mathlib.Core.Path.{◌≡◌, ap, ap₂, subst}
 use mathlib.Core.List.{List, [], ◌∷◌}
-use Prim.Native.Nat.{ℕ, ◌+◌, ◌^◌, ◌≤◌, ◌<◌}
+use Prim.Native.Nat.{ℕ, ◌+◌, ◌≤◌, ◌<◌}
 use native.Mathlib.Numerals.{add-one}
 use native.Mathlib.Omega.{arith}
-use lib.Dec.{T, leb→le}
+use lib.Dec.{T}
 use lib.IntN.{ℤ}
 use lib.ListN.{length, get_or, set, drop}
 use lib.Seq.{drop-cons, drop-length}
-use Rattle.bits.specs.Fields.{with_field}
 use Rattle.bits.proofs.FlagLaws.{first, second}
-use Rattle.refusals.specs.Refusal.{Judged, accepted, refused}
-use Rattle.refusals.specs.Verdict.{Verdict, good, after, fault_of}
+use Rattle.refusals.specs.Verdict.{good, after}
 use Rattle.field_table.specs.declared.row.Row.{Row}
 use Rattle.field_table.specs.Rows.{row_of}
 use Rattle.field_table.specs.Coding.{Field, plain_of, plain_fields}
 use Rattle.field_table.specs.Writes.{put, puts}
-use Rattle.field_table.specs.Walk.{coding_fault, check_of, write_of, writes_of, reading_fault, judge_of, store, numbers_of, bits_fit, row_fits, all_fit}
-use Rattle.field_table.proofs.PlainLaws.{row_fits_lem}
+use Rattle.field_table.specs.Walk.{coding_fault, check_of, write_of, writes_of, reading_fault, judge_of, store, numbers_of, row_fits, all_fit}
 
 -- the rows from the i-th on: it, and those after it
 row_next : (ps : List ℕ) (i : ℕ) → i < length ps → plain_fields (drop i ps) ≡ plain_of (row_of (get_or ps i 0)) ∷ plain_fields (drop (i + 1) ps)
@@ -37,16 +34,6 @@ fits-first f fs t = first (row_fits f.row) (all_fit fs) t
 pub fits-rest : (f : Field) (fs : List Field) → T (all_fit (f ∷ fs)) → T (all_fit fs)
 unfolding all_fit
 fits-rest f fs t = second (row_fits f.row) (all_fit fs) t
-
--- ---- faults in turn
-
--- a refusal is the fault, whatever comes after
-pub stops : {A : Type 0} (f : ℕ) {j : Judged A} {n : ℕ} (w : Verdict (Unit {0})) → j ≡ refused n → fault_of f j ≡ after (fault_of f j) w
-stops f w e = rw e
-
--- a value is none, and lets what comes after decide
-pub goes_on : {A : Type 0} (f : ℕ) {j : Judged A} {a : A} (w : Verdict (Unit {0})) → j ≡ accepted a → after (fault_of f j) w ≡ w
-goes_on f w e = rw e
 
 -- ---- one row more
 
@@ -96,12 +83,6 @@ module _ (ps : List ℕ) (i : ℕ) (past : length ps ≤ i) (to : i ≤ length p
 
 -- ---- a row by its packed number
 
--- what is put by it
-pub put-row : (image : List ℕ) {r s : Row} {v w : ℕ} → r ≡ s → v ≡ w
-    → set image r.register (with_field r.bit r.width (get_or image r.register 0) v)
-    ≡ set image s.register (with_field s.bit s.width (get_or image s.register 0) w)
-put-row image e p = ap₂ (λ (x : Row) (y : ℕ). set image x.register (with_field x.bit x.width (get_or image x.register 0) y)) e p
-
 -- what is stored by it
 pub store-row : (zs : List ℤ) {r s : Row} {v w : ℤ} → r ≡ s → v ≡ w → set zs r.index v ≡ set zs s.index w
 store-row zs e p = ap₂ (λ (x : Row) (y : ℤ). set zs x.index y) e p
@@ -109,12 +90,3 @@ store-row zs e p = ap₂ (λ (x : Row) (y : ℤ). set zs x.index y) e p
 -- where it lies
 pub same-fits : {r s : Row} → r ≡ s → T (row_fits s) → T (row_fits r)
 same-fits e t = rw e t
-
-pub bits_fit_lem : {r s : Row} → r ≡ s → T (bits_fit s) → r.bit + r.width ≤ 8
-bits_fit_lem {r} {s} e t = rw e (leb→le (s.bit + s.width) 8 t)
-
-pub held_fits : {r s : Row} → r ≡ s → T (row_fits s) → r.bit + r.width ≤ 8
-held_fits {r} {s} e t = rw e (row_fits_lem s t).bits
-
-pub put-fits : {r s : Row} {v w : ℕ} → r ≡ s → v ≡ w → T (bits_fit s) → w < 2 ^ s.width → (r.bit + r.width ≤ 8) × (v < 2 ^ r.width)
-put-fits {r} {s} e p t k = rw (e, p) (leb→le (s.bit + s.width) 8 t, k)

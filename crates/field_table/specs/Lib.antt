@@ -3,7 +3,6 @@ pub mod Coding
 pub mod Writes
 pub mod Walk
 pub mod Blocks
-pub mod Answers
 pub mod RoundTrip
 pub mod Refusals
 pub mod Masks

@@ -10,14 +10,6 @@ mod walking;
 
 pub use places::{given, held, store};
 pub use plain::{code, setting};
-use refusals::Refusal;
 pub use row::out_of_range;
-pub use rows::{read_decoded, read_row, then, want_coded, want_row};
+pub use rows::{read_decoded, read_row, want_coded, want_row};
 pub use walking::{check, read, want};
-
-// Every field passed, or the refusal of the first at fault, with its number.
-#[derive(Clone, Copy)]
-pub enum Checked {
-    Good,
-    Refused { refusal: Refusal, field: u8 },
-}

@@ -1,12 +1,11 @@
 // The plain coding: the setting is the code.
 ghost use Rattle.std.specs.Prelude.{◌≡◌, cond, ◌^◌, ◌<◌, T};
-ghost use Rattle.refusals.specs.Refusal.{number_of};
+ghost use Rattle.refusals.specs.Refusal.{judged_as, number_of};
 ghost use Rattle.field_table.specs.Rows.{refusal_outside};
 ghost use Rattle.field_table.specs.Coding.{plain, plain_of, is_code, encode, decode};
 ghost use Rattle.field_table.specs.Walk.{row_fits};
-ghost use Rattle.field_table.specs.Answers.{coded_as, decoded_as};
 
-use crate::row::{Coded, Decoded, Row, outside};
+use crate::row::{Row, outside};
 use refusals::Refusal;
 
 // How many codes a row's bits have.
@@ -32,34 +31,31 @@ fn refusal(row: Row, number: i32) -> Refusal
     requires { row.width < 16 }
     ensures answer { number_of result ≡ cond (is_code plain row.width number) (refusal_outside row) 3 }
 {
-    if number < 0 {
-        return Refusal::OutOfRange;
-    }
-    if codes(row.width) <= number as u32 {
+    if number < 0 || codes(row.width) <= number as u32 {
         return Refusal::OutOfRange;
     }
     refusal_outside(row)
 }
 
 // The code of a setting.
-pub fn code(row: Row, setting: i32) -> Coded
+pub fn code(row: Row, setting: i32) -> Result<u8, Refusal>
     requires { T (row_fits row) }
-    ensures answer { coded_as result ≡ encode (plain_of row) setting }
+    ensures answer { judged_as result ≡ encode (plain_of row) setting }
 {
     if outside(setting, row.low, row.high) {
-        return Coded::Refused(refusal(row, setting));
+        return Err(refusal(row, setting));
     }
-    Coded::Code(setting as u8)
+    Ok(setting as u8)
 }
 
 // The setting of a code.
-pub fn setting(row: Row, code: u8) -> Decoded
+pub fn setting(row: Row, code: u8) -> Result<i32, Refusal>
     requires { T (row_fits row) }
-    ensures answer { decoded_as result ≡ decode (plain_of row) code }
+    ensures answer { judged_as result ≡ decode (plain_of row) code }
 {
     let number = code as i32;
     if outside(number, row.low, row.high) {
-        return Decoded::Unreadable(refusal(row, number));
+        return Err(refusal(row, number));
     }
-    Decoded::Setting(number)
+    Ok(number)
 }

@@ -1,10 +1,8 @@
-// A row of a table of fields, and what a coding answers.
+// A row of a table of fields.
 ghost use Rattle.std.specs.Prelude.{◌≡◌, ◌||◌, ◌<◌};
 ghost use Rattle.std.specs.Int.Signed.{lt_z};
 ghost use Rattle.field_table.specs.Rows.{signed12 as signed12_of, row_of};
 ghost use Rattle.field_table.specs.Coding.{outside as outside_of};
-
-use refusals::Refusal;
 
 // A field of one number, or must-be-zero bits.
 #[derive(Clone, Copy)]
@@ -20,22 +18,9 @@ pub struct Row {
     // its lowest and its highest setting
     pub low: i32,
     pub high: i32,
-    // the refusal of a code that is no setting's: 3, or 4 where such a code is reserved
+    // the refusal of a code that is no setting's: 3, or 4 where such a code is reserved. A number, as it is packed: any but 3 counts as 4, so that what is
+    // proved of refusals holds of every row, which a row with any `Refusal` in it would break
     pub outside: u8,
-}
-
-// A setting's code, or the refusal that the setting meets.
-#[derive(Clone, Copy)]
-pub enum Coded {
-    Code(u8),
-    Refused(Refusal),
-}
-
-// The setting that a code is read as, or the refusal that the code meets.
-#[derive(Clone, Copy)]
-pub enum Decoded {
-    Setting(i32),
-    Unreadable(Refusal),
 }
 
 // A number of 12 bits, read as two's complement.
@@ -69,7 +54,7 @@ pub fn row_of(packed: u64) -> Row
 pub(crate) fn outside(s: i32, low: i32, high: i32) -> bool
     ensures answer { result ≡ (lt_z s low || lt_z high s) }
 {
-    if s < low { true } else { high < s }
+    s < low || high < s
 }
 
 // Whether a number is none of a row's settings.

@@ -14,14 +14,14 @@ use adv7194_bus::board::ALL_KNOWN;
 use adv7194_bus::{BOARD_ADDRESS, NO_LIMIT};
 use adv7194_settings::house;
 use answer_listing::answer_listing;
-use planning::plan::Planned;
-use text::Place;
+use planning::plan::Packed;
+use refusals::Fault;
 
 // The most bytes that a packed plan has where there is no limit.
 pub const MOST_BYTES: usize = 44;
 
 // Plans the house setting over an image into the lent plan.
-pub fn plan_house(image: &[u8], plan: &mut [u8]) -> Planned
+pub fn plan_house(image: &[u8], plan: &mut [u8]) -> Result<Packed, Fault>
     ensures answer { answer_of result ≡ planning_of (board_in image.now) house_setting board_address no_limit (length plan.old) }
     ensures memory { plan.new ≡ plan_left (board_in image.now) house_setting board_address no_limit plan.old }
 {
@@ -30,7 +30,7 @@ pub fn plan_house(image: &[u8], plan: &mut [u8]) -> Planned
 }
 
 // Writes the text of the house setting planned over an image at the front of the memory lent.
-pub fn house_listing(out: &mut [u8], image: &[u8]) -> Place
+pub fn house_listing(out: &mut [u8], image: &[u8]) -> Option<usize>
     ensures answer { result ≡ place_after out.old 0 (house_text image.now) }
     ensures memory { out.new ≡ appended out.old 0 (house_text image.now) }
 {

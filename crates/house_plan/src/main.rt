@@ -2,28 +2,16 @@
 #![tactic(auto)]
 
 use house_listing::house_listing;
-use input::read_full;
+use input::{INPUT_ROOM, print_text, read_full};
 use std::io;
-use text::Place;
-
-// The bytes of memory for the input.
-const INPUT_ROOM: usize = 4096;
 
 // The bytes of memory for the text: no text is longer than 138 (theorem `short` of house_listing).
 const TEXT_ROOM: usize = 256;
 
-// Writes what planning the house setting over an image answers, by way of the memory lent.
-fn print_listing(rt: &impl Print, out: &mut [u8], image: &[u8]) -> io::Result<()> {
-    let Place::After(end) = house_listing(out, image) else {
-        return Ok(());
-    };
-    rt.write_all(&out[0..end])
-}
-
-// The input has room for more than an image, so that a byte too many is seen.
 fn main(rt: HostRuntime) -> io::Result<()> {
     let mut input = [0u8; INPUT_ROOM];
     let got = read_full(&mut rt.stdin(), &mut input)?;
     let mut text = [0u8; TEXT_ROOM];
-    print_listing(&rt, &mut text, &input[..got])
+    let end = house_listing(&mut text, &input[..got]);
+    print_text(&rt, &text, end)
 }

@@ -18,3 +18,7 @@ module _ (line : Line) (text : List ℕ) (e : line ≡ line_of text) where
   pub line_part : take (line.length - 0) line.bytes ≡ text
   unfolding line_of
   line_part = rw (sub-zero, e) (take-append_seam text (zeros (line_width - length text)))
+
+  pub line_front : take line.length line.bytes ≡ text
+  unfolding line_of
+  line_front = rw e (take-append_seam text (zeros (line_width - length text)))

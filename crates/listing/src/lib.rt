@@ -4,15 +4,16 @@
 ghost use Rattle.std.specs.Prelude.{◌≡◌, [], ◌∷◌, ◌++◌, ◌+◌, ◌≤◌, length};
 ghost use Rattle.text.specs.Line.{appended};
 ghost use Rattle.text.specs.Text.{decimal};
-ghost use Rattle.listing.specs.Lines.{begins, counts_line, plan_line, refused_line};
+ghost use Rattle.listing.specs.Lines.{counts_line, plan_line, refused_line};
 ghost use Rattle.listing.specs.Written.{line_of, word_of};
 
-use text::{decimal_digits, put};
+use text::{decimal, put};
 
 // The bytes that hold the longest line: a word of eight bytes, two numbers of twenty digits, a space and a line end.
 const LINE_WIDTH: usize = 50;
 
-// A line: the first bytes, as many as its length. Those after are zero.
+// A line: the first bytes, as many as its length. Those after are zero. The length stands beside the bytes because `line_of` says what a line is for a text
+// of any length; a line that knows that it is within its bytes could not be stated for all of them.
 #[derive(Clone, Copy)]
 pub struct Line {
     pub bytes: [u8; LINE_WIDTH],
@@ -27,28 +28,17 @@ pub enum Word {
     Other,
 }
 
-// Whether a line begins with a word.
-fn begins_with(line: &[u8], word: &[u8]) -> bool
-    ensures answer { result ≡ begins word.now line.now }
-{
-    let n = word.len();
-    if line.len() < n {
-        return false;
-    }
-    check::same(&line[0..n], word)
-}
-
-// The word that a line begins with, by comparing its bytes.
+// The word that a line begins with.
 pub fn first_word(line: &[u8]) -> Word
     ensures answer { result ≡ word_of line.now }
 {
-    if begins_with(line, b"PLAN ") {
-        return Word::Plan;
+    if line.starts_with(b"PLAN ") {
+        Word::Plan
+    } else if line.starts_with(b"REFUSED ") {
+        Word::Refused
+    } else {
+        Word::Other
     }
-    if begins_with(line, b"REFUSED ") {
-        return Word::Refused;
-    }
-    Word::Other
 }
 
 // Writes a number and a byte after it into a line that has room for them, and answers the place after them.
@@ -57,10 +47,7 @@ fn put_number(line: &mut [u8], at: usize, n: u64, end: u8) -> usize
     ensures answer { result ≡ at + length (decimal n) + 1 }
     ensures memory { line.new ≡ appended line.old at (decimal n ++ (end ∷ [])) }
 {
-    let d = decimal_digits(n);
-    let bytes = d.bytes;
-    let first = d.first;
-    let next = put(line, at, &bytes[first..]);
+    let next = decimal(line, at, n).unwrap_or(at);
     line[next] = end;
     next + 1
 }

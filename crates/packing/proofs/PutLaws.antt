@@ -3,10 +3,10 @@ use mathlib.Core.Path.{◌≡◌, refl, sym, ap, ap₂, ◌∙◌, subst}
 use mathlib.Core.Bool.{Bool, false}
 use mathlib.Core.List.{List, [], ◌∷◌, ◌++◌, append_assoc, append-nil}
 use Prim.Native.Nat.{ℕ, suc, ◌+◌, ◌-◌, ◌*◌, ◌/◌, ◌%◌, ◌^◌, ◌≤◌, ◌<◌}
-use native.Mathlib.Nat.{add-zero, add_comm, mod-lt}
+use native.Mathlib.Nat.{add-zero, add_comm, mod-lt, mod-eq_of_lt}
 use native.Mathlib.Omega.{arith}
 use lib.Arith.{digits_lt}
-use lib.ListN.{length, take, drop, set, get_or, replicate, length-append, length-drop, length-set, drop_of_length-le}
+use lib.ListN.{length, take, drop, set, get_or, replicate, length-append, length-drop, length-set, take-append-drop, drop_of_length-le}
 use lib.Pow.{pow_pos, pow-add, pow_mono, shr_lt, split, low, field, mod-mod-pow}
 use lib.Seq.{sets, drop-set-lt, drop-drop, take_all, take-append-add, drop-append-add, length-take-le}
 use borrow.Rule.Slice.PartMut.{put_mid}
@@ -18,7 +18,7 @@ use Rattle.bus.specs.Transactions.{Transaction}
 use Rattle.packing.proofs.FillLaws.{msb_zero, take-bytes, filled-bytes}
 use Rattle.packing.specs.declared.Pending.{Pending}
 use Rattle.packing.specs.Packing.{packed}
-use Rattle.packing.specs.Written.{list_bits, packed_bits, Sound, Put, written, finished_with}
+use Rattle.packing.specs.Written.{list_bits, packed_bits, Sound, Room, Put, written, finished_with}
 
 -- ---- one string after another
 
@@ -182,6 +182,16 @@ put_all (b ∷ bs) plan at count before few h room =
     (record { at = k; count = count; bits = last_from b bs % 2 ^ count })) all
     (put_all bs after (at + 1) count b few (λ k. h (suc k)) (omega (arith, length-set plan at (between count before b))))))
 
+-- bytes shifted by the pending bits were put
+pub put_shifted : (plan after bytes : List ℕ) (p : Pending) (last m : ℕ) → Sound p → ((k : ℕ) → get_or bytes k 0 < 2 ^ 8) → p.at + length bytes ≤ length plan
+    → after ≡ sets plan p.at (shifted p.count p.bits bytes) → last ≡ last_from p.bits bytes → m ≡ 2 ^ p.count
+    → Put plan after p (byte_bits bytes) (record { at = p.at + length bytes; count = p.count; bits = last % m })
+put_shifted plan after bytes p last m s h room e f g =
+    rw (e, f, g)
+    (subst (λ (b : ℕ). Put plan (sets plan p.at (shifted p.count p.bits bytes)) (record { at = p.at; count = p.count; bits = b }) (byte_bits bytes)
+    (record { at = p.at + length bytes; count = p.count; bits = last_from p.bits bytes % 2 ^ p.count })) (mod-eq_of_lt s.low)
+    (put_all bytes plan p.at p.count p.bits s.few h room))
+
 -- ---- the last byte
 
 -- zero bits up to a full byte were put: the bytes written are those of the bits before
@@ -194,6 +204,18 @@ put_fill before after p r w h s e k =
     sym (append-nil (byte_bits (take r.at after))) ∙ ap (λ (n : ℕ). byte_bits (take r.at after) ++ msb_first n r.bits) (sym none)
     ∙ k.wrote ∙ ap (λ (l : List Bool). written before p ++ l) (msb_zero w) in
     filled-bytes (take r.at after) (written before p) w (take-bytes r.at after h) (omega arith) bits
+
+-- so the plan's bytes are those of its bits, and past them it is as it was
+pub put_finished : (before after : List ℕ) (p r : Pending) → ((i : ℕ) → get_or after i 0 < 2 ^ 8) → Sound p → Room before p 0 → length after ≡ length before
+    → Put before after p (msb_first ((8 - p.count) % 8) 0) r
+    → (r.at ≡ length (bytes_of (written before p))) × (after ≡ bytes_of (written before p) ++ drop r.at before)
+put_finished before after p r h s room same k =
+    let fill = (8 - p.count) % 8 in
+    let bytes = put_fill before after p r fill h s refl k in
+    let inside : r.at ≤ length after = omega (arith, s.few, room, same, k.more, msb_length fill 0) in (
+      sym (length-take-le r.at after inside) ∙ ap length bytes,
+      sym (take-append-drop r.at after) ∙ ap₂ (λ (x y : List ℕ). x ++ y) bytes k.past,
+    )
 
 -- ---- the whole plan
 

@@ -1,30 +1,24 @@
 -- A walk through a well-formed plan that writes the line of each transaction. Assumes nothing.
-use mathlib.Core.Path.{◌≡◌, ap, ap₂, ◌∙◌, subst}
+use mathlib.Core.Path.{◌≡◌, ap, ◌∙◌, subst}
 use mathlib.Core.List.{List, [], ◌∷◌, ◌++◌, flat_map}
 use mathlib.Core.Logic.{⊎_elim}
-use Prim.Native.Nat.{ℕ, ◌+◌, ◌-◌, ◌*◌, ◌^◌, ◌≤◌, ◌<◌}
-use native.Mathlib.Nat.{sub-zero}
+use Prim.Native.Nat.{ℕ, ◌+◌, ◌*◌, ◌^◌, ◌≤◌, ◌<◌}
 use native.Mathlib.Omega.{arith}
 use lib.ListN.{length, take, drop, get_or, length-append}
 use lib.Seq.{sets-eq, take_at}
-use denote.Enum.Declared.{tag_of}
-use types.Run.{OneOf, miss}
-use Rattle.refusals.specs.Refusal.{refused}
+use Rattle.refusals.specs.Refusal.{accepted, refused}
 use Rattle.bits.specs.Strings.{first_bytes}
 use Rattle.bits.proofs.ByteLaws.{first_bytes-length}
 use Rattle.bus.specs.Transactions.{Transaction}
 use Rattle.unpacking.specs.declared.places.Place.{Place}
 use Rattle.unpacking.specs.declared.steps.Order.TheVariants.{Ascending}
 use Rattle.unpacking.specs.declared.steps.Cursor.{Cursor}
-use Rattle.unpacking.specs.declared.steps.Step.{Step}
-use Rattle.unpacking.specs.declared.steps.Step.TheVariants.{Transaction as Found, End, Fault}
 use Rattle.unpacking.specs.Unpacking.{unpack}
 use Rattle.unpacking.specs.Places.{left_at, data_copied}
 use Rattle.unpacking.specs.Steps.{beginning, transaction_at}
 use Rattle.unpacking.specs.Listed.{listed, Accepted}
-use Rattle.unpacking.specs.contracts.steps.Step.{the_type}
 use Rattle.unpacking.proofs.PlaceLaws.{data_copied_lem}
-use Rattle.unpacking.proofs.StepLaws.{Went, Stepped}
+use Rattle.unpacking.proofs.StepLaws.{Went, rest_of}
 use Rattle.unpacking.proofs.Walking.{Walked, walk_begins, walk_goes, walk_ends, walk_fails, walk_so_far}
 use Rattle.text.specs.Line.{zeros, appended}
 use Rattle.text.proofs.Appending.{Written, begun, next}
@@ -49,7 +43,7 @@ listing_begins out plan at c e bytes h = record { done = []; walked = rw e (walk
 module _ {plan : List ℕ} {c : Cursor} {subaddress count : ℕ} {first : Place} {after : Cursor} (g : Went plan c subaddress count first after) where
   -- its data, copied to the front of zeros, of which there are enough for any
   pub data_in_front : (copy : List ℕ) → copy ≡ data_copied plan first (zeros 63) 0 count
-      → (take (count - 0) copy ≡ first_bytes count (left_at plan first)) × (count ≤ length copy)
+      → (take count copy ≡ first_bytes count (left_at plan first)) × (count ≤ length copy)
   data_in_front copy e =
       let bytes = zeros 63 in
       let h = length-zeros 63 in
@@ -58,13 +52,13 @@ module _ {plan : List ℕ} {c : Cursor} {subaddress count : ℕ} {first : Place}
       let stored : copy ≡ ds ++ drop (0 + length ds) bytes =
       e ∙ data_copied_lem plan first bytes 0 count g.placed g.room (omega (arith, g.few)) ∙ sets-eq ds bytes 0 (omega (arith, g.few)) in
       let rest = drop (0 + length ds) bytes in
-      (ap₂ take (sub-zero count) stored ∙ take_at ds rest count long, omega (arith, ap length stored, length-append ds rest))
+      (ap (take count) stored ∙ take_at ds rest count long, omega (arith, ap length stored, length-append ds rest))
 
 -- ---- a well-formed plan
 
 module _ {plan : List ℕ} {done : List Transaction} {c : Cursor} (w : Walked plan Ascending done c) (e : Accepted plan) where
   -- it is not refused
-  not_refused : unpack plan ≡ refused 9 → ⊥
+  not_refused : {n : ℕ} → unpack plan ≡ refused n → ⊥
   not_refused f = let z : ◌≡◌ {A = ℕ} 0 1 = cc in omega arith
 
   -- transactions passed are the first of the plan's
@@ -72,10 +66,12 @@ module _ {plan : List ℕ} {done : List Transaction} {c : Cursor} (w : Walked pl
   passed_first = ⊎_elim (λ f. absurd (not_refused f)) (λ p. (p.0, ap listed p.1)) (walk_so_far w)
 
   -- after the last transaction all were passed
-  pub all_passed : (r : Step) → OneOf (1 ∷ 2 ∷ []) (tag_of the_type r) → Stepped plan c r → listed (unpack plan) ≡ done
-  all_passed (Found subaddress count first after) h s = absurd (miss (1 ∷ 2 ∷ []) 0 tt h)
-  all_passed End h s = ap listed (walk_ends w s)
-  all_passed Fault h s = absurd (not_refused (walk_fails w s))
+  pub all_passed : rest_of plan c ≡ accepted [] → listed (unpack plan) ≡ done
+  all_passed s = ap listed (walk_ends w s)
+
+  -- and no fault is found
+  pub no_fault : {n : ℕ} → rest_of plan c ≡ refused n → ⊥
+  no_fault s = not_refused (walk_fails w s)
 
 -- the lines of transactions passed are no longer than those of all
 passed_lines : {plan : List ℕ} {done : List Transaction} {c : Cursor} → Walked plan Ascending done c → Accepted plan

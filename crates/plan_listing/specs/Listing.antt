@@ -1,18 +1,14 @@
 -- Document 01, "Promises with no slack": the result, and the contents of the memory lent, for all inputs. A plan that does not unpack is refused, and
--- writes nothing; of any other a heading and its lines stand at the front of the lent memory; memory too short is a named answer, and stays as it was.
+-- writes nothing; of any other a heading and its lines stand at the front of the lent memory; memory too short has no place after them, and stays as it was.
 use mathlib.Core.List.{List, ◌++◌, flat_map}
-use Rattle.std.specs.Prelude.{ℕ}
-use Rattle.refusals.specs.Refusal.{Judged, accepted, refused, number_of}
+use Rattle.std.specs.Prelude.{ℕ, Option}
+use Rattle.refusals.specs.Refusal.{Judged, accepted, refused}
 use Rattle.bus.specs.Transactions.{Transaction}
-use Rattle.text.specs.declared.Place.{Place}
-use Rattle.text.specs.declared.Place.TheVariants.{After as PlaceAfter, TooShort as PlaceTooShort}
 use Rattle.text.specs.Line.{place_after, appended}
-use Rattle.plan_listing.specs.declared.Listed.{Listed}
-use Rattle.plan_listing.specs.declared.Listed.TheVariants.{After, TooShort, Refused}
 use Rattle.plan_listing.specs.PlanText.{transaction_line}
 
--- what listing answers: the place after the heading and the lines, or that the memory is too short for them; or the refusal
-abbrev pub listing_of : List ℕ → Judged (List Transaction) → List ℕ → Judged Place
+-- what listing answers: the place after the heading and the lines, or none: the memory is too short for them; or the refusal
+abbrev pub listing_of : List ℕ → Judged (List Transaction) → List ℕ → Judged (Option ℕ)
 listing_of heading (accepted ts) out = accepted (place_after out 0 (heading ++ flat_map transaction_line ts))
 listing_of heading (refused n) out = refused n
 
@@ -20,9 +16,3 @@ listing_of heading (refused n) out = refused n
 abbrev pub listing_in : List ℕ → Judged (List Transaction) → List ℕ → List ℕ
 listing_in heading (accepted ts) out = appended out 0 (heading ++ flat_map transaction_line ts)
 listing_in heading (refused n) out = out
-
--- the answer as document 01 has it
-abbrev pub listed_as : Listed → Judged Place
-listed_as (After n) = accepted (PlaceAfter n)
-listed_as TooShort = accepted PlaceTooShort
-listed_as (Refused r) = refused (number_of r)

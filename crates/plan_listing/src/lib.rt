@@ -3,18 +3,17 @@
 
 ghost use Rattle.std.specs.Prelude.{◌≡◌, ◌+◌, ◌*◌, ◌≤◌, length};
 ghost use mathlib.Core.List.{◌++◌, flat_map};
+ghost use Rattle.refusals.specs.Refusal.{judged_as};
 ghost use Rattle.bus.specs.Cost.{data_count};
 ghost use Rattle.unpacking.specs.Unpacking.{unpack};
 ghost use Rattle.unpacking.specs.Listed.{listed, Accepted};
 ghost use Rattle.text.specs.Line.{place_after, appended};
 ghost use Rattle.plan_listing.specs.PlanText.{transaction_line};
-ghost use Rattle.plan_listing.specs.Listing.{listing_of, listing_in, listed_as};
+ghost use Rattle.plan_listing.specs.Listing.{listing_of, listing_in};
 
 use refusals::Refusal;
-use text::Place;
-use unpacking::Checked;
 use unpacking::places::copy_data;
-use unpacking::steps::{Order, Step, begin, next};
+use unpacking::steps::{Order, begin, next};
 
 // The digits of a byte.
 const HEX_DIGITS: usize = 2;
@@ -29,14 +28,6 @@ const BYTE_BITS: usize = 8;
 // The most data bytes of a transaction.
 const MOST_DATA: usize = 63;
 
-// What listing answers: the place after the text, that the memory lent is too short, or a refusal.
-#[derive(Clone, Copy)]
-pub enum Listed {
-    After(usize),
-    TooShort,
-    Refused(Refusal),
-}
-
 // How many data bytes a well-formed plan with that many transactions has in all: the other bytes hold the count, the headers and the zero bits.
 fn data_bytes(plan: &[u8], transactions: u8) -> usize
     requires { Accepted plan.now × (length (listed (unpack plan.now)) ≡ transactions) }
@@ -44,7 +35,7 @@ fn data_bytes(plan: &[u8], transactions: u8) -> usize
     ensures most { transactions + result ≤ length plan.now }
 {
     let others = COUNT_BITS + HEADER_BITS * transactions as usize;
-    plan.len() - (others + BYTE_BITS - 1) / BYTE_BITS
+    plan.len() - others.div_ceil(BYTE_BITS)
 }
 
 // Writes the line of a transaction, where there is room for it, and answers the place after it.
@@ -55,12 +46,10 @@ pub fn put_line(out: &mut [u8], at: usize, subaddress: u8, bytes: &[u8]) -> usiz
 {
     text::hex_byte(out, at, subaddress);
     let mut end = at + HEX_DIGITS;
-    let mut i: usize = 0;
-    while i < bytes.len() {
+    for &byte in bytes {
         out[end] = b' ';
-        text::hex_byte(out, end + 1, bytes[i]);
+        text::hex_byte(out, end + 1, byte);
         end += BYTE_TEXT;
-        i += 1;
     }
     out[end] = b'\n';
     end + 1
@@ -74,51 +63,36 @@ fn put_lines(out: &mut [u8], at: usize, plan: &[u8]) -> usize
 {
     let mut cursor = begin(plan, Order::Ascending);
     let mut end = at;
-    loop {
-        let Step::Transaction {
-            subaddress,
-            count,
-            data,
-            after,
-        } = next(plan, cursor)
-        else {
-            return end;
-        };
+    while let Ok(Some(t)) = next(plan, cursor) {
         let mut bytes = [0u8; MOST_DATA];
-        copy_data(plan, data, &mut bytes, 0, count);
-        let size = count as usize;
-        end = put_line(out, end, subaddress, &bytes[0..size]);
-        cursor = after;
+        copy_data(plan, t.data, &mut bytes, 0, t.count);
+        end = put_line(out, end, t.subaddress, &bytes[..t.count as usize]);
+        cursor = t.after;
     }
+    end
 }
 
 // Writes a heading and the lines of a well-formed plan with that many transactions, or nothing where there is no room for all of it.
-fn put_plan(out: &mut [u8], heading: &[u8], plan: &[u8], transactions: u8) -> Place
+fn put_plan(out: &mut [u8], heading: &[u8], plan: &[u8], transactions: u8) -> Option<usize>
     requires { Accepted plan.now × (length (listed (unpack plan.now)) ≡ transactions) }
     ensures answer { result ≡ place_after out.old 0 (heading.now ++ flat_map transaction_line (listed (unpack plan.now))) }
     ensures memory { out.new ≡ appended out.old 0 (heading.now ++ flat_map transaction_line (listed (unpack plan.now))) }
 {
     let data = data_bytes(plan, transactions);
-    if out.len() < heading.len() {
-        return Place::TooShort;
-    }
-    if (out.len() - heading.len()) / BYTE_TEXT < transactions as usize + data {
-        return Place::TooShort;
+    let room = out.len().checked_sub(heading.len())?;
+    if room / BYTE_TEXT < transactions as usize + data {
+        return None;
     }
     let first = text::put(out, 0, heading);
-    Place::After(put_lines(out, first, plan))
+    Some(put_lines(out, first, plan))
 }
 
-// Writes a heading and, after it, a line a transaction of a packed plan at the front of the memory lent.
-pub fn list_plan(out: &mut [u8], heading: &[u8], plan: &[u8]) -> Listed
-    ensures answer { listed_as result ≡ listing_of heading.now (unpack plan.now) out.old }
+// Writes a heading and, after it, a line a transaction of a packed plan at the front of the memory lent, and answers the place after the text; none where the
+// memory is too short.
+pub fn list_plan(out: &mut [u8], heading: &[u8], plan: &[u8]) -> Result<Option<usize>, Refusal>
+    ensures answer { judged_as result ≡ listing_of heading.now (unpack plan.now) out.old }
     ensures memory { out.new ≡ listing_in heading.now (unpack plan.now) out.old }
 {
-    match unpacking::check(plan) {
-        Checked::Refused(refusal) => Listed::Refused(refusal),
-        Checked::WellFormed(transactions) => match put_plan(out, heading, plan, transactions) {
-            Place::After(end) => Listed::After(end),
-            Place::TooShort => Listed::TooShort,
-        },
-    }
+    let transactions = unpacking::check(plan)?;
+    Ok(put_plan(out, heading, plan, transactions))
 }

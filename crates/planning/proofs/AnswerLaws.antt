@@ -3,7 +3,6 @@ use mathlib.Core.Path.{◌≡◌, refl, sym, ap, ◌∙◌}
 use mathlib.Core.Bool.{Bool, true, false, cond}
 use mathlib.Core.List.{List, ◌++◌}
 use Prim.Native.Nat.{ℕ, ◌<◌}
-use native.Mathlib.Omega.{arith}
 use lib.Dec.{leb, ltb}
 use lib.ListN.{length, take, drop}
 use lib.Seq.{take-append_seam}
@@ -30,14 +29,14 @@ done-counts ts room l t b e = by (leb (length (packed ts)) room) e
   where
     by : (x : Bool) → cond x (good (counts_of ts)) (refused_at 10 0) ≡ done l t b → counts_of ts ≡ record { length = l; transactions = t; bus_bytes = b }
     by true e = cc
-    by false e = let z : ◌≡◌ {A = ℕ} 0 1 = cc in absurd (omega arith)
+    by false e = absurd cc
 
 -- where packing is refused, the lent plan is shorter than the packed one
 pub refused-short : (ts : List Transaction) (room n f : ℕ) → packing_of ts room ≡ refused_at n f → room < length (packed ts)
 refused-short ts room n f e = by (leb (length (packed ts)) room) refl e
   where
     by : (x : Bool) → leb (length (packed ts)) room ≡ x → cond x (good (counts_of ts)) (refused_at 10 0) ≡ refused_at n f → room < length (packed ts)
-    by true p e = let z : ◌≡◌ {A = ℕ} 0 1 = cc in absurd (omega arith)
+    by true p e = absurd cc
     by false p e = leb-false (length (packed ts)) room p
 
 -- the bytes answered are the packed list

@@ -131,7 +131,7 @@ module _ (needed allowed held limit : ℕ) (w : List ℕ) (taken starts : ℕ) (
 -- ---- answers
 
 -- what packing a list answers, and what it leaves in the lent plan
-abbrev Answers : List Transaction → List ℕ → Verdict Counts → List ℕ → Type 0
+abbrev pub Answers : List Transaction → List ℕ → Verdict Counts → List ℕ → Type 0
 Answers ts plan answer after = (answer ≡ packing_of ts (length plan)) × (after ≡ plan_after ts plan)
 
 -- the lent plan is shorter than the packed one

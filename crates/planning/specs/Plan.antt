@@ -1,20 +1,20 @@
 -- Document 01, "Packing", document 02, P6: the plan for the needed registers, packed into the lent plan. Its byte count is that of the list packed; the lent
 -- plan past the packed bytes stays as it was. A lent plan shorter than the packed one is refusal 10, which writes nothing.
-use Rattle.std.specs.Prelude.{◌≡◌, true, cond, List, ◌++◌, ℕ, ◌-◌, ◌≤◌, ◌<◌, leb, length, get_or, drop}
+use Rattle.std.specs.Prelude.{◌≡◌, true, cond, List, ◌++◌, ℕ, ◌-◌, ◌≤◌, ◌<◌, leb, length, get_or, drop, Result, Ok, Err}
 use Rattle.std.specs.Int.Bits.{bit_and}
 use Rattle.std.specs.Int.Count.{ones}
 use Rattle.bits.specs.Maps.{map_width, has, complement}
+use Rattle.refusals.specs.declared.Fault.{Fault}
 use Rattle.refusals.specs.Refusal.{number_of}
 use Rattle.refusals.specs.Verdict.{Verdict, good, refused_at, left_by}
 use Rattle.bus.specs.Transactions.{Transaction, bus_bytes}
-use Rattle.bus.specs.Cost.{data_count}
+use Rattle.bus.specs.Cost.{data_count, cost_of}
 use Rattle.packing.specs.declared.Pending.{Pending}
-use Rattle.packing.specs.Packing.{packed}
+use Rattle.packing.specs.Packing.{packed, packed_length}
 use Rattle.packing.specs.Written.{list_bits, Sound, Room}
 use Rattle.least_cost.specs.Plan.{scan, greedy_plan}
 use Rattle.cutting.specs.Task.{largest_count, map_task}
-use Rattle.planning.specs.declared.plan.Planned.{Planned}
-use Rattle.planning.specs.declared.plan.Planned.TheVariants.{Done, Refused}
+use Rattle.planning.specs.declared.plan.Packed.{Packed}
 
 -- the list of two maps from register i on: it touches the registers of the first, and its transactions go on over those of the second; with the wanted
 -- bytes
@@ -92,6 +92,15 @@ abbrev pub done : ℕ → ℕ → ℕ → Verdict Counts
 done bytes transactions cost = good (record { length = bytes; transactions = transactions; bus_bytes = cost })
 
 -- the answer as document 01 has it
-abbrev pub answer_of : Planned → Verdict Counts
-answer_of (Done l t b) = done l t b
-answer_of (Refused r f) = refused_at (number_of r) f
+abbrev pub answer_of : Result Packed Fault → Verdict Counts
+answer_of (Ok p) = done p.length p.transactions p.bus_bytes
+answer_of (Err e) = refused_at (number_of e.refusal) e.field
+
+-- more than the transactions and the data bytes of a plan can be
+abbrev pub most_number : ℕ
+most_number = 1000
+
+-- what is answered for a plan with that many transactions and data bytes in a lent plan of that many bytes
+abbrev pub numbers_of : ℕ → ℕ → ℕ → Verdict Counts
+numbers_of transactions bytes room =
+    cond (leb (packed_length transactions bytes) room) (done (packed_length transactions bytes) transactions (cost_of transactions bytes)) (refused_at 10 0)

@@ -1,15 +1,14 @@
-ghost use Rattle.std.specs.Prelude.{◌≡◌, List, ◌∷◌, ◌++◌, ℕ, length};
-ghost use Rattle.refusals.specs.Verdict.{refused_at};
+ghost use Rattle.std.specs.Prelude.{◌≡◌, List, ◌∷◌, ◌++◌, ℕ, ◌≤◌, length};
 ghost use Rattle.packing.specs.Packing.{packed_length};
 ghost use Rattle.packing.specs.Written.{list_bits, written, finished_with};
 ghost use Rattle.cutting.specs.Task.{Bounded, Plannable, plan_by};
-ghost use Rattle.planning.specs.Plan.{without, Mapped, Packable, Joinable, list_of, joined_by, answer_of, packing_of, plan_after};
+ghost use Rattle.planning.specs.Plan.{without, Mapped, Packable, Joinable, list_of, joined_by, most_number, numbers_of, answer_of, packing_of, plan_after};
 
 use crate::maps;
 use crate::spans::plan_spans;
 use cutting::spans::Spans;
 use packing::{BYTE_BITS, FIELD_BITS, Pending};
-use refusals::Refusal;
+use refusals::{Fault, NO_FIELD, Refusal};
 
 // The width of a transaction's header in a packed plan: subaddress and data count.
 const HEADER_BITS: u64 = 12;
@@ -17,31 +16,12 @@ const HEADER_BITS: u64 = 12;
 // The most zero bits that fill the last byte.
 const MOST_FILL: u64 = 7;
 
-// The field number of a refusal that belongs to no field.
-pub const NO_FIELD: u8 = 0;
-
-// What planning answers: how many bytes and transactions the packed plan has and what it costs on the bus, or a refusal with its field.
+// What planning answers: how many bytes and transactions the packed plan has and what it costs on the bus.
 #[derive(Clone, Copy)]
-pub enum Planned {
-    Done {
-        length: u32,
-        transactions: u32,
-        bus_bytes: u32,
-    },
-    Refused {
-        refusal: Refusal,
-        field: u8,
-    },
-}
-
-// The answer where the lent plan is shorter than the packed one.
-fn too_short() -> Planned
-    ensures answer { answer_of result ≡ refused_at 10 0 }
-{
-    Planned::Refused {
-        refusal: Refusal::PlanRoom,
-        field: NO_FIELD,
-    }
+pub struct Packed {
+    pub length: u32,
+    pub transactions: u32,
+    pub bus_bytes: u32,
 }
 
 // The bytes of a packed plan with that many transactions and that many data bytes in all.
@@ -52,12 +32,29 @@ pub fn packed_length(transactions: u32, data_bytes: u32) -> u64
     (bits + MOST_FILL) / BYTE_BITS
 }
 
+// The numbers of a packed plan with that many transactions and that many data bytes in all, where the lent plan has room for it.
+fn numbers(transactions: u32, data_bytes: u32, room: usize) -> Result<Packed, Fault>
+    requires { (transactions ≤ most_number) × (data_bytes ≤ most_number) }
+    ensures answer { answer_of result ≡ numbers_of transactions data_bytes room }
+{
+    let length = packed_length(transactions, data_bytes);
+    if (room as u64) < length {
+        return Err(Refusal::PlanRoom.at(NO_FIELD));
+    }
+    Ok(Packed {
+        length: length as u32,
+        transactions,
+        bus_bytes: bus::cost::bus_bytes(transactions, data_bytes) as u32,
+    })
+}
+
 // Packs the transactions that touch the registers of one map and go on over those of another, with the wanted bytes, after what is written and pending, and
 // fills the last byte.
 fn pack_spans(plan: &mut [u8], first: Pending, taken: u64, goes: u64, wanted: &[u8])
     requires { Packable taken goes wanted.now plan.old first }
     ensures memory { plan.new ≡ finished_with plan.old (written plan.old first ++ list_bits (list_of taken goes wanted.now)) }
 {
+    // A `while`, not a `for`: the bits that are left of the map tell where the next run begins and ends.
     let mut pending = first;
     let mut rest = taken;
     let mut from: usize = 0;
@@ -89,6 +86,7 @@ fn plan_maps(needed: u64, allowed: u64, held: u64, limit: usize) -> Spans
 }
 
 // Packs the plan that writes the needed registers, where it fits the lent plan: no transaction ends before a held register or has more data than the limit.
+// The three maps and the limit are no struct: each clause and theorem of a plan names the four by themselves.
 pub fn pack(
     plan: &mut [u8],
     needed: u64,
@@ -96,7 +94,7 @@ pub fn pack(
     held: u64,
     limit: usize,
     wanted: &[u8],
-) -> Planned
+) -> Result<Packed, Fault>
     requires { Plannable needed allowed held limit wanted.now }
     ensures answer { answer_of result ≡ packing_of (plan_by needed allowed held limit wanted.now) (length plan.old) }
     ensures memory { plan.new ≡ plan_after (plan_by needed allowed held limit wanted.now) plan.old }
@@ -106,22 +104,10 @@ pub fn pack(
     let starts = found.starts;
     let transactions = bits::maps::count(starts);
     let data_bytes = bits::maps::count(taken);
-    let length = packed_length(transactions, data_bytes);
-    if (plan.len() as u64) < length {
-        return too_short();
-    }
-    pack_spans(
-        plan,
-        packing::begin(transactions as u8),
-        taken,
-        taken & !starts,
-        wanted,
-    );
-    Planned::Done {
-        length: length as u32,
-        transactions: transactions,
-        bus_bytes: bus::cost::bus_bytes(transactions, data_bytes) as u32,
-    }
+    let packed = numbers(transactions, data_bytes, plan.len())?;
+    let first = packing::begin(transactions as u8);
+    pack_spans(plan, first, taken, taken & !starts, wanted);
+    Ok(packed)
 }
 
 // Packs a transaction for the registers from one on, and after it the plan that writes the needed registers, where both fit the lent plan.
@@ -132,24 +118,18 @@ pub fn pack_after(
     needed: u64,
     allowed: u64,
     wanted: &[u8],
-) -> Planned
+) -> Result<Packed, Fault>
     requires { Joinable start bytes.now needed allowed wanted.now }
     ensures answer { answer_of result ≡ packing_of (record { subaddress = start; bytes = bytes.now } ∷ joined_by needed allowed wanted.now) (length plan.old) }
     ensures memory { plan.new ≡ plan_after (record { subaddress = start; bytes = bytes.now } ∷ joined_by needed allowed wanted.now) plan.old }
 {
     let taken = maps::covered(needed, allowed);
     let starts = maps::starts(taken);
-    let all = bits::maps::count(starts) + 1;
-    let data = bits::maps::count(taken) + bytes.len() as u32;
-    let size = packed_length(all, data);
-    if (plan.len() as u64) < size {
-        return too_short();
-    }
-    let first = packing::pack_transaction(plan, packing::begin(all as u8), start, bytes);
+    let transactions = bits::maps::count(starts) + 1;
+    let data_bytes = bits::maps::count(taken) + bytes.len() as u32;
+    let packed = numbers(transactions, data_bytes, plan.len())?;
+    let begun = packing::begin(transactions as u8);
+    let first = packing::pack_transaction(plan, begun, start, bytes);
     pack_spans(plan, first, taken, taken & !starts, wanted);
-    Planned::Done {
-        length: size as u32,
-        transactions: all,
-        bus_bytes: bus::cost::bus_bytes(all, data) as u32,
-    }
+    Ok(packed)
 }

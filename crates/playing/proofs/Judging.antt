@@ -4,7 +4,6 @@ use mathlib.Core.Logic.{◌↔◌}
 use mathlib.Core.Bool.{Bool, true, false, cond, ◌&&◌}
 use mathlib.Core.List.{List, [], ◌∷◌}
 use Prim.Native.Nat.{ℕ, ◌<◌}
-use native.Mathlib.Omega.{arith}
 use lib.Dec.{T, leb}
 use Rattle.bits.proofs.FlagLaws.{first, second}
 use Rattle.refusals.specs.Refusal.{Judged, accepted, refused}
@@ -28,15 +27,15 @@ module _ (test : List Transaction → Bool) where
     where
       go : (b : Bool) → test us ≡ b → cond b (accepted us) (refused 9) ≡ accepted ts → (accepted us ≡ accepted ts) × (test ts ≡ true)
       go true p q = let same : us ≡ ts = cc in (q, subst (λ (l : List Transaction). test l ≡ true) same p)
-      go false p q = let z : ◌≡◌ {A = ℕ} 0 1 = cc in absurd (omega arith)
-  was_taken (refused n) ts e = let z : ◌≡◌ {A = ℕ} 0 1 = cc in absurd (omega arith)
+      go false p q = absurd cc
+  was_taken (refused n) ts e = absurd cc
 
 -- a plan is refused by 9 only
 pub only_nine : (c : Call) (n : ℕ) → judged c ≡ refused n → 9 ≡ n
 only_nine c n e = go (unpack_by c.next c.plan) refl e
   where
     by : (ts : List Transaction) (b : Bool) → cond b (accepted ts) (refused 9) ≡ refused n → 9 ≡ n
-    by ts true q = let z : ◌≡◌ {A = ℕ} 0 1 = cc in absurd (omega arith)
+    by ts true q = absurd cc
     by ts false q = cc
 
     go : (j : Judged (List Transaction)) → unpack_by c.next c.plan ≡ j → judged_if c.takes j ≡ refused n → 9 ≡ n

@@ -1,3 +1,4 @@
 pub mod Judging
 pub mod Faults
 pub mod Played
+pub mod Checking

@@ -5,7 +5,6 @@ use mathlib.Core.Logic.{◌≢◌}
 use mathlib.Core.Bool.{true}
 use mathlib.Core.List.{List}
 use Prim.Native.Nat.{ℕ, ◌<◌}
-use native.Mathlib.Omega.{arith}
 use lib.Dec.{eqb}
 use lib.ListN.{length}
 use Rattle.refusals.specs.Refusal.{Judged, accepted, refused}
@@ -62,4 +61,4 @@ module _ (c : Call) (known : ℕ) (h : length c.image ≡ c.kind.count) (e : add
             stored = sym (list-elsewhere c.kind c.used wrong read ts (idle_at 0 c.image)) ∙ l.stored;
             marked = sym (known-elsewhere c.kind c.used wrong read ts (idle_at 0 c.image) known) ∙ l.marked;
           }
-      go (refused m) p q = let z : ◌≡◌ {A = ℕ} 0 1 = cc in absurd (omega arith)
+      go (refused m) p q = absurd cc

@@ -11,19 +11,16 @@ pub fn read_line<R: Read>(input: &mut R, line: &mut [u8]) -> io::Result<usize>
     ensures within { IfOk result (λ n. n ≤ length line.new) }
     ensures kept { length line.new ≡ length line.old }
 {
-    let mut n = 0;
-    while n < line.len() {
+    for (n, place) in line.iter_mut().enumerate() {
         let mut one = [0u8; 1];
         let got = read_full(input, &mut one)?;
-        if (got == 0) & (n == 0) {
+        if got == 0 && n == 0 {
             return Ok(0);
         }
-        let b = one[0];
-        if (got == 0) | (b == b'\n') {
+        if got == 0 || one[0] == b'\n' {
             return Ok(n + 1);
         }
-        line[n] = b;
-        n += 1;
+        *place = one[0];
     }
-    Ok(n)
+    Ok(line.len())
 }

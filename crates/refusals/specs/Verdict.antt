@@ -1,11 +1,17 @@
 -- Document 01, "Refusals": every refusal carries its number and a field number, 0 where none applies.
-use Rattle.std.specs.Prelude.{Bool, cond, ℕ}
-use Rattle.refusals.specs.Refusal.{Judged, accepted, refused}
+use Rattle.std.specs.Prelude.{Bool, cond, ℕ, Result, Ok, Err}
+use Rattle.refusals.specs.Refusal.{Judged, accepted, refused, number_of}
+use Rattle.refusals.specs.declared.Fault.{Fault}
 
 -- a value, or a refusal by its number and its field's
 pub data Verdict (A : Type 0) : Type 0 where
   good : A → Verdict A
   refused_at : ℕ → ℕ → Verdict A
+
+-- what a function finds, as document 01 answers it
+abbrev pub verdict_as : {A : Type 0} → Result A Fault → Verdict A
+verdict_as (Ok a) = good a
+verdict_as (Err e) = refused_at (number_of e.refusal) e.field
 
 -- a verdict, and after it another one, which counts only where the first is good
 abbrev pub after : {A B : Type 0} → Verdict A → Verdict B → Verdict B

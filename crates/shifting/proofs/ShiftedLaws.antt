@@ -1,11 +1,12 @@
 -- Bytes shifted a part at a time. Assumes nothing.
 use mathlib.Core.Path.{◌≡◌, refl, sym, ap, ◌∙◌}
 use mathlib.Core.List.{List, [], ◌∷◌, ◌++◌}
-use Prim.Native.Nat.{ℕ, zero, suc, ◌+◌, ◌-◌, ◌≤◌, ◌<◌}
+use Prim.Native.Nat.{ℕ, suc, ◌+◌, ◌<◌}
 use native.Mathlib.Nat.{add-zero}
 use native.Mathlib.Omega.{arith}
 use lib.ListN.{length, take, get_or, set}
-use lib.Seq.{sets, take-suc, set-set}
+use lib.Seq.{sets, length-take-le}
+use Rattle.std.proofs.lemmas.List.{take_more}
 use Rattle.shifting.specs.Shifted.{between, shifted, last_from}
 
 -- they are as many
@@ -32,37 +33,20 @@ sets-append l i (x ∷ xs) ys =
     let on : suc i + length xs ≡ i + suc (length xs) = omega arith in
     sets-append (set l i x) (suc i) xs ys ∙ ap (λ (k : ℕ). sets (sets (set l i x) (suc i) xs) k ys) on
 
--- a part more
-pub more : (l : List ℕ) (at held before : ℕ) (xs ys : List ℕ)
-    → sets (sets l at (shifted held before xs)) (at + length xs) (shifted held (last_from before xs) ys) ≡ sets l at (shifted held before (xs ++ ys))
-more l at held before xs ys =
-    sym (ap (sets l at) (shifted-append held before xs ys) ∙ sets-append l at (shifted held before xs) (shifted held (last_from before xs) ys)
-    ∙ ap (λ (n : ℕ). sets (sets l at (shifted held before xs)) (at + n) (shifted held (last_from before xs) ys)) (shifted-length held before xs))
-
--- the last of some bytes is the one before the next
-pub last_taken : (before : ℕ) (bs : List ℕ) (i : ℕ) → 0 < i → i ≤ length bs → last_from before (take i bs) ≡ get_or bs (i - 1) 0
-last_taken before bs zero some h = elim some [ ]
-last_taken before bs (suc k) some h =
-    let e : k ≡ suc k - 1 = omega arith in
-    ap (last_from before) (take-suc bs k 0 h) ∙ last_append before (take k bs) (get_or bs k 0 ∷ []) ∙ ap (λ (n : ℕ). get_or bs n 0) e
-
--- no bytes
-pub none : (l : List ℕ) (at held before : ℕ) (bs : List ℕ) → length bs ≡ 0
-    → (before ≡ last_from before bs) × (l ≡ sets l at (shifted held before bs))
+-- a byte more, shifted after those before it
+pub more : (l : List ℕ) (at held before i : ℕ) (bs : List ℕ) → i < length bs
+    → set (sets l at (shifted held before (take i bs))) (at + i) (between held (last_from before (take i bs)) (get_or bs i 0))
+    ≡ sets l at (shifted held before (take (i + 1) bs))
 unfolding shifted
-none l at held before [] e = (refl, refl)
-none l at held before (b ∷ bs) e = absurd (omega (arith, e))
+more l at held before i bs h =
+    let xs = take i bs in
+    let x = get_or bs i 0 in
+    let n : i ≡ length (shifted held before xs) = sym (shifted-length held before xs ∙ length-take-le i bs (omega arith)) in
+    ap (λ (k : ℕ). set (sets l at (shifted held before xs)) (at + k) (between held (last_from before xs) x)) n
+    ∙ sym (ap (sets l at) (shifted-append held before xs (x ∷ [])) ∙ sets-append l at (shifted held before xs) (between held (last_from before xs) x ∷ []))
+    ∙ ap (λ (ys : List ℕ). sets l at (shifted held before ys)) (sym (take_more bs i 0 h))
 
--- the first byte
-pub one : (l : List ℕ) (at held before r : ℕ) (bs : List ℕ) → 0 < length bs → r ≡ between held before (get_or bs 0 0)
-    → set l at r ≡ sets (set l at r) at (shifted held before (take 1 bs))
-unfolding shifted
-one l at held before r [] h e = absurd (omega (arith, h))
-one l at held before r (b ∷ bs) h e = ap (set l at) e ∙ sym (set-set l at r (between held before b))
-
--- what stood in its place doesn't count
-pub again : (l : List ℕ) (at held before r : ℕ) (bs : List ℕ) → 0 < length bs
-    → sets (set l at r) at (shifted held before bs) ≡ sets l at (shifted held before bs)
-unfolding shifted
-again l at held before r [] h = absurd (omega (arith, h))
-again l at held before r (b ∷ bs) h = ap (λ (m : List ℕ). sets m (suc at) (shifted held b bs)) (set-set l at r (between held before b))
+-- which is the last of them
+pub last_more : (before i : ℕ) (bs : List ℕ) → i < length bs → get_or bs i 0 ≡ last_from before (take (i + 1) bs)
+last_more before i bs h =
+    sym (ap (last_from before) (take_more bs i 0 h) ∙ last_append before (take i bs) (get_or bs i 0 ∷ []))

@@ -22,16 +22,10 @@ pub fn shift(from: &[u8], before: u8, held: u32, to: &mut [u8], at: usize) -> u8
     ensures answer { result ≡ last_from before from.now }
     ensures memory { to.new ≡ sets to.old at (shifted held before from.now) }
 {
-    if from.len() == 0 {
-        return before;
+    let mut last = before;
+    for (i, &byte) in from.iter().enumerate() {
+        to[at + i] = between(last, byte, held);
+        last = byte;
     }
-    to[at] = between(before, from[0], held);
-    let mut i: usize = 1;
-    while i < from.len() {
-        let last = i - 1;
-        to[at + i] = between(from[last], from[i], held);
-        i += 1;
-    }
-    let last = from.len() - 1;
-    from[last]
+    last
 }

@@ -1,15 +1,18 @@
 -- Laws of a table's columns: one that ends is found and passed, the words of a table of one column, and a text from a place on. Assumes nothing.
 use mathlib.Core.Path.{◌≡◌, refl, sym, ap, ap₂, ◌∙◌}
-use mathlib.Core.Bool.{Bool, true, false, not, ◌&&◌}
+use mathlib.Core.Bool.{Bool, true, false, not, cond, ◌&&◌}
 use mathlib.Core.List.{List, [], ◌∷◌, ◌++◌}
 use Prim.Native.Nat.{ℕ, zero, suc, ◌+◌, ◌-◌, ◌≤◌, ◌<◌}
-use native.Mathlib.Numerals.{add-one}
+use native.Mathlib.Numerals.{add-one, one-add}
 use native.Mathlib.Omega.{arith}
 use Prim.Native.String.{String}
-use borrow.Author.Tests.{not-true}
+use borrow.Author.Tests.{not-true, ltb-false}
+use Rattle.std.specs.Prelude.{Some, None, unwrap_or}
+use Rattle.std.specs.List.{position_or_len}
 use Rattle.writing.specs.Ascii.{ascii}
 use lib.ListN.{length, get_or, take, drop, length-drop}
-use lib.Seq.{drop-cons, take-suc, get_or-drop, append_snoc}
+use lib.Dec.{ltb}
+use lib.Seq.{take_all, drop-cons, take-suc, get_or-drop, append_snoc}
 use Rattle.template.specs.Columns.{column_in, ends, newline, words_text}
 
 -- ---- a column that ends
@@ -104,6 +107,30 @@ grown text start at l h e =
     ∙ sym (append_snoc front (get_or text at 0) (column_in (drop (suc at) text) 0))
     ∙ ap (λ (i : ℕ). (front ++ (get_or text at 0 ∷ [])) ++ column_in (drop i text) 0) (sym (add-one at))
     ∙ ap (λ (t : List ℕ). t ++ column_in (drop (at + 1) text) 0) (sym longer)
+
+-- the first column ends at the first byte that ends one
+pub first_column : (text : List ℕ) → take (position_or_len ends text) text ≡ column_in text 0
+unfolding column_in
+first_column [] = refl
+first_column (b ∷ text) = go (ends b) refl (first_column text)
+  where
+    go : (e : Bool) → ends b ≡ e → take (position_or_len ends text) text ≡ column_in text 0
+        → take (position_or_len ends (b ∷ text)) (b ∷ text) ≡ column_in (b ∷ text) 0
+    go true e h = rw e refl
+    go false e h = rw (e, one-add) (ap (λ (l : List ℕ). b ∷ l) h)
+
+-- so it is the bytes before the place of the first byte that ends one, or all
+pub before_end : (text : List ℕ) (n : ℕ)
+    → n ≡ unwrap_or (cond (ltb (position_or_len ends text) (length text)) (Some (position_or_len ends text)) None) (length text)
+    → take n text ≡ column_in text 0
+before_end text n e = go (ltb (position_or_len ends text) (length text)) refl e
+  where
+    go : (b : Bool) → ltb (position_or_len ends text) (length text) ≡ b → n ≡ unwrap_or (cond b (Some (position_or_len ends text)) None) (length text)
+        → take n text ≡ column_in text 0
+    go true t e = ap (λ (k : ℕ). take k text) e ∙ first_column text
+    go false t e =
+        let far = ltb-false (position_or_len ends text) (length text) t in
+        take_all n text (omega (arith, e)) ∙ sym (take_all (position_or_len ends text) text far) ∙ first_column text
 
 -- a byte that ends a column passed, with some to go
 pub one_less : (text : List ℕ) (at left : ℕ) → at < length text → 0 < left → ends (get_or text at 0) ≡ true

@@ -6,7 +6,7 @@ ghost use Rattle.template.specs.Columns.{column_in, ends};
 fn is_end(b: u8) -> bool
     ensures answer { result ≡ ends b }
 {
-    if b == b',' { true } else { b == b'\n' }
+    b == b',' || b == b'\n'
 }
 
 // Where column k of a table begins, counted from its beginning on through all lines; the table's end where it has fewer.
@@ -14,18 +14,16 @@ pub fn column_start(table: &[u8], k: usize) -> usize
     ensures within { result ≤ length table.now }
     ensures answer { column_in (drop result table.now) 0 ≡ column_in table.now k }
 {
-    let mut at: usize = 0;
     let mut left = k;
-    while left > 0 {
-        if at == table.len() {
+    for (at, &b) in table.iter().enumerate() {
+        if left == 0 {
             return at;
         }
-        if is_end(table[at]) {
+        if is_end(b) {
             left -= 1;
         }
-        at += 1;
     }
-    at
+    table.len()
 }
 
 // Where the column that begins at a place ends.
@@ -34,12 +32,6 @@ pub fn column_end(table: &[u8], start: usize) -> usize
     ensures within { (start ≤ result) × (result ≤ length table.now) }
     ensures answer { take (result - start) (drop start table.now) ≡ column_in (drop start table.now) 0 }
 {
-    let mut at = start;
-    while at < table.len() {
-        if is_end(table[at]) {
-            return at;
-        }
-        at += 1;
-    }
-    at
+    let rest = &table[start..];
+    start + rest.iter().position(|b| is_end(*b)).unwrap_or(rest.len())
 }

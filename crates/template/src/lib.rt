@@ -21,7 +21,7 @@ const BYTE: u8 = b'#';
 fn is_mark(b: u8) -> bool
     ensures answer { result ≡ is_mark b }
 {
-    if b == DECIMAL { true } else { b == BYTE }
+    b == DECIMAL || b == BYTE
 }
 
 // Writes what a byte of a template stands for, by the number that is next, and answers the place after it.
@@ -30,13 +30,12 @@ fn put_part(line: &mut [u8], at: usize, b: u8, n: i32) -> usize
     ensures written { Put (width b) line.old at (stands_for b n) line.new result }
 {
     if b == DECIMAL {
-        return put_signed(line, at, n);
+        put_signed(line, at, n)
+    } else if b == BYTE {
+        put_code(line, at, n)
+    } else {
+        put(line, at, &[b])
     }
-    if b == BYTE {
-        return put_code(line, at, n);
-    }
-    let itself = [b];
-    put(line, at, &itself)
 }
 
 // Writes the text of a template and some numbers, from number `first` on, into a line that has room for it, and answers the place after it.
@@ -46,14 +45,11 @@ pub fn fill(line: &mut [u8], at: usize, template: &[u8], numbers: &[i32], first:
 {
     let mut place = at;
     let mut next = first;
-    let mut i: usize = 0;
-    while i < template.len() {
-        let b = template[i];
+    for &b in template {
         place = put_part(line, place, b, number_at(numbers, next));
         if is_mark(b) {
             next += 1;
         }
-        i += 1;
     }
     place
 }

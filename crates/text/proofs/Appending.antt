@@ -8,11 +8,12 @@ use native.Mathlib.Nat.{add_assoc, add-zero}
 use mathlib.Core.Logic.{◌⊎◌, inl, inr, ⊎_elim}
 use native.Mathlib.Numerals.{add-one}
 use native.Mathlib.Omega.{arith}
+use Rattle.std.specs.Prelude.{Option, Some, None, unwrap_or}
+use Rattle.std.specs.Option.{ForSome}
 use lib.ListN.{length, take, drop, set, length-append, length-drop, take-append-drop}
 use lib.Seq.{length-take-le, take_at, drop_at, drop-drop, set_split, append_snoc, take-append_seam}
 use borrow.Author.Tests.{le-leb, lt-leb, leb-true, leb-false}
 use Rattle.text.specs.Line.{room, place_after, appended}
-use Rattle.text.specs.declared.Place.TheVariants.{After, TooShort}
 
 -- where the text fits it is written
 pub fitting : (line : List ℕ) (at : ℕ) (text : List ℕ) → at + length text ≤ length line
@@ -26,12 +27,17 @@ unfolding appended
 unwritten line at text h = rw (lt-leb (at + length text) (length line) h)
 
 -- where the text fits the place is the one after it
-pub placed : (line : List ℕ) (at : ℕ) (text : List ℕ) → at + length text ≤ length line → place_after line at text ≡ After (at + length text)
+pub placed : (line : List ℕ) (at : ℕ) (text : List ℕ) → at + length text ≤ length line → place_after line at text ≡ Some (at + length text)
 unfolding place_after
 placed line at text h = rw (le-leb (at + length text) (length line) h)
 
+-- so the answer taken as a place is that one
+pub settled : (line : List ℕ) (at : ℕ) (text : List ℕ) {answer : Option ℕ} {place : ℕ} → at + length text ≤ length line
+    → answer ≡ place_after line at text → place ≡ unwrap_or answer at → place ≡ at + length text
+settled line at text h a p = rw (a, placed line at text h) at p
+
 -- where it does not that is the answer
-pub unplaced : (line : List ℕ) (at : ℕ) (text : List ℕ) → length line < at + length text → place_after line at text ≡ TooShort
+pub unplaced : (line : List ℕ) (at : ℕ) (text : List ℕ) → length line < at + length text → place_after line at text ≡ None
 unfolding place_after
 unplaced line at text h = rw (lt-leb (at + length text) (length line) h)
 
@@ -103,8 +109,8 @@ module _ {line : List ℕ} {at : ℕ} {text after : List ℕ} {place : ℕ} (w :
   kept = ap length w.memory ∙ length-appended line at text
 
   -- what a function that wrote the text answers
-  pub answered : (After place ≡ place_after line at text) × (after ≡ appended line at text)
-  answered = (ap After w.here ∙ sym (placed line at text w.fit), w.memory)
+  pub answered : (Some place ≡ place_after line at text) × (after ≡ appended line at text)
+  answered = (ap Some w.here ∙ sym (placed line at text w.fit), w.memory)
 
   -- a further text that fits
   pub next : (more : List ℕ) {after' : List ℕ} {place' : ℕ} → place + length more ≤ length line → after' ≡ appended after place more
@@ -128,7 +134,7 @@ pub begun : (line : List ℕ) (at : ℕ) → at ≤ length line → Written line
 begun line at h = record { fit = omega arith; memory = sym (nothing line at h); here = sym (add-zero at) }
 
 -- an answered place tells that the text fits
-pub after-fits : (line : List ℕ) (at : ℕ) (text : List ℕ) (place : ℕ) → place_after line at text ≡ After place
+pub after-fits : (line : List ℕ) (at : ℕ) (text : List ℕ) (place : ℕ) → place_after line at text ≡ Some place
     → (at + length text ≤ length line) × (place ≡ at + length text)
 after-fits line at text place e = ⊎_elim within over (room_or_not line at (length text))
   where
@@ -138,8 +144,15 @@ after-fits line at text place e = ⊎_elim within over (room_or_not line at (len
     over : length line < at + length text → (at + length text ≤ length line) × (place ≡ at + length text)
     over h = let u = unplaced line at text h in let z : ◌≡◌ {A = ℕ} 0 1 = cc in absurd (omega arith)
 
+-- an answered place is within the line
+pub place-within : (line text : List ℕ) {after : List ℕ} {place : Option ℕ} → place ≡ place_after line 0 text → after ≡ appended line 0 text
+    → ForSome place (λ n. n ≤ length after)
+place-within line text e m n p =
+    let f = after-fits line 0 text n (sym e ∙ p) in
+    omega (arith, f.0, f.1, ap length m ∙ length-appended line 0 text)
+
 -- that the line is too short tells that the text does not fit
-pub short-over : (line : List ℕ) (at : ℕ) (text : List ℕ) → place_after line at text ≡ TooShort → length line < at + length text
+pub short-over : (line : List ℕ) (at : ℕ) (text : List ℕ) → place_after line at text ≡ None → length line < at + length text
 short-over line at text e = ⊎_elim within (λ h. h) (room_or_not line at (length text))
   where
     within : at + length text ≤ length line → length line < at + length text
@@ -150,5 +163,5 @@ pub front : (line text : List ℕ) → length text ≤ length line → take (len
 front line text h = ap (take (length text)) (fitting line 0 text (omega arith)) ∙ take-append_seam text (drop (0 + length text) line)
 
 -- what a function that has no room for the text answers
-pub refused : (line : List ℕ) (at : ℕ) (text : List ℕ) → length line < at + length text → (TooShort ≡ place_after line at text) × (line ≡ appended line at text)
+pub refused : (line : List ℕ) (at : ℕ) (text : List ℕ) → length line < at + length text → (None ≡ place_after line at text) × (line ≡ appended line at text)
 refused line at text h = (sym (unplaced line at text h), sym (unwritten line at text h))

@@ -8,24 +8,11 @@ ghost use Rattle.text.specs.Line.{room, place_after, appended};
 
 pub use number::{Digits, decimal, decimal_digits, hex_byte, signed};
 
-// The place after an appended text, or that the line has no room for it.
-#[derive(Clone, Copy)]
-pub enum Place {
-    After(usize),
-    TooShort,
-}
-
 // Whether the line has room for n bytes at a place.
 fn fits(line: &[u8], at: usize, n: usize) -> bool
     ensures answer { result ≡ room line.now at n }
 {
-    if line.len() < at {
-        return false;
-    }
-    if n <= line.len() - at {
-        return true;
-    }
-    false
+    at <= line.len() && n <= line.len() - at
 }
 
 // Writes a text into a line that has room for it, and answers the place after it.
@@ -39,13 +26,13 @@ pub fn put(line: &mut [u8], at: usize, text: &[u8]) -> usize
     end
 }
 
-// Appends a byte string.
-pub fn append(line: &mut [u8], at: usize, text: &[u8]) -> Place
+// Appends a byte string, and answers the place after it; none where the line has no room for it.
+pub fn append(line: &mut [u8], at: usize, text: &[u8]) -> Option<usize>
     ensures answer { result ≡ place_after line.old at text.now }
     ensures memory { line.new ≡ appended line.old at text.now }
 {
     if fits(line, at, text.len()) {
-        return Place::After(put(line, at, text));
+        return Some(put(line, at, text));
     }
-    Place::TooShort
+    None
 }

@@ -6,7 +6,7 @@ ghost use Rattle.text.specs.Text.{decimal as Text·decimal};
 ghost use Rattle.text.specs.Text.{signed as Text·signed};
 ghost use Rattle.text.specs.DecimalDigits.{decimal_digits};
 
-use crate::{Place, append};
+use crate::append;
 
 // The bytes that hold any 64-bit number and a sign.
 const WIDTH: usize = 21;
@@ -14,7 +14,8 @@ const WIDTH: usize = 21;
 // The place of a number's last digit.
 const LAST: usize = WIDTH - 1;
 
-// A number's digits: the bytes from `first` on. Those before are zero.
+// A number's digits: the bytes from `first` on. Those before are zero. The place stands beside the bytes because DecimalDigits, which says what these are for
+// every number, is stated over both.
 #[derive(Clone, Copy)]
 pub struct Digits {
     pub bytes: [u8; WIDTH],
@@ -29,6 +30,7 @@ pub fn decimal_digits(n: u64) -> Digits
     let mut first: usize = LAST;
     bytes[LAST] = b'0' + (n % 10) as u8;
     let mut rest = n / 10;
+    // The digits come from the last on, and how many there are is known at the end: no iterator is plainer.
     while rest > 0 {
         first -= 1;
         bytes[first] = b'0' + (rest % 10) as u8;
@@ -38,23 +40,21 @@ pub fn decimal_digits(n: u64) -> Digits
 }
 
 // Appends a number in decimal.
-pub fn decimal(line: &mut [u8], at: usize, n: u64) -> Place
+pub fn decimal(line: &mut [u8], at: usize, n: u64) -> Option<usize>
     ensures answer { result ≡ place_after line.old at (Text·decimal n) }
     ensures memory { line.new ≡ appended line.old at (Text·decimal n) }
 {
     let d = decimal_digits(n);
-    let bytes = d.bytes;
-    let first = d.first;
-    append(line, at, &bytes[first..])
+    append(line, at, &d.bytes[d.first..])
 }
 
 // Appends a signed number in decimal.
-pub fn signed(line: &mut [u8], at: usize, n: i32) -> Place
+pub fn signed(line: &mut [u8], at: usize, n: i32) -> Option<usize>
     ensures answer { result ≡ place_after line.old at (Text·signed n) }
     ensures memory { line.new ≡ appended line.old at (Text·signed n) }
 {
     if n < 0 {
-        let d = decimal_digits((-(n as i64)) as u64);
+        let d = decimal_digits(u64::from(n.unsigned_abs()));
         let mut bytes = d.bytes;
         let sign = d.first - 1;
         bytes[sign] = b'-';
@@ -72,10 +72,10 @@ fn hex_digit(d: u8) -> u8
 }
 
 // Appends a byte in two hexadecimal digits.
-pub fn hex_byte(line: &mut [u8], at: usize, b: u8) -> Place
+#[tactic(auto, unfolding(crate::specs::Text::hex_byte))]
+pub fn hex_byte(line: &mut [u8], at: usize, b: u8) -> Option<usize>
     ensures answer { result ≡ place_after line.old at (hex_byte b) }
     ensures memory { line.new ≡ appended line.old at (hex_byte b) }
 {
-    let text = [hex_digit(b / 16), hex_digit(b % 16)];
-    append(line, at, &text)
+    append(line, at, &[hex_digit(b / 16), hex_digit(b % 16)])
 }

@@ -91,7 +91,7 @@ module _ (next : ℕ → ℕ) where
             first (well_formed_by next us) (same_bytes plan (packed us)) h,
             same_bytes_lem plan (packed us) (second (well_formed_by next us) (same_bytes plan (packed us)) h),
           )
-      go false d f = let z : ◌≡◌ {A = ℕ} 0 1 = cc in absurd (omega arith)
+      go false d f = absurd cc
 
   -- the two as one: a plan is accepted with ts exactly when ts is well-formed and the plan is its packing
   pub exact : (plan : List ℕ) (ts : List Transaction) → (unpack_by next plan ≡ accepted ts) ↔ Packs next plan ts
@@ -103,7 +103,7 @@ module _ (next : ℕ → ℕ) where
   refused_nine plan n e = go (well_formed_by next (candidate plan) && same_bytes plan (packed (candidate plan))) e
     where
       go : (b : Bool) → cond b (accepted (candidate plan)) (refused 9) ≡ refused n → 9 ≡ n
-      go true f = let z : ◌≡◌ {A = ℕ} 0 1 = cc in absurd (omega arith)
+      go true f = absurd cc
       go false f = cc
 
   -- so unpacking answers what it should
@@ -116,7 +116,7 @@ module _ (next : ℕ → ℕ) where
           (packs_none (λ ts h. never ts ((exact plan ts).1 h) e))
         where
           never : (ts : List Transaction) → unpack_by next plan ≡ accepted ts → unpack_by next plan ≡ refused n → ⊥
-          never ts p q = let z : ◌≡◌ {A = ℕ} 0 1 = cc in omega arith
+          never ts p q = cc
 
   -- and nothing else
   pub unique : (plan : List ℕ) (j : Judged (List Transaction)) → UnpacksBy next plan j → unpack_by next plan ≡ j

@@ -10,15 +10,17 @@ use Rattle.bits.specs.Strings.{byte_bits, first_bytes, bytes_of}
 use Rattle.bits.proofs.ByteLaws.{byte_bits-length}
 use Rattle.bits.proofs.FlagLaws.{holds, same_test}
 use Rattle.bus.specs.Transactions.{Transaction}
-use Rattle.refusals.specs.Refusal.{Judged, accepted, refused}
+use Rattle.std.specs.Prelude.{Option, Some, None, Ok, Err}
+use Rattle.refusals.specs.declared.Refusal.{Refusal}
+use Rattle.refusals.specs.declared.Refusal.TheVariants.{PlanBytes}
+use Rattle.refusals.specs.Refusal.{number_of, Judged, accepted, refused}
 use Rattle.unpacking.specs.declared.places.Place.{Place}
 use Rattle.unpacking.specs.declared.steps.Order.{Order}
 use Rattle.unpacking.specs.declared.steps.Cursor.{Cursor}
-use Rattle.unpacking.specs.declared.steps.Step.{Step}
-use Rattle.unpacking.specs.declared.steps.Step.TheVariants.{Transaction as Found, End, Fault}
+use Rattle.unpacking.specs.declared.steps.Transaction.{Transaction as Found}
 use Rattle.unpacking.specs.Unpacking.{number, named, candidate, unpack_by}
 use Rattle.unpacking.specs.Places.{taken, place_after, left_at, Placed, inside}
-use Rattle.unpacking.specs.Steps.{start_after, beginning, filling, subaddress_in, count_in, past_first, in_front, first_at, step_at, next_of, transaction_at}
+use Rattle.unpacking.specs.Steps.{start_after, beginning, filling, subaddress_in, count_in, past_first, in_front, Step, first_at, step_at, next_of, transaction_at}
 use Rattle.unpacking.proofs.FrontLaws.{number_lt, bytes-taken}
 use Rattle.unpacking.proofs.Reader.{Front, front_facts, valid}
 use Rattle.unpacking.proofs.Exact.{valid_plan, read_plan}
@@ -53,9 +55,9 @@ pub record Went (plan : List ℕ) (c : Cursor) (subaddress count : ℕ) (first :
 
 -- what a step says of the rest
 abbrev pub Stepped : List ℕ → Cursor → Step → Type 0
-Stepped plan c (Found subaddress count first after) = Went plan c subaddress count first after
-Stepped plan c End = rest_of plan c ≡ accepted []
-Stepped plan c Fault = rest_of plan c ≡ refused 9
+Stepped plan c (Ok (Some t)) = Went plan c t.subaddress t.count t.«data» t.after
+Stepped plan c (Ok None) = rest_of plan c ≡ accepted []
+Stepped plan c (Err r) = rest_of plan c ≡ refused (number_of r)
 
 -- ---- the steps
 
@@ -142,7 +144,7 @@ module _ (plan : List ℕ) (c : Cursor) where
           ∙ ap₂ (λ (b : Bool) (l : List Bool). prefixed t (rest_by b (v l) (named n l)))
           (sym (placed-inside plan past (further_placed plan first k first-placed room))) (sym past_left)
 
-      found : Stepped plan c (first_at p n c.order bs)
+      found : Stepped plan c (Ok (Some (first_at p n c.order bs)))
       found =
           record {
             rest = found-rest;
@@ -160,12 +162,12 @@ module _ (plan : List ℕ) (c : Cursor) where
   unfolding next_of
   stepped = by_place (inside plan p) refl
     where
-      by_filling : inside plan p ≡ true → c.left ≡ 0 → (b : Bool) → filling bs ≡ b → Stepped plan c (cond b End Fault)
+      by_filling : inside plan p ≡ true → c.left ≡ 0 → (b : Bool) → filling bs ≡ b → Stepped plan c (cond b (Ok None) (Err PlanBytes))
       by_filling i l true f = filled i true l f
       by_filling i l false f = filled i false l f
 
       by_front : inside plan p ≡ true → (n : ℕ) → c.left ≡ suc n → (b : Bool) → in_front c.free bs ≡ b
-          → Stepped plan c (cond b (first_at p n c.order bs) Fault)
+          → Stepped plan c (cond b (Ok (Some (first_at p n c.order bs))) (Err PlanBytes))
       by_front i n l true f = found i n l f
       by_front i n l false f = faulty i n l f
 
@@ -173,9 +175,24 @@ module _ (plan : List ℕ) (c : Cursor) where
       by_left i zero l = by_filling i l (filling bs) refl
       by_left i (suc n) l = by_front i n l (in_front c.free bs) refl
 
-      by_place : (b : Bool) → inside plan p ≡ b → Stepped plan c (cond b (step_at p c.left c.free c.order bs) Fault)
+      by_place : (b : Bool) → inside plan p ≡ b → Stepped plan c (cond b (step_at p c.left c.free c.order bs) (Err PlanBytes))
       by_place true i = by_left i c.left refl
       by_place false i = outside i
+
+-- ---- a walk, of which each turn takes a step: what that says of the turn
+
+-- a transaction was found
+pub found_step : (plan : List ℕ) (c : Cursor) {o : Option Found} {t : Found} → Ok o ≡ next_of plan c → o ≡ Some t
+    → Went plan c t.subaddress t.count t.«data» t.after
+found_step plan c e f = subst⁻¹ (Stepped plan c) (sym (ap Ok f) ∙ e) (stepped plan c)
+
+-- the end was reached
+pub last_step : (plan : List ℕ) (c : Cursor) {o : Option Found} → Ok o ≡ next_of plan c → o ≡ None → rest_of plan c ≡ accepted []
+last_step plan c e f = subst⁻¹ (Stepped plan c) (sym (ap Ok f) ∙ e) (stepped plan c)
+
+-- the bytes break the packing
+pub faulty_step : (plan : List ℕ) (c : Cursor) {r : Refusal} → Err r ≡ next_of plan c → rest_of plan c ≡ refused (number_of r)
+faulty_step plan c e = subst⁻¹ (Stepped plan c) e (stepped plan c)
 
 -- ---- the beginning
 

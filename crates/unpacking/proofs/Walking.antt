@@ -65,7 +65,7 @@ module _ {plan : List ℕ} {order : Order} {done : List Transaction} {c : Cursor
   walk_ends e = w.whole ∙ ap (joined done) e ∙ ap accepted (append-nil done)
 
   -- a fault was found
-  pub walk_fails : rest_of plan c ≡ refused 9 → unpack_by (start_after order) plan ≡ refused 9
+  pub walk_fails : {n : ℕ} → rest_of plan c ≡ refused n → unpack_by (start_after order) plan ≡ refused n
   walk_fails e = w.whole ∙ ap (joined done) e
 
   -- what was passed so far is the beginning of what is accepted, unless the plan is refused
@@ -76,3 +76,20 @@ module _ {plan : List ℕ} {order : Order} {done : List Transaction} {c : Cursor
           → (unpack_by (start_after order) plan ≡ refused 9) ⊎ ((us : List Transaction) × (unpack_by (start_after order) plan ≡ accepted (done ++ us)))
       go (accepted us) e = inr (us, w.whole ∙ ap (joined done) e)
       go (refused n) e = let f = w.whole ∙ ap (joined done) e in inl (f ∙ ap refused (sym (refused_nine (start_after order) plan n f)))
+
+-- some transactions were passed, so many
+pub record Passed (plan : List ℕ) (order : Order) (c : Cursor) (transactions : ℕ) : Type 0 where
+  pub done : List Transaction
+  pub walked : Walked plan order done c
+  pub counts : transactions ≡ length done
+
+-- none was
+unfoldable pub passed_begins : (plan : List ℕ) (order : Order) (c : Cursor) → c ≡ beginning plan order → ((i : ℕ) → get_or plan i 0 < 2 ^ 8) → Passed plan order c 0
+passed_begins plan order c e bytes = record { done = []; walked = rw e (walk_begins plan order bytes); counts = refl }
+
+-- one more was
+unfoldable pub passed_goes : {plan : List ℕ} {order : Order} {c : Cursor} {n subaddress count : ℕ} {first : Place} {after : Cursor} → Passed plan order c n
+    → Went plan c subaddress count first after → Passed plan order after (n + 1)
+passed_goes {plan} {subaddress = subaddress} {count = count} {first = first} p g =
+    let t = transaction_at plan subaddress count first in
+    record { done = p.done ++ (t ∷ []); walked = walk_goes p.walked g; counts = ap (λ (n : ℕ). n + 1) p.counts ∙ sym (one_more p.done t) }

@@ -1,9 +1,10 @@
-// One step through a packed plan: the next transaction with the place of its data, the end, or a fault. Every walk takes it.
+// One step through a packed plan: the next transaction with the place of its data, or none at the end, or a refusal. Every walk takes it.
 ghost use Rattle.std.specs.Prelude.{◌≡◌, ◌+◌, ◌^◌, ◌<◌};
 ghost use Rattle.unpacking.specs.Places.{left_at, Placed};
 ghost use Rattle.unpacking.specs.Steps.{start_after, beginning, filling as filling_of, found_at, next_of};
 
 use crate::places::{FIRST_HELD, HEADER_BYTES, ONE_TRANSACTION, Place, header_at, within};
+use refusals::Refusal;
 
 // Where a transaction may start: at the end of the one before it or past it, or anywhere.
 #[derive(Clone, Copy)]
@@ -21,20 +22,13 @@ pub struct Cursor {
     pub order: Order,
 }
 
-// What a step finds.
+// A transaction that a step finds: its subaddress, its data count, the place of its data, and the cursor past it.
 #[derive(Clone, Copy)]
-pub enum Step {
-    // A transaction: its subaddress, its data count, the place of its data, and the cursor past it.
-    Transaction {
-        subaddress: u8,
-        count: u8,
-        data: Place,
-        after: Cursor,
-    },
-    // The end of a well-formed plan.
-    End,
-    // Bytes that break the packing.
-    Fault,
+pub struct Transaction {
+    pub subaddress: u8,
+    pub count: u8,
+    pub data: Place,
+    pub after: Cursor,
 }
 
 // The first register that a transaction may start at, by the end of the one before it.
@@ -61,7 +55,7 @@ fn filling(plan: &[u8], place: Place) -> bool
 }
 
 // A transaction with its data at a place, and the cursor past it, with so many transactions to come.
-fn found(subaddress: u8, count: u8, place: Place, left: u8, order: Order) -> Step
+fn found(subaddress: u8, count: u8, place: Place, left: u8, order: Order) -> Transaction
     requires { (subaddress + count < 2 ^ 8) × (place.at + count < 2 ^ 64) }
     ensures answer { result ≡ found_at subaddress count place left order }
 {
@@ -69,7 +63,7 @@ fn found(subaddress: u8, count: u8, place: Place, left: u8, order: Order) -> Ste
         at: place.at + count as usize,
         held: place.held,
     };
-    Step::Transaction {
+    Transaction {
         subaddress,
         count,
         data: place,
@@ -106,38 +100,36 @@ pub fn begin(plan: &[u8], order: Order) -> Cursor
     }
 }
 
-// The step at a cursor.
-pub fn next(plan: &[u8], cursor: Cursor) -> Step
+// The step at a cursor: the next transaction, or none at the end of a well-formed plan; bytes that break the packing are refused.
+pub fn next(plan: &[u8], cursor: Cursor) -> Result<Option<Transaction>, Refusal>
     ensures answer { result ≡ next_of plan.now cursor }
 {
     let place = cursor.place;
-    let order = cursor.order;
-    let left = cursor.left;
     if !within(plan, place) {
-        return Step::Fault;
+        return Err(Refusal::PlanBytes);
     }
-    if left == 0 {
+    if cursor.left == 0 {
         return if filling(plan, place) {
-            Step::End
+            Ok(None)
         } else {
-            Step::Fault
+            Err(Refusal::PlanBytes)
         };
     }
     if plan.len() - place.at < HEADER_BYTES {
-        return Step::Fault;
+        return Err(Refusal::PlanBytes);
     }
     let header = header_at(plan, place);
     let subaddress = header.subaddress;
     let count = header.count;
     let data = header.next;
     if count == 0 {
-        return Step::Fault;
+        return Err(Refusal::PlanBytes);
     }
     if subaddress < cursor.free {
-        return Step::Fault;
+        return Err(Refusal::PlanBytes);
     }
     if plan.len() - data.at < count as usize {
-        return Step::Fault;
+        return Err(Refusal::PlanBytes);
     }
-    found(subaddress, count, data, left - 1, order)
+    Ok(Some(found(subaddress, count, data, cursor.left - 1, cursor.order)))
 }

@@ -15,14 +15,15 @@ ghost use Rattle.why_lines.specs.RegisterLine.{register_line, register_width};
 
 use adv7194_bus::NO_LIMIT;
 use adv7194_bus::board::ALL_KNOWN;
-use adv7194_reasons::{Explained, why};
+use adv7194_reasons::{Reason, why};
 use adv7194_settings::house;
+use refusals::Fault;
 use text::put;
 use words::put_reason;
 use writing::put_hex;
 
 // Why the plan of the house setting over an image has a register.
-fn house_reason(image: &[u8], register: u8) -> Explained
+fn house_reason(image: &[u8], register: u8) -> Result<Reason, Fault>
     requires { length image.now ≡ register_count }
     ensures answer { why_as result ≡ good (reason_in (board_in image.now) house no_limit register) }
 {

@@ -17,8 +17,9 @@ ghost use Rattle.why_listing.specs.Parts.{Ready, text_width};
 use answer_listing::first_line;
 use house_listing::{MOST_BYTES, plan_house};
 use lines::plan_lines;
-use planning::plan::Planned;
-use text::{Place, put};
+use planning::plan::Packed;
+use refusals::Fault;
+use text::put;
 
 mod lines;
 
@@ -26,7 +27,7 @@ mod lines;
 const TEXT_ROOM: usize = 2048;
 
 // Writes the first line of what planning answered at the front of a line that has room for any, and answers the place after it.
-fn put_first(line: &mut [u8], planned: Planned) -> usize
+fn put_first(line: &mut [u8], planned: Result<Packed, Fault>) -> usize
     requires { line_width ≤ length line.old }
     ensures written { Put line_width line.old 0 (first_line (answer_of planned)) line.new result }
 {
@@ -37,26 +38,21 @@ fn put_first(line: &mut [u8], planned: Planned) -> usize
 }
 
 // Writes the text of what planning answered, with the plan that it left, at the front of a line that has room for any, and answers the place after it.
-fn put_text(line: &mut [u8], image: &[u8], planned: Planned, plan: &[u8]) -> usize
+fn put_text(line: &mut [u8], image: &[u8], planned: Result<Packed, Fault>, plan: &[u8]) -> usize
     requires { (text_width ≤ length line.old) × Ready image.now plan.now (answer_of planned) }
     ensures written { Put text_width line.old 0
         (answer_text (transaction_text (reason_in (board_in image.now) house no_limit)) (list_in plan.now (answer_of planned)) (answer_of planned)) line.new result }
 {
     let first = put_first(line, planned);
-    let Planned::Done {
-        length,
-        transactions: _,
-        bus_bytes: _,
-    } = planned
-    else {
+    let Ok(packed) = planned else {
         return first;
     };
-    let end = length as usize;
-    plan_lines(line, first, image, &plan[0..end])
+    let end = packed.length as usize;
+    plan_lines(line, first, image, &plan[..end])
 }
 
 // Writes the text of the house setting planned over an image, with the reason of each register sent, at the front of the memory lent.
-pub fn why_listing(out: &mut [u8], image: &[u8]) -> Place
+pub fn why_listing(out: &mut [u8], image: &[u8]) -> Option<usize>
     ensures answer { result ≡ place_after out.old 0 (house_why_text image.now) }
     ensures memory { out.new ≡ appended out.old 0 (house_why_text image.now) }
     ensures short { length (house_why_text image.now) ≤ text_width }

@@ -15,7 +15,7 @@ ghost use Rattle.why_listing.specs.Parts.{transaction_width, byte_width};
 
 use plan_listing::put_line;
 use unpacking::places::copy_data;
-use unpacking::steps::{Order, Step, begin, next};
+use unpacking::steps::{Order, begin, next};
 use why_lines::register_line;
 
 // The most data bytes of a transaction.
@@ -27,10 +27,8 @@ fn register_lines(line: &mut [u8], at: usize, image: &[u8], first: u8, count: u8
     ensures written { Put (register_width * count) line.old at (register_lines (reason_in (board_in image.now) house no_limit) count first) line.new result }
 {
     let mut place = at;
-    let mut i: u8 = 0;
-    while i < count {
+    for i in 0..count {
         place = register_line(line, place, image, first + i);
-        i += 1;
     }
     place
 }
@@ -60,20 +58,11 @@ pub(crate) fn plan_lines(line: &mut [u8], at: usize, image: &[u8], plan: &[u8]) 
 {
     let mut cursor = begin(plan, Order::Ascending);
     let mut place = at;
-    loop {
-        let Step::Transaction {
-            subaddress,
-            count,
-            data,
-            after,
-        } = next(plan, cursor)
-        else {
-            return place;
-        };
+    while let Ok(Some(t)) = next(plan, cursor) {
         let mut bytes = [0u8; MOST_DATA];
-        copy_data(plan, data, &mut bytes, 0, count);
-        let size = count as usize;
-        place = transaction_lines(line, place, image, subaddress, &bytes[0..size]);
-        cursor = after;
+        copy_data(plan, t.data, &mut bytes, 0, t.count);
+        place = transaction_lines(line, place, image, t.subaddress, &bytes[..t.count as usize]);
+        cursor = t.after;
     }
+    place
 }

@@ -6,12 +6,13 @@ use native.Mathlib.Omega.{arith}
 use lib.IntN.{ℤ}
 use lib.ListN.{length, take, length-append}
 use lib.Signed.{mag}
+use Rattle.std.specs.Prelude.{Some, None, unwrap_or}
 use mir.Syntax.{w32}
 use mir.ValLaws.{to_z-of_z}
 use Rattle.rounding.proofs.Range.{back}
 use Rattle.text.specs.Line.{place_after, appended}
-use Rattle.text.specs.declared.Place.TheVariants.{After, TooShort}
 use Rattle.text.proofs.Appending.{front, in_a_row, length-appended, nothing, after-fits, short-over}
+use Rattle.text.proofs.Appending.{placed as placed_at}
 use Rattle.writing.specs.Put.{Put}
 
 module _ {line : List ℕ} {at : ℕ} {text after : List ℕ} {place : ℕ} where
@@ -20,8 +21,15 @@ module _ {line : List ℕ} {at : ℕ} {text after : List ℕ} {place : ℕ} wher
   put a m = record { answer = a; memory = m; most = omega arith }
 
   -- a text whose append answered a place
-  pub placed : {n : ℕ} → length text ≤ n → place_after line at text ≡ After place → after ≡ appended line at text → Put n line at text after place
+  pub placed : {n : ℕ} → length text ≤ n → place_after line at text ≡ Some place → after ≡ appended line at text → Put n line at text after place
   placed h e m = let a = (after-fits line at text place e).1 in record { answer = a; memory = m; most = omega arith }
+
+  -- a text whose append has room, so that the place after it is answered
+  pub given : {n : ℕ} → length text ≤ n → at + n ≤ length line → place ≡ unwrap_or (place_after line at text) at → after ≡ appended line at text
+      → Put n line at text after place
+  given h r e m =
+      let a : place ≡ at + length text = rw (placed_at line at text (omega arith)) at e in
+      record { answer = a; memory = m; most = omega arith }
 
   -- a text has no more bytes than a wider one may have
   pub wider : {n : ℕ} (k : ℕ) → n ≤ k → Put n line at text after place → Put k line at text after place
@@ -65,7 +73,7 @@ pub unwritten : (line : List ℕ) (at : ℕ) {n : ℕ} → at ≤ length line �
 unwritten line at h = record { answer = omega arith; memory = sym (nothing line at h); most = omega arith }
 
 -- a text that has room is not answered to have none
-pub roomy : (line : List ℕ) (at : ℕ) (text : List ℕ) {n : ℕ} → length text ≤ n → at + n ≤ length line → place_after line at text ≡ TooShort → ⊥
+pub roomy : (line : List ℕ) (at : ℕ) (text : List ℕ) {n : ℕ} → length text ≤ n → at + n ≤ length line → place_after line at text ≡ None → ⊥
 roomy line at text h r e = omega (arith, short-over line at text e)
 
 -- a number as the machine passes it

@@ -6,7 +6,7 @@ ghost use Rattle.text.specs.Text.{space, signed, decimal, hex_byte};
 ghost use Rattle.writing.specs.Put.{Put, number_width, count_width};
 ghost use Rattle.writing.specs.Codes.{code};
 
-use text::{Place, put};
+use text::put;
 
 // The largest byte.
 const LARGEST_BYTE: i32 = 255;
@@ -15,22 +15,15 @@ const LARGEST_BYTE: i32 = 255;
 pub fn number_at(numbers: &[i32], k: usize) -> i32
     ensures answer { result ≡ get_or numbers.now k (pos 0) }
 {
-    if k < numbers.len() {
-        return numbers[k];
-    }
-    0
+    numbers.get(k).copied().unwrap_or(0)
 }
 
-// Writes a number in signed decimal.
+// Writes a number in signed decimal. Each of these three is one call of text, with the most bytes of its kind: one function over a closure would be longer.
 pub fn put_signed(line: &mut [u8], at: usize, n: i32) -> usize
     requires { at + number_width ≤ length line.old }
     ensures written { Put number_width line.old at (signed n) line.new result }
 {
-    let place = text::signed(line, at, n);
-    let Place::After(next) = place else {
-        return at;
-    };
-    next
+    text::signed(line, at, n).unwrap_or(at)
 }
 
 // Writes a count in decimal.
@@ -38,11 +31,7 @@ pub fn put_decimal(line: &mut [u8], at: usize, n: u64) -> usize
     requires { at + count_width ≤ length line.old }
     ensures written { Put count_width line.old at (decimal n) line.new result }
 {
-    let place = text::decimal(line, at, n);
-    let Place::After(next) = place else {
-        return at;
-    };
-    next
+    text::decimal(line, at, n).unwrap_or(at)
 }
 
 // Writes a byte in two hexadecimal digits.
@@ -50,11 +39,7 @@ pub fn put_hex(line: &mut [u8], at: usize, b: u8) -> usize
     requires { at + 2 ≤ length line.old }
     ensures written { Put 2 line.old at (hex_byte b) line.new result }
 {
-    let place = text::hex_byte(line, at, b);
-    let Place::After(next) = place else {
-        return at;
-    };
-    next
+    text::hex_byte(line, at, b).unwrap_or(at)
 }
 
 // Writes a word and a number.
@@ -71,10 +56,7 @@ pub fn put_code(line: &mut [u8], at: usize, n: i32) -> usize
     requires { at + number_width ≤ length line.old }
     ensures written { Put number_width line.old at (code n) line.new result }
 {
-    if n < 0 {
-        return put_signed(line, at, n);
-    }
-    if LARGEST_BYTE < n {
+    if n < 0 || LARGEST_BYTE < n {
         return put_signed(line, at, n);
     }
     put_hex(line, at, n as u8)

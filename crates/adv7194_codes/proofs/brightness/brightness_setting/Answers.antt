@@ -1,24 +1,24 @@
 -- `brightness::brightness_setting` meets its contract: one test for each answer, computed at its codes. Assumes nothing.
 use mathlib.Core.Path.{◌≡◌, refl, ap, ◌∙◌, subst}
-use mathlib.Core.Bool.{Bool, false, not, cond, ◌||◌, ◌&&◌}
-use mathlib.Core.Logic.{⊎_elim}
+use mathlib.Core.Bool.{Bool, false, not, ◌||◌, ◌&&◌}
 use Prim.Native.Nat.{ℕ, ◌+◌, ◌-◌, ◌*◌, ◌/◌}
 use native.Mathlib.Omega.{arith}
-use lib.Dec.{T, eqb, leb, leb→le, T_not}
-use Rattle.refusals.specs.Refusal.{refused}
-use lib.IntN.{ℤ, pos, ◌-ℤ◌}
+use lib.Dec.{T, leb, T_not}
+use lib.IntN.{ℤ, pos, ◌-ℤ◌, nat_abs}
 use mir.Syntax.{w32}
 use mir.Val.{to_z}
-use Rattle.std.proofs.lemmas.Bool.{le-leb, lt-leb}
+use mir.ValLaws.{to_z-of_z}
+use Rattle.refusals.specs.Refusal.{accepted, refused}
 use Rattle.rounding.specs.First.{first_from}
-use Rattle.rounding.specs.Nearest.{nearest}
-use Rattle.rounding.proofs.Range.{below, below_at, from_at, back, sfitsb, fits→, imp, imp→, imp→not}
+use Rattle.rounding.specs.Nearest.{nearest, LeastMultiple}
+use Rattle.rounding.proofs.Range.{from_at, back}
+use Rattle.rounding.proofs.Rounding.{nearest-is, nearest-only}
 use Rattle.field_table.specs.Coding.{outside, code_of, code_by, decode}
-use Rattle.adv7194_table.specs.Fields.{brightness}
 use Rattle.field_table.proofs.Judging.{in_range, is_setting, is_setting→}
 use Rattle.field_table.proofs.Decoding.{no_code, decode-outside}
+use Rattle.adv7194_table.specs.Fields.{brightness}
+use Rattle.adv7194_codes.specs.Signs.{with_sign}
 use Rattle.adv7194_codes.proofs.brightness.brightness_setting.Goals as goal
-use Rattle.adv7194_codes.proofs.brightness.brightness_setting.Goals.{Joined-else-code-gt-HIGHEST_POSITIVE, Joined-negative, After-least_tenths-tenths, then-negative, else-negative}
 
 -- every code of a setting is up to 1E or from 71 to 7F
 abbrev used : ℕ → Bool
@@ -38,75 +38,47 @@ returns-then-code-gt-HIGHEST_CODE c = record {
   answer = unused c.args.code (from_at (λ k. not (used k)) 128 128 tt c.args.code (omega arith) (omega arith));
 }
 
-pub returns-then-code-lt-LOWEST_NEGATIVE : goal.returns-then-code-lt-LOWEST_NEGATIVE
-returns-then-code-lt-LOWEST_NEGATIVE c = record {
+pub returns-then-code-gt-HIGHEST_POSITIVE : goal.returns-then-code-gt-HIGHEST_POSITIVE
+returns-then-code-gt-HIGHEST_POSITIVE c = record {
   answer = unused c.args.code (from_at (λ k. not (used k)) 31 82 tt c.args.code (omega arith) (omega arith));
 }
 
--- what is computed at each code that a setting has
-at : (P : ℕ → Bool) → T (below P 31) → T (below (λ k. P (113 + k)) 15) → (c : Joined-else-code-gt-HIGHEST_POSITIVE) → T (P c.args.code)
-at P low high c =
-    let code = c.args.code in
-    ⊎_elim
-    (λ w. from_at P 113 15 high code w.1 (omega arith))
-    (λ w. below_at P 31 low code (omega arith))
-    c.else-code-gt-HIGHEST_POSITIVE.either
-
--- the code's values
-abbrev negative : ℕ → Bool
-negative k = leb 113 k
-
-abbrev level : ℕ → ℕ
-level k = cond (negative k) (128 - k) k
-
-abbrev least_tenths : ℕ → ℕ
-least_tenths l = cond (eqb l 0) 0 ((l * 20000000 - 10000000 + 4031261) / 4031262)
-
+-- the least magnitude of a level, in one division
 abbrev least : ℕ → ℕ
-least k = least_tenths (level k)
+least q = (20000000 * q - 10000000 + 4031261) / 4031262
 
-abbrev negated : ℕ → ℤ
-negated k = pos 0 -ℤ to_z w32 (least k)
+least_is : (q r : ℕ) → LeastMultiple 2015631 10000000 q r → r ≡ least q
+least_is q r l =
+    let rounds = nearest-only (2015631 * least q) 10000000 q (omega arith) (record { under = omega arith; over = omega arith }) in
+    omega (arith, l.least (least q) rounds, l.rounds, (nearest-is (2015631 * r) 10000000 (omega arith)).over)
 
--- the level that either arm chose
-levelled : (c : Joined-negative) → c.if-negative.level ≡ level c.args.code
-levelled c =
-    elim c.if-negative.branch [
-      | then-negative w ↦ rw (le-leb 113 c.args.code w.if-negative.true) w.level-is
-      | else-negative w ↦ rw (lt-leb 113 c.args.code w.if-negative.false) w.level-is
-    ]
+-- the setting of a level, where the code of that level is read so
+read : (c : ℕ) (s r : ℤ) → LeastMultiple 2015631 10000000 (nat_abs s) (nat_abs r) → r ≡ with_sign s (nat_abs r)
+    → T (is_setting (with_sign s (least (nat_abs s))) (decode brightness c)) → accepted r ≡ decode brightness c
+read c s r l e t = ap accepted (e ∙ ap (with_sign s) (least_is (nat_abs s) (nat_abs r) l)) ∙ is_setting→ _ _ t
 
-pub least_tenths-tenths-requires : goal.least_tenths-tenths-requires
-least_tenths-tenths-requires c =
-    let j = (goal.at.least_tenths-tenths-requires c).Joined-negative in
-    rw (levelled j) (leb→le _ _ (at (λ k. leb (level k) 30) tt tt j.before))
+-- the level of a code with the sign bit
+abbrev level : ℕ → ℤ
+level k = back w32 (to_z w32 k -ℤ pos 128)
 
--- the magnitude that was found
-found : (c : After-least_tenths-tenths) → c.least_tenths-tenths.result ≡ least c.args.code
-found c = c.least_tenths-tenths.ensures.answer ∙ ap least_tenths (levelled c.before.before)
-
-pub overflow_sub-result : goal.overflow_sub-result
-overflow_sub-result c =
-    let k = (goal.at.overflow_sub-result c).After-least_tenths-tenths in
-    rw (found k) (fits→ w32 _ (at (λ k. sfitsb w32 (negated k)) tt tt k.before.before.before))
-
-pub returns-then-negative-2 : goal.returns-then-negative-2
+pub returns-then-code-ge-LOWEST_NEGATIVE : goal.returns-then-code-ge-LOWEST_NEGATIVE
 unfolding decode code_by nearest first_from
-returns-then-negative-2 c = record {
+returns-then-code-ge-LOWEST_NEGATIVE c = record {
   answer =
-      let k = (goal.at.returns-then-negative-2 c).After-least_tenths-tenths in
-      rw (found k)
-      (is_setting→ _ _
-      (imp→ _ _ (at (λ k. imp (negative k) (is_setting (back w32 (negated k)) (decode brightness k))) tt tt k.before.before.before) (le-leb 113 c.args.code c.if-negative-2.true)));
+      let t =
+      from_at (λ k. is_setting (with_sign (level k) (least (nat_abs (level k)))) (decode brightness k)) 113 15 tt c.args.code (omega arith) (omega arith) in
+      let found = c.least_times in
+      ap accepted (to_z-of_z w32 found.result (record { sfits = found.type_inv }))
+      ∙ read c.args.code (level c.args.code) found.result found.ensures.least found.ensures.sign t;
 }
 
-pub returns-else-negative-2 : goal.returns-else-negative-2
+pub returns-else-code-gt-HIGHEST_POSITIVE : goal.returns-else-code-gt-HIGHEST_POSITIVE
 unfolding decode code_by nearest first_from
-returns-else-negative-2 c = record {
+returns-else-code-gt-HIGHEST_POSITIVE c = record {
   answer =
-      let k = (goal.at.returns-else-negative-2 c).After-least_tenths-tenths in
-      rw (found k)
-      (is_setting→ _ _
-      (imp→not _ _
-      (at (λ k. imp (not (negative k)) (is_setting (to_z w32 (least k)) (decode brightness k))) tt tt k.before.before.before) (lt-leb 113 c.args.code c.if-negative-2.false)));
+      let t =
+      from_at (λ k. is_setting (with_sign (to_z w32 k) (least (nat_abs (to_z w32 k)))) (decode brightness k)) 0 31 tt c.args.code (omega arith) (omega arith) in
+      let found = c.least_times-else-code-gt-HIGHEST_POSITIVE in
+      ap accepted (to_z-of_z w32 found.result (record { sfits = found.type_inv }))
+      ∙ read c.args.code (to_z w32 c.args.code) found.result found.ensures.least found.ensures.sign t;
 }

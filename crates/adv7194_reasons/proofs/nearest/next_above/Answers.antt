@@ -1,0 +1,18 @@
+-- `nearest::next_above`: a register that is in the map is the next one; otherwise the next is among those past it.
+use Rattle.std.proofs.Common.{◌≡◌, sym, ◌∙◌, arith}
+use Rattle.bits.specs.Maps.{has}
+use Rattle.adv7194_reasons.proofs.TurnLaws.{up_here, up_next, up_none}
+use Rattle.adv7194_reasons.proofs.nearest.next_above.Goals as goal
+
+pub returns-then-has : goal.returns-then-has
+returns-then-has c = record {
+  answer = up_here (has c.args.map) c.loop-at.at (omega arith) (sym c.has.ensures.answer ∙ c.if-has.true) ∙ c.loop-at.invariant;
+}
+
+pub loop-at-preserved : goal.loop-at-preserved
+loop-at-preserved c = up_next (has c.args.map) c.loop-at.at (omega arith) (sym c.has.ensures.answer ∙ c.if-has.false) ∙ c.loop-at.invariant
+
+pub returns : goal.returns
+returns c =
+    let e : c.loop-at.at ≡ 54 = omega arith in
+    record { answer = sym e ∙ up_none (has c.args.map) c.loop-at.at (omega arith) ∙ c.loop-at.invariant }

@@ -1,0 +1,11 @@
+-- Every entry of the table is compared with what the field table computes.
+use Rattle.std.proofs.Common.{refl}
+use Rattle.adv7194_table.specs.Fields.{timing, output, picture, dnr}
+use Rattle.adv7194_table.specs.Table.{table}
+use Rattle.adv7194_table.specs.Masks.{mask_where, own_mask}
+use Rattle.adv7194_table.specs.Registers.{registers_below, field_registers}
+use Rattle.adv7194_table.proofs.registers.field_registers.Goals as goal
+
+pub returns : goal.returns
+unfolding field_registers registers_below own_mask mask_where table timing output picture dnr
+returns c = record { answer = refl }

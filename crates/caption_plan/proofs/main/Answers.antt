@@ -1,0 +1,6 @@
+-- The place answered is within the memory lent.
+use Rattle.text.proofs.Appending.{place-within}
+use Rattle.caption_plan.proofs.main.Goals as goal
+
+pub print_text-requires : goal.print_text-requires
+print_text-requires c = record { within = place-within _ _ c.caption_listing-end.ensures.answer c.caption_listing-end.ensures.memory }
