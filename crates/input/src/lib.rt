@@ -1,7 +1,7 @@
 // Reading an input whole into lent memory, and printing the text that answers it.
 #![tactic(auto)]
 
-ghost use Rattle.std.specs.Prelude.{◌≡◌, ◌<◌, ◌≤◌, length, take, IfOk};
+ghost use Rattle.std.specs.Prelude.{◌≡◌, ◌<◌, ◌≤◌, length, take, IfOk, None, Ok};
 ghost use Rattle.std.specs.Option.{ForSome};
 ghost use Rattle.std.specs.Io.{ReadsAtMost};
 ghost use Rattle.std.specs.Io.KnownBytes.{Consumes, IsAtEnd};
@@ -35,6 +35,7 @@ pub fn read_full<R: Read>(input: &mut R, out: &mut [u8]) -> io::Result<usize>
 // Prints the text that stands before a place of the lent memory; nothing where there is no place after it, which is where the memory was too short.
 pub fn print_text(rt: &impl Print, text: &[u8], end: Option<usize>) -> io::Result<()>
     requires within { ForSome end (λ n. n ≤ length text.now) }
+    ensures nothing { end ≡ None → result ≡ Ok tt }
 {
     match end {
         Some(end) => rt.write_all(&text[..end]),
