@@ -101,6 +101,7 @@ pub fn begin(plan: &[u8], order: Order) -> Cursor
 }
 
 // The step at a cursor: the next transaction, or none at the end of a well-formed plan; bytes that break the packing are refused.
+#[inline(always)]
 pub fn next(plan: &[u8], cursor: Cursor) -> Result<Option<Transaction>, Refusal>
     ensures answer { result ≡ next_of plan.now cursor }
 {
