@@ -14,6 +14,9 @@ pub fn read_house(numbers: &mut [i32]) -> Result<(), Fault>
     if numbers.len() != NUMBERS {
         return Err(Refusal::OutOfRange.at(NO_FIELD));
     }
-    numbers.copy_from_slice(&house());
+    // As an array it is copied at once, where `copy_from_slice` goes number by number.
+    if let Some(lent) = numbers.as_mut_array::<NUMBERS>() {
+        *lent = house();
+    }
     Ok(())
 }

@@ -36,6 +36,9 @@ pub fn read(image: &[u8], known: u64, numbers: &mut [i32]) -> Result<(), Fault>
     let first = read_first(image, &mut held);
     let last = read_last(first, image, &mut held);
     with_unknown(last, lowest_field(!known))?;
-    numbers.copy_from_slice(&held);
+    // As arrays they are copied at once, where `copy_from_slice` goes number by number.
+    if let Some(lent) = numbers.as_mut_array::<NUMBERS>() {
+        *lent = held;
+    }
     Ok(())
 }

@@ -46,8 +46,8 @@ returns-in_err-with_unknown c =
     let a = answered b zs (passed ∙ due) left in
     record { answer = a.0; memory = a.1.0; exactly = a.1.1 }
 
-pub returns : goal.returns
-returns c =
+pub returns-in-Some : goal.returns-in-Some
+returns-in-Some c =
     let image = c.args.image.now in
     let b = board_of image c.args.known in
     let zs = c.args.numbers.now in
@@ -57,5 +57,5 @@ returns c =
     let known = ap₂ with_unknown (c.lowest_field.ensures.answer ∙ lowest_unknown b c.ranges.known.fits) judged in
     let due = c.with_unknown.ensures.answer ∙ known ∙ judged_read b (length zs) c.if-image.false c.if-numbers-ne-NUMBERS.false in
     let passed : good tt ≡ verdict_as c.with_unknown.result = search rules in
-    let a = answered b zs (passed ∙ due) (c.copy_from_slice.ensures.after ∙ c.read_last-last.ensures.memory) in
+    let a = answered b zs (passed ∙ due) c.read_last-last.ensures.memory in
     record { answer = a.0; memory = a.1.0; exactly = a.1.1 }
