@@ -1,5 +1,5 @@
 // Field 16, brightness: -75 to 150 tenths of an IRE, coded as the nearest whole number of seven bits, two's complement.
-ghost use Rattle.std.specs.Prelude.{◌≡◌, ◌-◌, ◌≤◌};
+ghost use Rattle.std.specs.Prelude.{◌≡◌, ◌-◌, ◌≤◌, cond, nat_le, pos, ◌-ℤ◌};
 ghost use Rattle.refusals.specs.Refusal.{judged_as};
 ghost use Rattle.field_table.specs.Coding.{encode, decode};
 ghost use Rattle.adv7194_table.specs.Fields.{brightness};
@@ -45,17 +45,27 @@ pub fn brightness_code(tenths: i32) -> Result<u8, Refusal>
     Ok(level as u8)
 }
 
+// The level that a code stands for: seven bits, two's complement.
+fn level(code: u8) -> i32
+    requires { code ≤ 127 }
+    ensures answer { result ≡ cond (nat_le 113 code) (pos code -ℤ pos 128) (pos code) }
+{
+    if LOWEST_NEGATIVE <= code {
+        code as i32 - CODES as i32
+    } else {
+        code as i32
+    }
+}
+
 // The brightness of a code.
 pub fn brightness_setting(code: u8) -> Result<i32, Refusal>
     ensures answer { judged_as result ≡ decode brightness code }
 {
     if HIGHEST_CODE < code {
         Err(Refusal::OutOfRange)
-    } else if LOWEST_NEGATIVE <= code {
-        Ok(least_times(NUMERATOR, DENOMINATOR, code as i32 - CODES as i32))
-    } else if HIGHEST_POSITIVE < code {
+    } else if HIGHEST_POSITIVE < code && code < LOWEST_NEGATIVE {
         Err(Refusal::OutOfRange)
     } else {
-        Ok(least_times(NUMERATOR, DENOMINATOR, code as i32))
+        Ok(least_times(NUMERATOR, DENOMINATOR, level(code)))
     }
 }

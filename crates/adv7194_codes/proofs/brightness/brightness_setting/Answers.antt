@@ -1,17 +1,17 @@
 -- `brightness::brightness_setting` meets its contract: one test for each answer, computed at its codes. Assumes nothing.
-use mathlib.Core.Path.{◌≡◌, refl, ap, ◌∙◌, subst}
-use mathlib.Core.Bool.{Bool, false, not, ◌||◌, ◌&&◌}
+use mathlib.Core.Path.{◌≡◌, refl, sym, ap, ◌∙◌, subst}
+use mathlib.Core.Bool.{Bool, false, not, cond, ◌||◌, ◌&&◌}
+use mathlib.Core.Logic.{⊎_elim}
 use Prim.Native.Nat.{ℕ, ◌+◌, ◌-◌, ◌*◌, ◌/◌}
 use native.Mathlib.Omega.{arith}
 use lib.Dec.{T, leb, T_not}
 use lib.IntN.{ℤ, pos, ◌-ℤ◌, nat_abs}
 use mir.Syntax.{w32}
-use mir.Val.{to_z}
 use mir.ValLaws.{to_z-of_z}
 use Rattle.refusals.specs.Refusal.{accepted, refused}
 use Rattle.rounding.specs.First.{first_from}
 use Rattle.rounding.specs.Nearest.{nearest, LeastMultiple}
-use Rattle.rounding.proofs.Range.{from_at, back}
+use Rattle.rounding.proofs.Range.{from_at}
 use Rattle.rounding.proofs.Rounding.{nearest-is, nearest-only}
 use Rattle.field_table.specs.Coding.{outside, code_of, code_by, decode}
 use Rattle.field_table.proofs.Judging.{in_range, is_setting, is_setting→}
@@ -38,8 +38,8 @@ returns-then-code-gt-HIGHEST_CODE c = record {
   answer = unused c.args.code (from_at (λ k. not (used k)) 128 128 tt c.args.code (omega arith) (omega arith));
 }
 
-pub returns-then-code-gt-HIGHEST_POSITIVE : goal.returns-then-code-gt-HIGHEST_POSITIVE
-returns-then-code-gt-HIGHEST_POSITIVE c = record {
+pub returns-then-code-lt-LOWEST_NEGATIVE : goal.returns-then-code-lt-LOWEST_NEGATIVE
+returns-then-code-lt-LOWEST_NEGATIVE c = record {
   answer = unused c.args.code (from_at (λ k. not (used k)) 31 82 tt c.args.code (omega arith) (omega arith));
 }
 
@@ -57,28 +57,25 @@ read : (c : ℕ) (s r : ℤ) → LeastMultiple 2015631 10000000 (nat_abs s) (nat
     → T (is_setting (with_sign s (least (nat_abs s))) (decode brightness c)) → accepted r ≡ decode brightness c
 read c s r l e t = ap accepted (e ∙ ap (with_sign s) (least_is (nat_abs s) (nat_abs r) l)) ∙ is_setting→ _ _ t
 
--- the level of a code with the sign bit
+-- the level that a code stands for
 abbrev level : ℕ → ℤ
-level k = back w32 (to_z w32 k -ℤ pos 128)
+level k = cond (leb 113 k) (pos k -ℤ pos 128) (pos k)
 
-pub returns-then-code-ge-LOWEST_NEGATIVE : goal.returns-then-code-ge-LOWEST_NEGATIVE
-unfolding decode code_by nearest first_from
-returns-then-code-ge-LOWEST_NEGATIVE c = record {
-  answer =
-      let t =
-      from_at (λ k. is_setting (with_sign (level k) (least (nat_abs (level k)))) (decode brightness k)) 113 15 tt c.args.code (omega arith) (omega arith) in
-      let found = c.least_times in
-      ap accepted (to_z-of_z w32 found.result (record { sfits = found.type_inv }))
-      ∙ read c.args.code (level c.args.code) found.result found.ensures.least found.ensures.sign t;
-}
+-- that level's setting is what the code is read as
+abbrev good : ℕ → Bool
+good k = is_setting (with_sign (level k) (least (nat_abs (level k)))) (decode brightness k)
 
 pub returns-else-code-gt-HIGHEST_POSITIVE : goal.returns-else-code-gt-HIGHEST_POSITIVE
 unfolding decode code_by nearest first_from
 returns-else-code-gt-HIGHEST_POSITIVE c = record {
   answer =
-      let t =
-      from_at (λ k. is_setting (with_sign (to_z w32 k) (least (nat_abs (to_z w32 k)))) (decode brightness k)) 0 31 tt c.args.code (omega arith) (omega arith) in
-      let found = c.least_times-else-code-gt-HIGHEST_POSITIVE in
+      let k = c.args.code in
+      let found = c.least_times in
+      let t : T (good k) =
+      ⊎_elim (λ h. from_at good 113 15 tt k (omega (arith, h.1)) (omega arith)) (λ h. from_at good 0 31 tt k (omega arith) (omega (arith, h)))
+      c.else-code-gt-HIGHEST_POSITIVE.either in
+      let is = to_z-of_z w32 c.level.result (record { sfits = c.level.type_inv }) ∙ c.level.ensures.answer in
       ap accepted (to_z-of_z w32 found.result (record { sfits = found.type_inv }))
-      ∙ read c.args.code (to_z w32 c.args.code) found.result found.ensures.least found.ensures.sign t;
+      ∙ read k _ found.result found.ensures.least found.ensures.sign
+      (subst (λ (s : ℤ). T (is_setting (with_sign s (least (nat_abs s))) (decode brightness k))) (sym is) t);
 }
