@@ -1,5 +1,31 @@
-// Words, numbers and bytes on standard output.
-use std::io;
+// Words, numbers and bytes on standard output. A list is printed at once, since each print is a write of its own.
+use std::{fmt, io};
+
+// Bytes, each after a space in two hexadecimal digits.
+#[derive(Clone, Copy)]
+struct HexBytes<'a>(&'a [u8]);
+
+impl fmt::Display for HexBytes<'_> {
+    fn fmt<W: fmt::Write>(&self, f: &mut fmt::Formatter<W>) -> fmt::Result {
+        for b in self.0 {
+            write!(f, " {b:02X}")?;
+        }
+        Ok(())
+    }
+}
+
+// Signed numbers, each after a space in decimal.
+#[derive(Clone, Copy)]
+struct Decimals<'a>(&'a [i32]);
+
+impl fmt::Display for Decimals<'_> {
+    fn fmt<W: fmt::Write>(&self, f: &mut fmt::Formatter<W>) -> fmt::Result {
+        for n in self.0 {
+            write!(f, " {n}")?;
+        }
+        Ok(())
+    }
+}
 
 // Text as it stands.
 pub(crate) fn text(rt: &impl Print, words: &[u8]) -> io::Result<()> {
@@ -23,16 +49,12 @@ pub(crate) fn byte(rt: &impl Print, b: u8) -> io::Result<()> {
 
 // A space, a byte in two hexadecimal digits, and a mark.
 pub(crate) fn marked(rt: &impl Print, b: u8, mark: u8) -> io::Result<()> {
-    byte(rt, b)?;
-    text(rt, &[mark])
+    print!(rt; " {b:02X}{}", mark as char)
 }
 
 // Bytes, each after a space.
 pub(crate) fn bytes(rt: &impl Print, list: &[u8]) -> io::Result<()> {
-    for b in list {
-        byte(rt, *b)?;
-    }
-    Ok(())
+    print!(rt; "{}", HexBytes(list))
 }
 
 // A map of known registers, where flags were given: its bytes, the highest first.
@@ -46,10 +68,7 @@ pub(crate) fn known(rt: &impl Print, given: bool, map: u64) -> io::Result<()> {
 
 // Signed numbers, each after a space.
 pub(crate) fn numbers(rt: &impl Print, list: &[i32]) -> io::Result<()> {
-    for n in list {
-        number(rt, *n)?;
-    }
-    Ok(())
+    print!(rt; "{}", Decimals(list))
 }
 
 // What an answer begins with: ok, or the refusal and its field.
