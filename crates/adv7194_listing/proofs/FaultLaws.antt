@@ -91,3 +91,24 @@ row-bits f (r ∷ rs) e =
 -- those of a field's row do
 pub field-bits : (f : ℕ) {r : Row} → r ≡ field_row f → r.bit + r.width ≤ 8
 field-bits f e = rw e (row-bits f (rows_in (single_fields table)) table-bits)
+
+-- ---- the line of a refusal
+
+-- its number has at most two digits
+pub number_small : (r : Refusal) → number_of r < 1000
+number_small ImageLength = omega arith
+number_small BusAddress = omega arith
+number_small OutOfRange = omega arith
+number_small Reserved = omega arith
+number_small SquarePixelWithOversampling = omega arith
+number_small PedestalWithPal = omega arith
+number_small SignallingConflict = omega arith
+number_small Disagreement = omega arith
+number_small PlanBytes = omega arith
+number_small PlanRoom = omega arith
+number_small RegisterUnknown = omega arith
+
+-- and so the line is short
+pub refused-most : (n f : ℕ) → n < 1000 → f < 1000 → length (refused_line n f) ≤ 16
+unfolding counts_line
+refused-most n f h k = simp length-append (omega (arith, decimal-most 2 n h, decimal-most 2 f k))

@@ -1,8 +1,14 @@
 -- Numbers stored one after the other, from an index on. Assumes nothing.
-use Rattle.std.proofs.Common.{◌≡◌, ℕ, ◌+◌, ◌<◌, ◌≤◌, length, List, pos, ℤ, get_or, drop, suc, sym, ap, ap₂, ◌∙◌, add-one, arith}
+use Rattle.std.proofs.Common.{◌≡◌, refl, ℕ, ◌+◌, ◌<◌, ◌≤◌, length, List, [], ◌∷◌, pos, ℤ, get_or, drop, suc, sym, ap, ap₂, ◌∙◌, add-one, arith}
 use Rattle.std.proofs.Math.Seq.{drop-cons, drop-length}
-use Rattle.std.proofs.Math.ListN.{set}
+use Rattle.std.proofs.Math.ListN.{set, length-set}
 use Rattle.field_table.specs.Blocks.{store_from}
+
+-- how many numbers there are stays
+pub stored-length : (zs : List ℤ) (k : ℕ) (vs : List ℤ) → length (store_from zs k vs) ≡ length zs
+unfolding store_from
+stored-length zs k [] = refl
+stored-length zs k (v ∷ vs) = stored-length (set zs k v) (suc k) vs ∙ length-set zs k v
 
 module _ (k : ℕ) (vs : List ℤ) (i : ℕ) (zs : List ℤ) where
   -- the next of those that are left

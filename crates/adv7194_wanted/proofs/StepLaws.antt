@@ -2,10 +2,11 @@
 use mathlib.Core.Path.{◌≡◌, refl, sym, ap, ◌∙◌}
 use mathlib.Core.List.{List, [], ◌∷◌, ◌++◌}
 use Prim.Native.Nat.{ℕ}
+use lib.ListN.{length}
 use Rattle.refusals.specs.Verdict.{good, after}
 use Rattle.refusals.proofs.VerdictLaws.{after-good, after_assoc}
 use Rattle.field_table.specs.Writes.{Write, put, puts}
-use Rattle.field_table.proofs.WriteLaws.{then_puts}
+use Rattle.field_table.proofs.WriteLaws.{then_puts, puts-length}
 use Rattle.adv7194_wanted.proofs.RowLaws.{Found}
 
 -- from a verdict and an image to others, by a fault and some writes
@@ -42,3 +43,7 @@ module _ {v : Found} {image : List ℕ} where
         verdict = q.verdict ∙ ap (λ (u : Found). after u g) p.verdict ∙ after_assoc v f g;
         registers = then_puts mid image ws us q.registers p.registers;
       }
+
+  -- as many registers as before
+  pub same_size : {f w : Found} {out : List ℕ} {ws : List Write} → Step v image f ws w out → length out ≡ length image
+  same_size {f} {w} {out} {ws} p = ap length p.registers ∙ puts-length image ws

@@ -33,18 +33,23 @@ sets-append l i (x ∷ xs) ys =
     let on : suc i + length xs ≡ i + suc (length xs) = omega arith in
     sets-append (set l i x) (suc i) xs ys ∙ ap (λ (k : ℕ). sets (sets (set l i x) (suc i) xs) k ys) on
 
+-- a part more, of any length
+pub more : (l : List ℕ) (at held before : ℕ) (xs ys : List ℕ)
+    → sets (sets l at (shifted held before xs)) (at + length xs) (shifted held (last_from before xs) ys) ≡ sets l at (shifted held before (xs ++ ys))
+more l at held before xs ys =
+    sym (ap (sets l at) (shifted-append held before xs ys) ∙ sets-append l at (shifted held before xs) (shifted held (last_from before xs) ys)
+    ∙ ap (λ (n : ℕ). sets (sets l at (shifted held before xs)) (at + n) (shifted held (last_from before xs) ys)) (shifted-length held before xs))
+
 -- a byte more, shifted after those before it
-pub more : (l : List ℕ) (at held before i : ℕ) (bs : List ℕ) → i < length bs
+pub one_more : (l : List ℕ) (at held before i : ℕ) (bs : List ℕ) → i < length bs
     → set (sets l at (shifted held before (take i bs))) (at + i) (between held (last_from before (take i bs)) (get_or bs i 0))
     ≡ sets l at (shifted held before (take (i + 1) bs))
 unfolding shifted
-more l at held before i bs h =
+one_more l at held before i bs h =
     let xs = take i bs in
     let x = get_or bs i 0 in
-    let n : i ≡ length (shifted held before xs) = sym (shifted-length held before xs ∙ length-take-le i bs (omega arith)) in
-    ap (λ (k : ℕ). set (sets l at (shifted held before xs)) (at + k) (between held (last_from before xs) x)) n
-    ∙ sym (ap (sets l at) (shifted-append held before xs (x ∷ [])) ∙ sets-append l at (shifted held before xs) (between held (last_from before xs) x ∷ []))
-    ∙ ap (λ (ys : List ℕ). sets l at (shifted held before ys)) (sym (take_more bs i 0 h))
+    ap (λ (k : ℕ). set (sets l at (shifted held before xs)) (at + k) (between held (last_from before xs) x)) (sym (length-take-le i bs (omega arith)))
+    ∙ more l at held before xs (x ∷ []) ∙ ap (λ (ys : List ℕ). sets l at (shifted held before ys)) (sym (take_more bs i 0 h))
 
 -- which is the last of them
 pub last_more : (before i : ℕ) (bs : List ℕ) → i < length bs → get_or bs i 0 ≡ last_from before (take (i + 1) bs)

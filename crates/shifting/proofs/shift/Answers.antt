@@ -1,7 +1,7 @@
 -- With each turn one byte more is shifted.
 use Rattle.std.proofs.Common.{refl}
 use Rattle.shifting.specs.Shifted.{shifted}
-use Rattle.shifting.proofs.ShiftedLaws.{more, last_more}
+use Rattle.shifting.proofs.ShiftedLaws.{one_more, last_more}
 use Rattle.shifting.proofs.shift.Goals as goal
 
 pub loop-i-init : goal.loop-i-init
@@ -13,6 +13,6 @@ loop-i-preserved c =
     let l = c.loop-i in
     let a = c.args in
     record {
-      wrote = rw (c.between.ensures.answer, l.invariant.wrote, l.invariant.last_is) (more a.to.now a.at a.held a.before l.i a.from.now c.loop-i-test.true);
+      wrote = rw (c.between.ensures.answer, l.invariant.wrote, l.invariant.last_is) (one_more a.to.now a.at a.held a.before l.i a.from.now c.loop-i-test.true);
       last_is = last_more a.before l.i a.from.now c.loop-i-test.true;
     }

@@ -11,7 +11,7 @@ unfolding step
 returns-in-AwaitAddress-clause-answer c =
     let a = c.args in
     let n = length a.registers.now in
-    rw c.in-AwaitAddress.is (c.addressed.ensures.answer a.dropped n ∙ sym (address_kept (kind_of a.own a.dropped n) a.state.pointer a.registers.now a.byte))
+    rw c.in-AwaitAddress.is (c.addressed.ensures.answer a.dropped n ∙ sym (address_kept (kind_of a.own a.dropped n) a.state.pointer a.registers.now a.byte).0)
 
 pub returns-then-pointer-registers-clause-memory : goal.returns-then-pointer-registers-clause-memory
 unfolding step from_master
